@@ -1,0 +1,27 @@
+-- Loops over the indices 0 to n - 1, in order, for every n: folds, sums and tests. Assumes nothing.
+use Prim.Native.Nat.{ℕ, zero, suc}
+use mathlib.Core.Bool.{Bool, true, false, _&&_, _||_}
+use lib.Ieee.{Float}
+use Rattle.floats.specs.Arithmetic.{_⊕_, 0f}
+
+-- step (n - 1) (.. (step 1 (step 0 s)))
+unfoldable pub foldTo : {S : Type 0} → (ℕ → S → S) → S → ℕ → S
+foldTo step s zero = s
+foldTo step s (suc n) = step n (foldTo step s n)
+
+-- a + f 0 + f 1 + .. + f (n - 1), in that order
+abbrev pub sumFrom : Float → (ℕ → Float) → ℕ → Float
+sumFrom a f n = foldTo (λ k (s : Float). s ⊕ f k) a n
+
+-- the sum from +0
+abbrev pub sumTo : (ℕ → Float) → ℕ → Float
+sumTo f n = sumFrom 0f f n
+
+-- a test of every index below n, and of some index below n
+unfoldable pub allTo : (ℕ → Bool) → ℕ → Bool
+allTo p zero = true
+allTo p (suc n) = allTo p n && p n
+
+unfoldable pub anyTo : (ℕ → Bool) → ℕ → Bool
+anyTo p zero = false
+anyTo p (suc n) = anyTo p n || p n

@@ -1,0 +1,2 @@
+-- The definitions that the contracts of numerics cite. Assumes nothing.
+pub mod Numerics

@@ -1,0 +1,169 @@
+// ln, exp and powf, each equal to its definition in specs/Numerics.antt.
+ghost use mathlib.Core.Path.{_≡_};
+ghost use mathlib.Core.Bool.{false};
+ghost use Prim.Native.Nat.{_<_, _≤_, _*_, _^_};
+ghost use lib.Dec.{T};
+ghost use lib.Ieee.Positive.{positive};
+ghost use lib.Signed.{mag};
+ghost use lib.Ieee.{odd};
+ghost use Rattle.numerics.specs.Numerics.{lnOf, lnFrom, lnSplit, mantissa, exponent, expOf, expFrom, expShift, powfOf, pow2};
+
+// 2 ^ a, made of its exponent's field.
+fn power(a: i64) -> f64
+    requires { ⌜ mag a < 1022 ⌝ }
+    ensures { λ r. ⌜ r ≡ pow2 a ⌝ }
+{
+    f64::from_bits(((a + 1023) as u64) * 4503599627370496)
+}
+
+// C * v plus 0.5, or minus, if v < 0.
+fn exp_shift(v: f64) -> f64
+    ensures { λ r. ⌜ r ≡ expShift v ⌝ }
+{
+    if v < 0.0 {
+        1.4426950408889634 * v - 0.5
+    } else {
+        1.4426950408889634 * v + 0.5
+    }
+}
+
+fn exp_from(v: f64, k: i64) -> f64
+    requires { ⌜ mag k < 2000 ⌝ }
+    ensures { λ r. ⌜ r ≡ expFrom v k ⌝ }
+{
+    let f = k as f64;
+    let hi = v - f * 0.6931471803691238;
+    let lo = f * 1.9082149292705877e-10;
+    let r = hi - lo;
+    let t = r * r;
+    let c = r
+        - t
+            * (0.16666666666666602
+                + t
+                    * (-0.0027777777777015593
+                        + t
+                            * (6.613756321437934e-05
+                                + t * (-1.6533902205465252e-06 + t * 4.1381367970572385e-08))));
+    let y = 1.0 + (r * c / (2.0 - c) - lo + hi);
+    let a = k / 2;
+    y * power(a) * power(k - a)
+}
+
+pub fn exp(v: f64) -> f64
+    ensures { λ r. ⌜ r ≡ expOf v ⌝ }
+{
+    if v != v {
+        return v;
+    }
+    if v > 709.782712893384 {
+        return f64::from_bits(0x7ff0000000000000);
+    }
+    if v < -745.1332191019411 {
+        return 0.0;
+    }
+    exp_from(v, std::num::truncating_f64_to_i64(exp_shift(v)))
+}
+
+// q digits, shifted up by j so that the leading one stands at 2^52.
+struct Shifted {
+    q: u64,
+    j: u64,
+}
+
+fn normal(digits: u64) -> Shifted
+    requires { ⌜ (0 < digits) × (digits < 2 ^ 53) ⌝ }
+    ensures { λ r. ⌜ (r .q ≡ digits * 2 ^ r .j) × (2 ^ 52 ≤ r .q) × (r .q < 2 ^ 53) ⌝ }
+{
+    let mut q = digits;
+    let mut j: u64 = 0;
+    while q < 4503599627370496 {
+        q = q * 2;
+        j += 1;
+    }
+    Shifted { q, j }
+}
+
+fn ln_from(k: f64, m: f64) -> f64
+    ensures { λ r. ⌜ r ≡ lnFrom k m ⌝ }
+{
+    let f = m - 1.0;
+    let s = f / (2.0 + f);
+    let z = s * s;
+    let h = 0.5 * f * f;
+    let l = z
+        * (0.6666666666666735
+            + z
+                * (0.3999999999940942
+                    + z
+                        * (0.2857142874366239
+                            + z
+                                * (0.22222198432149784
+                                    + z
+                                        * (0.1818357216161805
+                                            + z
+                                                * (0.15313837699209373
+                                                    + z * 0.14798198605116586))))));
+    k * 0.6931471803691238 - ((h - (s * (h + l) + k * 1.9082149292705877e-10)) - f)
+}
+
+fn ln_split(k: i64, m: f64) -> f64
+    requires { ⌜ mag k < 1999 ⌝ }
+    ensures { λ r. ⌜ r ≡ lnSplit k m ⌝ }
+{
+    if m > 1.4142135623730951 {
+        ln_from((k + 1) as f64, m * 0.5)
+    } else {
+        ln_from(k as f64, m)
+    }
+}
+
+// v has the digits `digits`, of which the last stands for 2^(field - 1075).
+fn ln_digits(field: u64, digits: u64, v: f64) -> f64
+    requires { ⌜ (field < 2046) × (0 < digits) × (digits < 2 ^ 53) × (v ≡ odd 53 false digits field 1074) ⌝ }
+    ensures { λ r. ⌜ r ≡ lnSplit (exponent v) (mantissa v) ⌝ }
+{
+    let n = normal(digits);
+    ln_split(
+        (field as i64) - ((n.j + 1022) as i64),
+        f64::from_bits(n.q + 4602678819172646912),
+    )
+}
+
+fn ln_positive(v: f64) -> f64
+    requires { ⌜ T (positive v) ⌝ }
+    ensures { λ r. ⌜ r ≡ lnSplit (exponent v) (mantissa v) ⌝ }
+{
+    let bits = f64::to_bits(v);
+    let field = bits / 4503599627370496;
+    let digits = bits % 4503599627370496;
+    if field == 0 {
+        ln_digits(0, digits, v)
+    } else {
+        ln_digits(field - 1, digits + 4503599627370496, v)
+    }
+}
+
+pub fn ln(v: f64) -> f64
+    ensures { λ r. ⌜ r ≡ lnOf v ⌝ }
+{
+    if v != v {
+        return v;
+    }
+    if v < 0.0 {
+        return 0.0 / 0.0;
+    }
+    if v == 0.0 {
+        return f64::from_bits(0xfff0000000000000);
+    }
+    if v == f64::from_bits(0x7ff0000000000000) {
+        return v;
+    }
+    ln_positive(v)
+}
+
+// b to the power e, for b > 0.
+pub fn powf(b: f64, e: f64) -> f64
+    ensures { λ r. ⌜ r ≡ powfOf b e ⌝ }
+{
+    exp(e * ln(b))
+}

@@ -1,0 +1,29 @@
+-- Mole fractions: the tests of `with_fractions` (15, 16, 18) and `normalize`. Assumes nothing.
+use Prim.Native.Nat.{ℕ}
+use mathlib.Core.Bool.{Bool, not}
+use mathlib.Core.List.{List}
+use lib.Ieee.{Float, lt}
+use Rattle.floats.specs.Arithmetic.{_⊖_, _⊘_, #, 0f, 1f}
+use Rattle.floats.specs.Small.{isFinite, absOf}
+use Rattle.floats.specs.Fold.{sumTo, allTo}
+use Rattle.floats.specs.Vector.{vec}
+use Rattle.floats.specs.Outcome.{Out, need}
+
+-- COMPOSITION_SUM_TOLERANCE, 1e-10
+abbrev pub tolerance : Float
+tolerance = # 0x3ddb7cdfd9d7bdbb
+
+-- the sum is 1 within the tolerance
+unfoldable pub sumsToOne : (ℕ → Float) → ℕ → Bool
+sumsToOne x n = not (lt tolerance (absOf (sumTo x n ⊖ 1f)))
+
+-- the first n entries are finite (15), not negative (16), and sum to 1 (18): then go on
+unfoldable pub withFractions : {A : Type 0} → (ℕ → Float) → ℕ → Out A → Out A
+withFractions x n next =
+    need (allTo (λ i. isFinite (x i)) n) 15
+    (need (allTo (λ i. not (lt (x i) 0f)) n) 16
+    (need (sumsToOne x n) 18 next))
+
+-- each of the first n entries over their sum, +0 past them
+unfoldable pub normalizeOf : (ℕ → Float) → ℕ → List Float
+normalizeOf x n = vec (λ i. x i ⊘ sumTo x n) n
