@@ -147,7 +147,7 @@ fn check_fractions(x: &[f64; 8], n: usize) -> Verdict
 
 // The first n mole fractions are finite (15), not negative (16) and sum to 1 within 1e-10 (18).
 pub fn with_fractions(x: &[f64; 8], n: usize) -> Verdict
-    ensures { λ r. ⌜ r ≡ verdictOf (withFractions (at (now (x .entry))) (places n) (ok n)) ⌝ }
+    ensures { λ r. ⌜ r ≡ verdictOf (withFractions (at (now (x .entry))) (places n) (ok (places n))) ⌝ }
 {
     check_fractions(x, floats::places(n))
 }

@@ -1,0 +1,28 @@
+-- Slices of floats as C lends them, read and written as arrays of eight; outcomes as numbers. Assumes nothing.
+use Prim.Native.Nat.{ℕ}
+use mathlib.Core.Bool.{cond}
+use mathlib.Core.List.{List}
+use lib.Dec.{leb}
+use lib.ListN.{length}
+use lib.Ieee.{Float}
+use Rattle.floats.specs.Vector.{at, vec, fill}
+use Rattle.floats.specs.Outcome.{Out, ok, no}
+use Rattle.thermo_types.specs.declared.Verdict.{Verdict}
+use Rattle.thermo_types.specs.declared.Verdict.the-variants.{Passed, Refused}
+
+-- the first eight entries, NaN past the end
+unfoldable pub eightOf : List Float → List Float
+eightOf l = vec (at l) 8
+
+-- f 0 to f (count - 1) in the first places of a slice that has them; a shorter one stays as it is
+unfoldable pub stored : (ℕ → Float) → ℕ → List Float → List Float
+stored f count old = cond (leb count (length old)) (fill f count old) old
+
+-- 0 for an answer, else the number of the refusal
+unfoldable pub numberOf : {A : Type 0} → Out A → ℕ
+numberOf (ok a) = 0
+numberOf (no r) = r
+
+unfoldable pub verdictNumber : Verdict → ℕ
+verdictNumber Passed = 0
+verdictNumber (Refused r) = r

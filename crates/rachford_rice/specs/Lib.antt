@@ -1,0 +1,2 @@
+-- What the contracts of rachford_rice cite. Assumes nothing.
+pub mod Rachford

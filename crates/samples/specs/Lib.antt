@@ -1,0 +1,2 @@
+-- Document 01's sample sheets. Assumes nothing.
+pub mod Samples

@@ -1,0 +1,2 @@
+-- Laws that callers of thermo_types cite. Assumes nothing.
+pub mod Passing

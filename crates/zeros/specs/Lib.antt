@@ -1,0 +1,2 @@
+-- What equality up to the sign of zero means. Assumes nothing.
+pub mod Same

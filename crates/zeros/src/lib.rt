@@ -1,0 +1,1 @@
+// Floats up to the sign of zero: definitions in specs/, laws in proofs/. No code.

@@ -1,0 +1,216 @@
+//! Times of the core and of the reference on the same inputs in one run: nanoseconds a call, median of five.
+//!
+//! bench numbers|book|excess|rice|sheet|all
+
+use std::hint::black_box;
+use std::process::ExitCode;
+
+use reference::generate::{books, feeds, questions, Rng};
+use reference::helpers;
+use reference::named::rachford_rice::rachford_rice_negative;
+use reference::rattle;
+use reference::sheet::{answer_with, open_book, ANSWER_BYTES};
+use reference::stage::padded;
+
+const INPUTS: usize = 64;
+const SOLVENTS: [usize; 3] = [2, 4, 8];
+/// Shortest run that counts, ns.
+const RUN: f64 = 2e7;
+
+fn main() -> ExitCode {
+    let stage = std::env::args().nth(1).unwrap_or_default();
+    let stages: [(&str, fn()); 5] = [
+        ("numbers", bench_numbers),
+        ("book", bench_book),
+        ("excess", bench_excess),
+        ("rice", bench_rice),
+        ("sheet", bench_sheet),
+    ];
+    let chosen: Vec<_> = stages.iter().filter(|(name, _)| *name == stage || stage == "all").collect();
+    chosen.iter().for_each(|(_, bench)| bench());
+    if chosen.is_empty() {
+        eprintln!("usage: bench numbers|book|excess|rice|sheet|all");
+        return ExitCode::from(2);
+    }
+    ExitCode::SUCCESS
+}
+
+/// A pass calls once for each input.
+type Pass<'a> = &'a mut dyn FnMut();
+
+fn run(pass: &mut dyn FnMut(), turns: usize) -> f64 {
+    let start = thread_time();
+    (0..turns).for_each(|_| pass());
+    thread_time() - start
+}
+
+/// Processor time of this thread, ns: other work on the machine does not count.
+fn thread_time() -> f64 {
+    #[repr(C)]
+    struct Timespec {
+        seconds: i64,
+        nanoseconds: i64,
+    }
+    extern "C" {
+        fn clock_gettime(clock: i32, time: *mut Timespec) -> i32;
+    }
+    const THREAD: i32 = 3;
+    let mut time = Timespec { seconds: 0, nanoseconds: 0 };
+    // SAFETY: the C library writes one timespec (64-bit Linux).
+    let failed = unsafe { clock_gettime(THREAD, &mut time) };
+    assert_eq!(failed, 0, "this system has no thread clock");
+    time.seconds as f64 * 1e9 + time.nanoseconds as f64
+}
+
+/// Turns that take long enough to be timed.
+fn turns(pass: &mut dyn FnMut()) -> usize {
+    let mut turns = 1;
+    while turns < 1 << 24 && run(pass, turns) < RUN {
+        turns *= 2;
+    }
+    turns
+}
+
+/// Nanoseconds a pass: medians of five runs of each, by turns, so that a busy moment meets all.
+fn medians<const N: usize>(mut passes: [Pass; N]) -> [f64; N] {
+    let counts = passes.each_mut().map(|pass| turns(*pass));
+    let mut rounds = [[0.0; N]; 5];
+    for round in &mut rounds {
+        for ((time, pass), count) in round.iter_mut().zip(&mut passes).zip(counts) {
+            *time = run(*pass, count) / count as f64;
+        }
+    }
+    std::array::from_fn(|at| {
+        let mut runs = rounds.map(|round| round[at]);
+        runs.sort_by(f64::total_cmp);
+        runs[2]
+    })
+}
+
+/// One line: core, reference, ratio. `core` says `None` where its stage is not built in.
+fn line<T>(name: &str, inputs: &[T], mut core: impl FnMut(&T) -> Option<()>, mut reference: impl FnMut(&T)) {
+    let calls = inputs.len() as f64;
+    let built_in = core(&inputs[0]).is_some();
+    let mut baseline = || inputs.iter().for_each(&mut reference);
+    if !built_in {
+        let [time] = medians([&mut baseline]);
+        println!("{name}: core not built in, reference {:.1} ns", time / calls);
+        return;
+    }
+    let mut pass = || inputs.iter().for_each(|input| drop_value(core(input)));
+    let [time, own] = medians([&mut pass, &mut baseline]);
+    println!("{name}: core {:.1} ns, reference {:.1} ns, ratio {:.2}", time / calls, own / calls, time / own);
+}
+
+fn many<T>(mut make: impl FnMut(&mut Rng) -> T) -> Vec<T> {
+    let mut rng = Rng::new(7);
+    (0..INPUTS).map(|_| make(&mut rng)).collect()
+}
+
+fn bench_numbers() {
+    // Results are added up: keeping each one in memory would cost more than exp.
+    let (mut core, mut own) = (0.0, 0.0);
+    let small = many(|rng| rng.range(-30.0, 30.0));
+    line("exp", &small, |v| rattle::exp(*v).map(|r| core += r), |v| own += helpers::exp(*v));
+    let positive = many(|rng| rng.decade(-6.0, 6.0));
+    line("ln", &positive, |v| rattle::ln(*v).map(|r| core += r), |v| own += helpers::ln(*v));
+    let pairs = many(|rng| (rng.unit(), rng.range(-2.0, 12.0)));
+    line("powf", &pairs, |(b, e)| rattle::powf(*b, *e).map(|r| core += r), |(b, e)| own += helpers::powf(*b, *e));
+    drop_value((core, own));
+}
+
+fn drop_value<T>(value: T) {
+    black_box(value);
+}
+
+fn bench_book() {
+    let mut rng = Rng::new(7);
+    let right = books::realistic(&mut rng, 8).bytes();
+    let mut wrong = right.clone();
+    // The last check: every block is summed, and number 2 comes.
+    *wrong.last_mut().expect("not empty") ^= 1;
+    for (name, book) in [("book, sums of 37 blocks", wrong), ("book, questions 1 to 9, n = 8", right)] {
+        line(
+            name,
+            &[book],
+            |book| rattle::open_book(black_box(book)).map(drop_value),
+            |book| drop_value(open_book(black_box(book)).is_ok()),
+        );
+    }
+}
+
+fn bench_excess() {
+    for n in SOLVENTS {
+        let inputs = many(|rng| {
+            let book = books::realistic(rng, n).bytes();
+            (book, rng.range(280.0, 440.0), padded(&feeds::feed_with(rng, n, feeds::Absent::None)))
+        });
+        let mut out = [0.0; 23];
+        line(
+            &format!("excess with its book, n = {n}"),
+            &inputs,
+            |(book, t, x)| rattle::excess(book, *t, x, &mut out).map(drop_value),
+            |(book, t, x)| drop_value(open_book(book).map(|book| book.model().nrtl().excess(*t, &x[..n]).is_ok())),
+        );
+        let models: Vec<_> =
+            inputs.iter().map(|(book, t, x)| (open_book(book).expect("realistic").model(), t, x)).collect();
+        let mut alone = || models.iter().for_each(|(model, t, x)| drop_value(model.nrtl().excess(**t, &x[..n])));
+        let [time] = medians([&mut alone]);
+        println!("excess, model given, n = {n}: reference {:.1} ns", time / INPUTS as f64);
+    }
+}
+
+fn bench_rice() {
+    for n in SOLVENTS {
+        let inputs: Vec<_> = many(|rng| loop {
+            let z = feeds::feed_with(rng, n, feeds::Absent::None);
+            let k: Vec<f64> = (0..n).map(|_| rng.decade(-1.5, 1.5)).collect();
+            if rachford_rice_negative(&z, &k, 200).is_ok() {
+                return (padded(&z), padded(&k));
+            }
+        });
+        let mut out = [0.0; 19];
+        line(
+            &format!("rachford_rice_negative, n = {n}"),
+            &inputs,
+            |(z, k)| rattle::rachford_rice_negative(z, k, n, 200, &mut out).map(drop_value),
+            |(z, k)| drop_value(rachford_rice_negative(&z[..n], &k[..n], 200)),
+        );
+    }
+}
+
+fn bench_sheet() {
+    for task in 1..=9 {
+        for n in SOLVENTS {
+            let inputs = many(|rng| accepted(rng, n, task));
+            let (mut core_answer, mut own_answer) = ([0; ANSWER_BYTES], [0; ANSWER_BYTES]);
+            line(
+                &format!("task {task}, n = {n}"),
+                &inputs,
+                |(book, question)| rattle::answer(book, question, &mut core_answer).map(drop_value),
+                |(book, question)| drop_value(answer_with(book, question, &mut own_answer, true)),
+            );
+        }
+    }
+    let refused = [(Vec::new(), Vec::new())];
+    line(
+        "a refused sheet",
+        &refused,
+        |(book, question)| rattle::answer(book, question, &mut [0; ANSWER_BYTES]).map(drop_value),
+        |(book, question)| drop_value(answer_with(book, question, &mut [0; ANSWER_BYTES], true)),
+    );
+}
+
+/// A book and a question of the task that is answered, with limits of at most 1000.
+fn accepted(rng: &mut Rng, n: usize, task: u64) -> (Vec<u8>, Vec<u8>) {
+    loop {
+        let book = books::realistic(rng, n).bytes();
+        let opened = open_book(&book).expect("realistic");
+        let question = questions::realistic(rng, &opened, task);
+        let patient = question.words[reference::sheet::question::MAX_ITERATIONS] > 1000;
+        let question = question.question();
+        if !patient && answer_with(&book, &question, &mut [0; ANSWER_BYTES], true) == 0 {
+            return (book, question);
+        }
+    }
+}

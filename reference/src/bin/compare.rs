@@ -1,0 +1,68 @@
+//! Holds the core against the reference, bit for bit.
+//!
+//! compare STAGE [--count N] [--seed S] [--task-6]
+
+use std::process::ExitCode;
+
+use reference::command::{Options, USAGE};
+use reference::counts::{count_sheets, SheetCounts, Tally};
+use reference::generate::cases::Cases;
+use reference::stage::{hex_words, Case, Stage};
+
+/// Differences that are printed in full.
+const SHOWN: usize = 20;
+
+fn main() -> ExitCode {
+    let Some(options) = Options::read(std::env::args().skip(1)) else {
+        eprintln!("usage: compare {USAGE}");
+        return ExitCode::from(2);
+    };
+    let differences: usize = options.stages.iter().map(|stage| compare(*stage, &options)).sum();
+    if differences == 0 {
+        ExitCode::SUCCESS
+    } else {
+        ExitCode::FAILURE
+    }
+}
+
+/// The number of differences.
+fn compare(stage: Stage, options: &Options) -> usize {
+    if !stage.built_in() {
+        if stage == Stage::Sheet {
+            count_sheets(options.seed, options.count_of(stage), options.task_6).print();
+        }
+        println!("{}: not built in", stage.name());
+        return 0;
+    }
+    let mut cases = Cases::new(stage, options.seed, false, options.task_6);
+    let mut tally = Tally::default();
+    let mut tasks = SheetCounts::default();
+    let mut differences = 0;
+    for _ in 0..options.count_of(stage) {
+        let (kind, case) = cases.draw();
+        let expected = case.expected();
+        tally.add(expected.refusal);
+        tasks.add(kind, &case, expected.refusal);
+        if case.offered().as_ref() != Some(&expected.words) {
+            differences += 1;
+            if differences <= SHOWN {
+                show(&case, &expected.words);
+            }
+        }
+    }
+    tasks.print();
+    let (all, accepted, refused) = (tally.all(), tally.accepted(), tally.refused());
+    println!("{}: {all} compared, {accepted} accepted, refused {refused}, {differences} differences", stage.name());
+    differences
+}
+
+fn show(case: &Case, expected: &[u64]) {
+    let words = |words: &[u64]| {
+        let mut line = String::new();
+        hex_words(&mut line, words);
+        line
+    };
+    println!("difference: {}", case.line());
+    println!("  reference:{}", words(expected));
+    println!("  core:     {}", words(&case.offered().unwrap_or_default()));
+}

@@ -1,0 +1,54 @@
+//! Writes cases with the reference's results, one a line, or counts them.
+//!
+//! oracle STAGE [--count N] [--seed S] [--task-6]
+//! oracle --counts [STAGE] [--count N] [--seed S] [--task-6]
+
+use std::io::{BufWriter, Write};
+use std::process::ExitCode;
+
+use reference::command::{Options, USAGE};
+use reference::counts::{count_sheets, count_stage};
+use reference::generate::cases::Cases;
+use reference::stage::{hex, hex_words, Stage};
+
+/// Lines of a stage where no count is given.
+const LINES: usize = 200;
+
+fn main() -> ExitCode {
+    let Some(options) = Options::read(std::env::args().skip(1)) else {
+        eprintln!("usage: oracle {USAGE}");
+        return ExitCode::from(2);
+    };
+    for stage in &options.stages {
+        if options.counts {
+            count(*stage, &options);
+        } else if write(*stage, &options).is_err() {
+            return ExitCode::FAILURE;
+        }
+    }
+    ExitCode::SUCCESS
+}
+
+fn count(stage: Stage, options: &Options) {
+    let number = options.count_of(stage);
+    if stage == Stage::Sheet {
+        count_sheets(options.seed, number, options.task_6).print();
+    } else {
+        let tally = count_stage(stage, options.seed, number);
+        let share = tally.percent_accepted();
+        println!("{}: {number} cases, {share:.0}% accepted, refused {}", stage.name(), tally.refused());
+    }
+}
+
+/// Name, inputs, `=`, outputs.
+fn write(stage: Stage, options: &Options) -> std::io::Result<()> {
+    let mut out = BufWriter::new(std::io::stdout().lock());
+    for case in Cases::new(stage, options.seed, true, options.task_6).take(options.count.unwrap_or(LINES)) {
+        let mut results = String::new();
+        let words = case.stored();
+        hex(&mut results, &words[..1]);
+        hex_words(&mut results, &words[1..]);
+        writeln!(out, "{} ={results}", case.line())?;
+    }
+    out.flush()
+}

@@ -1,0 +1,46 @@
+//! The command line that `compare` and `oracle` share.
+
+use crate::stage::{Stage, STAGES};
+
+pub const USAGE: &str =
+    "numbers|fractions|book|pressure|excess|rice|sheet|all [--count N] [--seed S] [--task-6] [--counts]";
+
+pub struct Options {
+    pub stages: Vec<Stage>,
+    /// Cases of each stage; each has its own default.
+    pub count: Option<usize>,
+    pub seed: u64,
+    /// Task 6 is answered, not refused by 12.
+    pub task_6: bool,
+    /// Only the counts of acceptances and refusals.
+    pub counts: bool,
+}
+
+impl Options {
+    /// `None` where a word is not understood.
+    pub fn read(mut words: impl Iterator<Item = String>) -> Option<Self> {
+        let mut options =
+            Self { stages: Vec::new(), count: None, seed: 1, task_6: crate::sheet::DISPATCH_TASK_6, counts: false };
+        while let Some(word) = words.next() {
+            match word.as_str() {
+                "--count" => options.count = Some(words.next()?.parse().ok()?),
+                "--seed" => options.seed = words.next()?.parse().ok()?,
+                "--task-6" => options.task_6 = true,
+                "--counts" => options.counts = true,
+                name => options.stages.extend(Stage::named(name)?),
+            }
+        }
+        if options.counts && options.stages.is_empty() {
+            options.stages = STAGES.to_vec();
+        }
+        (!options.stages.is_empty()).then_some(options)
+    }
+
+    pub fn count_of(&self, stage: Stage) -> usize {
+        self.count.unwrap_or(match stage {
+            Stage::Numbers => 4_000_000,
+            Stage::Fractions | Stage::Book | Stage::Pressure | Stage::Excess | Stage::Rice => 400_000,
+            Stage::Sheet => 200_000,
+        })
+    }
+}

@@ -1,0 +1,222 @@
+//! The cases of each stage.
+
+use super::{books, feeds, numbers, questions, rice, Rng};
+use crate::sheet::open_book;
+use crate::stage::{Case, Function, Stage};
+
+/// How a sheet was made.
+#[derive(Debug, Clone, Copy, PartialEq, Eq, PartialOrd, Ord)]
+pub enum Kind {
+    Realistic,
+    /// Extreme data of a solvent that is absent from the feed.
+    WildAbsent,
+    WildBook,
+    /// Extreme data of a solvent whose fraction is near the smallest floats.
+    WildTrace,
+    WildQuestion,
+    Edge,
+    DamagedQuestion,
+    DamagedBook,
+}
+
+/// Cases of one stage, in the order of a seed.
+pub struct Cases {
+    rng: Rng,
+    stage: Stage,
+    /// Small books only, for stored samples.
+    compact: bool,
+    /// Whether task 6 is answered.
+    dispatch_task_6: bool,
+    /// Cases that come before the random ones.
+    first: std::vec::IntoIter<Case>,
+}
+
+impl Cases {
+    pub fn new(stage: Stage, seed: u64, compact: bool, dispatch_task_6: bool) -> Self {
+        let first = if stage == Stage::Numbers && !compact { edge_numbers() } else { Vec::new() };
+        let rng = if compact { Rng::tidy(seed) } else { Rng::new(seed) };
+        Self { rng, stage, compact, dispatch_task_6, first: first.into_iter() }
+    }
+
+    fn solvents(&mut self) -> usize {
+        if self.compact {
+            self.rng.pick(&[1, 2, 2, 2, 3])
+        } else {
+            self.rng.between(1, 8)
+        }
+    }
+
+    /// The next case and, for a sheet, how it was made.
+    pub fn draw(&mut self) -> (Kind, Case) {
+        if let Some(case) = self.first.next() {
+            return (Kind::Edge, case);
+        }
+        let n = self.solvents();
+        if self.stage == Stage::Sheet {
+            return self.draw_sheet(n);
+        }
+        (Kind::Realistic, plain(&mut self.rng, self.stage, n))
+    }
+
+    fn draw_sheet(&mut self, n: usize) -> (Kind, Case) {
+        let kind = match self.rng.below(100) {
+            0..=54 => Kind::Realistic,
+            55..=64 => Kind::WildAbsent,
+            65..=71 => Kind::WildBook,
+            72..=74 => Kind::WildTrace,
+            75..=79 => Kind::WildQuestion,
+            80..=86 => Kind::Edge,
+            87..=94 => Kind::DamagedQuestion,
+            _ => Kind::DamagedBook,
+        };
+        (kind, sheet(&mut self.rng, n, kind, self.dispatch_task_6))
+    }
+}
+
+impl Iterator for Cases {
+    type Item = Case;
+
+    fn next(&mut self) -> Option<Case> {
+        Some(self.draw().1)
+    }
+}
+
+/// A case of any stage but the sheet's.
+fn plain(rng: &mut Rng, stage: Stage, n: usize) -> Case {
+    match stage {
+        Stage::Numbers => number(rng),
+        Stage::Fractions => fraction(rng, n),
+        Stage::Book => Case::Book { book: book(rng, n) },
+        Stage::Pressure => pressure(rng, n),
+        Stage::Excess => excess(rng, n),
+        Stage::Rice | Stage::Sheet => split(rng, n),
+    }
+}
+
+/// Each one-argument function at every edge.
+fn edge_numbers() -> Vec<Case> {
+    let functions =
+        [Function::Exp, Function::Ln, Function::Abs, Function::IsFinite, Function::BitsOf, Function::FloatOf];
+    let at = |a: u64| functions.map(|function| Case::Number { function, a, b: 0 });
+    numbers::edges().into_iter().flat_map(at).collect()
+}
+
+fn number(rng: &mut Rng) -> Case {
+    let one = |function, v: f64| Case::Number { function, a: v.to_bits(), b: 0 };
+    let two = |function, (v, w): (f64, f64)| Case::Number { function, a: v.to_bits(), b: w.to_bits() };
+    match rng.below(16) {
+        0..=5 => one(Function::Exp, numbers::for_exp(rng)),
+        6..=9 => one(Function::Ln, numbers::for_ln(rng)),
+        10..=12 => two(Function::Powf, numbers::for_powf(rng)),
+        13 => two(Function::Max, numbers::for_powf(rng)),
+        14 => two(Function::Min, numbers::for_powf(rng)),
+        _ => {
+            let function = rng.pick(&[Function::Abs, Function::IsFinite, Function::BitsOf, Function::FloatOf]);
+            one(function, numbers::for_ln(rng))
+        }
+    }
+}
+
+fn fraction(rng: &mut Rng, n: usize) -> Case {
+    if rng.one_in(2) {
+        Case::Fractions { x: feeds::any(rng, n), n }
+    } else {
+        Case::Normalize { x: feeds::amounts(rng, n), n }
+    }
+}
+
+/// Right books and edges, and each damage alone and with another.
+fn book(rng: &mut Rng, n: usize) -> Vec<u8> {
+    let mut draft = books::any(rng, n);
+    match rng.below(10) {
+        0 => draft.bytes(),
+        1..=2 => {
+            books::at_the_edge(rng, &mut draft);
+            draft.bytes()
+        }
+        3..=6 => {
+            let number = rng.between(1, 9) as u32;
+            books::damaged(rng, &draft, &[number])
+        }
+        _ => {
+            let both = [rng.between(1, 9) as u32, rng.between(1, 9) as u32];
+            books::damaged(rng, &draft, &both)
+        }
+    }
+}
+
+fn pressure(rng: &mut Rng, n: usize) -> Case {
+    let draft = if rng.one_in(3) { books::realistic(rng, n) } else { books::any(rng, n) };
+    let book = draft.bytes();
+    let i = rng.below(n);
+    let range = open_book(&book).map(|b| b.solvents[i].vapor_pressure.range).unwrap_or([273.16, 450.0]);
+    let t = match rng.below(12) {
+        0 => rng.pick(&range),
+        1 => {
+            let end = rng.pick(&range);
+            super::beside(rng, end)
+        }
+        2 => numbers::any_bits(rng),
+        3 => rng.range(200.0, 700.0),
+        _ => rng.range(range[0], range[1]),
+    };
+    Case::Pressure { book, i, t }
+}
+
+fn excess(rng: &mut Rng, n: usize) -> Case {
+    let draft = if rng.one_in(2) { books::realistic(rng, n) } else { books::any(rng, n) };
+    let mut x: [f64; 8] = std::array::from_fn(|_| numbers::any_bits(rng));
+    let feed = if rng.one_in(10) { feeds::any(rng, n)[..n].to_vec() } else { feeds::feed(rng, n) };
+    x[..n].copy_from_slice(&feed);
+    let t = match rng.below(12) {
+        0 => numbers::any_bits(rng),
+        1 => rng.decade(-300.0, 300.0),
+        2 => rng.decade(0.0, 6.0),
+        _ => rng.range(273.16, 450.0),
+    };
+    Case::Excess { book: draft.bytes(), t, x }
+}
+
+fn split(rng: &mut Rng, n: usize) -> Case {
+    let (z, k, limit) = rice::any(rng, n);
+    Case::Rice { negative: rng.one_in(2), z, k, n, limit }
+}
+
+fn sheet(rng: &mut Rng, n: usize, kind: Kind, dispatch_task_6: bool) -> Case {
+    let mut draft = books::realistic(rng, n);
+    let victim = rng.below(n);
+    match kind {
+        Kind::WildAbsent | Kind::WildBook => books::make_wild(rng, &mut draft, victim),
+        Kind::WildTrace => books::make_extreme(rng, &mut draft, victim),
+        Kind::Edge if rng.one_in(3) => books::at_the_edge(rng, &mut draft),
+        _ => {}
+    }
+    let right = draft.bytes();
+    let Ok(opened) = open_book(&right) else {
+        // A wild value that questions 1 to 9 refuse.
+        return Case::Sheet { book: right, question: Vec::new(), room: 0, dispatch_task_6 };
+    };
+    let task = rng.between(1, 9) as u64;
+    let mut question = match kind {
+        Kind::WildAbsent => questions::without(rng, &opened, task, victim),
+        Kind::WildTrace => questions::with_trace(rng, &opened, task, victim),
+        _ => questions::realistic(rng, &opened, task),
+    };
+    let mut book = right;
+    match kind {
+        Kind::WildQuestion => questions::make_wild(rng, &mut question),
+        Kind::Edge => questions::at_the_edge(rng, &mut question),
+        Kind::DamagedQuestion => {
+            for _ in 0..rng.between(1, 2) {
+                let number = rng.between(10, 23) as u32;
+                questions::damage(rng, &mut question, number);
+            }
+        }
+        Kind::DamagedBook => {
+            let numbers = [rng.between(1, 9) as u32, rng.between(1, 9) as u32];
+            book = books::damaged(rng, &draft, &numbers[..rng.clone().between(1, 2)]);
+        }
+        _ => {}
+    }
+    Case::Sheet { book, question: question.question(), room: question.room, dispatch_task_6 }
+}

@@ -1,0 +1,13 @@
+//! The reference: the named Rust, cut and substituted as document 01 says, behind the sheet's bytes; a generator of sheets; and the
+//! comparison with the core, bit for bit.
+
+pub mod command;
+pub mod counts;
+pub mod edits;
+pub mod generate;
+pub mod helpers;
+pub mod named;
+pub mod rattle;
+pub mod sheet;
+pub mod stage;
+pub mod types;

@@ -1,0 +1,71 @@
+//! The still sheet of document 01: book and question in, answer and trial blocks or a refusal number out.
+
+pub mod blocks;
+pub mod book;
+pub mod question;
+pub mod reply;
+
+pub use book::{open_book, Book};
+
+use blocks::{bytes_of, seal, Words, BLOCK};
+use question::Question;
+
+/// Task 6 is answered by 12 until demand 3 is shipped with it.
+pub const DISPATCH_TASK_6: bool = false;
+
+/// One answer block and eight trials.
+pub const ANSWER_BYTES: usize = 9 * BLOCK;
+
+/// 0 and the blocks written to the front of `answer`, or the refusal number and `answer` untouched.
+pub fn answer(book: &[u8], question: &[u8], answer: &mut [u8]) -> u32 {
+    answer_with(book, question, answer, DISPATCH_TASK_6)
+}
+
+/// `answer` with task 6 answered or refused by 12.
+pub fn answer_with(book: &[u8], question: &[u8], answer: &mut [u8], dispatch_task_6: bool) -> u32 {
+    match blocks_of(book, question, answer.len(), dispatch_task_6) {
+        Ok(blocks) => {
+            for (place, block) in answer.chunks_exact_mut(BLOCK).zip(&blocks) {
+                place.copy_from_slice(&bytes_of(block));
+            }
+            0
+        }
+        Err(number) => number,
+    }
+}
+
+fn blocks_of(book: &[u8], question: &[u8], room: usize, dispatch_task_6: bool) -> Result<Vec<Words>, u32> {
+    let book = open_book(book)?;
+    if room < ANSWER_BYTES {
+        return Err(10);
+    }
+    let question = Question::read(question)?;
+    let task = question.task();
+    if !(1..=9).contains(&task) || (task == 6 && !dispatch_task_6) {
+        return Err(12);
+    }
+    question.ask(book.solvents.len())?;
+    let mut blocks = reply::reply(&book, &question).map_err(|error| error.number())?;
+    blocks.iter_mut().for_each(seal);
+    Ok(blocks)
+}
+
+/// What the program writes for the bytes of book.bin and of its standard input.
+pub fn program_output(book: &[u8], question: &[u8], dispatch_task_6: bool) -> Vec<u8> {
+    let book = &book[..book.len().min(38 * BLOCK)];
+    let question = &question[..question.len().min(BLOCK + 1)];
+    let blocks = match blocks_of(book, question, ANSWER_BYTES, dispatch_task_6) {
+        Ok(blocks) => blocks,
+        Err(number) => vec![refusal_block(question, number)],
+    };
+    blocks.iter().flat_map(bytes_of).collect()
+}
+
+/// Words 0, 1, 2 and the check; task 0 for numbers 1 to 12.
+fn refusal_block(question: &[u8], number: u32) -> Words {
+    let task = if number <= 12 { 0 } else { blocks::words_of(question)[1] };
+    let mut words = [0; 64];
+    words[..3].copy_from_slice(&[9, task, number.into()]);
+    seal(&mut words);
+    words
+}

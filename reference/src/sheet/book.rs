@@ -1,0 +1,145 @@
+//! The book: questions 1 to 9 and its records.
+
+use super::blocks::{bytes_check_right, words_of, Words, BLOCK};
+use crate::named::liquid::{Correlation, PureLiquid};
+use crate::named::model::ActivityModel;
+use crate::named::nrtl::{NrtlModel, NrtlParameters, Pair};
+use crate::types::ComponentId;
+
+/// First word of a solvent's two correlation records.
+pub const VAPOR_PRESSURE: usize = 3;
+pub const DENSITY: usize = 24;
+
+#[derive(Debug, Clone, PartialEq)]
+pub struct Solvent {
+    /// Without hyphens.
+    pub cas: u64,
+    pub vapor_pressure: Correlation,
+    pub density: Correlation,
+}
+
+#[derive(Debug, Clone, PartialEq)]
+pub struct Book {
+    pub solvents: Vec<Solvent>,
+    /// (0,1), (0,2) and on.
+    pub pairs: Vec<Pair>,
+}
+
+impl Book {
+    pub fn model(&self) -> ActivityModel {
+        let ids: Vec<ComponentId> = self.solvents.iter().map(|s| ComponentId(s.cas)).collect();
+        let liquids = self.solvents.iter().map(|s| PureLiquid::of_book(&s.vapor_pressure, &s.density)).collect();
+        let parameters = NrtlParameters::of_book(ids.clone(), &self.pairs).expect("questions 1 to 9 were put");
+        ActivityModel::of_book(ids, liquids, NrtlModel::new(parameters))
+    }
+}
+
+/// The accepted book, or a number from 1 to 9. Each question is put to all blocks before the next.
+pub fn open_book(book: &[u8]) -> Result<Book, u32> {
+    need(!book.is_empty() && book.len().is_multiple_of(BLOCK), 1)?;
+    need(book.chunks_exact(BLOCK).all(bytes_check_right), 2)?;
+    let blocks: Vec<Words> = book.chunks_exact(BLOCK).map(words_of).collect();
+    let n = solvent_count(&blocks).ok_or(3u32)?;
+    let (solvents, pairs) = blocks[1..].split_at(n);
+    let due = due_pairs(n);
+    need(solvents.iter().enumerate().all(|(i, w)| is_solvent(w, i)), 4)?;
+    need(solvents.iter().all(|w| is_correlation(w, VAPOR_PRESSURE) && is_correlation(w, DENSITY)), 5)?;
+    need((0..n).all(|i| solvents[..i].iter().all(|w| w[2] != solvents[i][2])), 6)?;
+    need(pairs.iter().zip(&due).all(|(w, &(i, j))| is_pair(w, i, j)), 7)?;
+    need(pairs.iter().all(pair_is_finite), 8)?;
+    need(pairs.iter().all(alphas_are_equal), 9)?;
+    Ok(Book {
+        solvents: solvents.iter().map(solvent).collect(),
+        pairs: pairs.iter().zip(&due).map(|(w, &(i, j))| pair(w, i, j)).collect(),
+    })
+}
+
+fn need(yes: bool, number: u32) -> Result<(), u32> {
+    if yes {
+        Ok(())
+    } else {
+        Err(number)
+    }
+}
+
+/// n, if block 0 is right and the number of blocks fits it.
+fn solvent_count(blocks: &[Words]) -> Option<usize> {
+    let [kind, version, n] = [blocks[0][0], blocks[0][1], blocks[0][2]];
+    if kind != 1 || version != 1 || !(1..=8).contains(&n) {
+        return None;
+    }
+    let n = n as usize;
+    (blocks.len() == 1 + n + n * (n - 1) / 2).then_some(n)
+}
+
+/// (0,1), (0,2), …, (0,n−1), (1,2) and on.
+pub fn due_pairs(n: usize) -> Vec<(usize, usize)> {
+    (0..n).flat_map(|i| (i + 1..n).map(move |j| (i, j))).collect()
+}
+
+fn float(words: &Words, at: usize) -> f64 {
+    f64::from_bits(words[at])
+}
+
+fn floats<const N: usize>(words: &Words, at: usize) -> [f64; N] {
+    std::array::from_fn(|k| float(words, at + k))
+}
+
+/// Word of a record's term count.
+fn count_at(record: usize) -> usize {
+    record + 4
+}
+
+fn is_solvent(words: &Words, i: usize) -> bool {
+    let counted = |record| (1..=8).contains(&words[count_at(record)]);
+    words[0] == 2 && words[1] == i as u64 && words[2] != 0 && counted(VAPOR_PRESSURE) && counted(DENSITY)
+}
+
+/// Used floats finite, 0 < low ≤ high < t_r, reducing value positive.
+fn is_correlation(words: &Words, record: usize) -> bool {
+    let c = correlation(words, record);
+    let [low, high] = c.range;
+    let finite = [c.t_r, c.reducing_value, low, high].iter().chain(&c.n).chain(&c.exponents).all(|v| v.is_finite());
+    finite && 0.0 < low && low <= high && high < c.t_r && c.reducing_value > 0.0
+}
+
+fn is_pair(words: &Words, i: usize, j: usize) -> bool {
+    words[..3] == [3, i as u64, j as u64] && words[15] <= 1 && words[18] <= 1
+}
+
+/// Bounds only if flagged.
+fn pair_is_finite(words: &Words) -> bool {
+    let finite = |from: usize, to: usize| (from..=to).all(|at| float(words, at).is_finite());
+    finite(3, 14) && (words[15] == 0 || finite(16, 17))
+}
+
+fn alphas_are_equal(words: &Words) -> bool {
+    float(words, 11) == float(words, 13) && float(words, 12) == float(words, 14)
+}
+
+fn correlation(words: &Words, record: usize) -> Correlation {
+    let count = words[count_at(record)] as usize;
+    Correlation {
+        t_r: float(words, record),
+        reducing_value: float(words, record + 1),
+        range: floats(words, record + 2),
+        n: floats::<8>(words, record + 5)[..count].to_vec(),
+        exponents: floats::<8>(words, record + 13)[..count].to_vec(),
+    }
+}
+
+fn solvent(words: &Words) -> Solvent {
+    Solvent { cas: words[2], vapor_pressure: correlation(words, VAPOR_PRESSURE), density: correlation(words, DENSITY) }
+}
+
+fn pair(words: &Words, i: usize, j: usize) -> Pair {
+    Pair {
+        i,
+        j,
+        tau_ij: floats(words, 3),
+        tau_ji: floats(words, 7),
+        alpha_ij: floats(words, 11),
+        alpha_ji: floats(words, 13),
+        interval: (words[15] == 1).then(|| (floats(words, 16), words[18] == 1)),
+    }
+}

@@ -1,0 +1,134 @@
+//! The question: its words, and questions 11 and 13 to 21.
+
+use super::blocks::{check_right, words_of, Words, BLOCK};
+use crate::helpers;
+use crate::named::solvers::ActivityOptions;
+
+/// Places of the question's words.
+pub const TASK: usize = 1;
+pub const TEMPERATURE: usize = 2;
+pub const PRESSURE: usize = 3;
+pub const FRACTIONS: usize = 4;
+pub const MAX_ITERATIONS: usize = 12;
+pub const TOLERANCE: usize = 13;
+pub const MAX_TEMPERATURE_ITERATIONS: usize = 14;
+pub const ENERGY_TOLERANCE: usize = 15;
+pub const TM_THRESHOLD: usize = 16;
+pub const BRACKET: usize = 17;
+pub const K_VALUES: usize = 19;
+
+const HIGHEST_LIMIT: u64 = 1_000_000;
+
+pub struct Question {
+    words: Words,
+}
+
+impl Question {
+    /// Question 11.
+    pub fn read(question: &[u8]) -> Result<Self, u32> {
+        if question.len() != BLOCK {
+            return Err(11);
+        }
+        let words = words_of(question);
+        if !check_right(&words) || words[0] != 8 {
+            return Err(11);
+        }
+        Ok(Self { words })
+    }
+
+    pub fn task(&self) -> u64 {
+        self.words[TASK]
+    }
+    /// K.
+    pub fn temperature(&self) -> f64 {
+        self.float(TEMPERATURE)
+    }
+    /// Pa.
+    pub fn pressure(&self) -> f64 {
+        self.float(PRESSURE)
+    }
+    pub fn fractions(&self, n: usize) -> Vec<f64> {
+        self.floats(FRACTIONS, n)
+    }
+    pub fn k_values(&self, n: usize) -> Vec<f64> {
+        self.floats(K_VALUES, n)
+    }
+    pub fn max_iterations(&self) -> u64 {
+        self.words[MAX_ITERATIONS]
+    }
+
+    pub fn options(&self) -> ActivityOptions {
+        ActivityOptions {
+            max_iterations: self.words[MAX_ITERATIONS] as usize,
+            tolerance: self.float(TOLERANCE),
+            max_temperature_iterations: self.words[MAX_TEMPERATURE_ITERATIONS] as usize,
+            energy_tolerance: self.float(ENERGY_TOLERANCE),
+            tm_threshold: self.float(TM_THRESHOLD),
+            minimum_temperature_k: self.float(BRACKET),
+            maximum_temperature_k: self.float(BRACKET + 1),
+        }
+    }
+
+    fn float(&self, at: usize) -> f64 {
+        f64::from_bits(self.words[at])
+    }
+
+    fn floats(&self, at: usize, n: usize) -> Vec<f64> {
+        (at..at + n).map(|k| self.float(k)).collect()
+    }
+
+    /// Questions 13 to 21, each where the task needs it.
+    pub fn ask(&self, n: usize) -> Result<(), u32> {
+        let task = self.task();
+        if matches!(task, 1 | 2 | 3 | 6 | 7) && !is_positive(self.temperature()) {
+            return Err(13);
+        }
+        if matches!(task, 4 | 5 | 7) && !is_positive(self.pressure()) {
+            return Err(14);
+        }
+        self.ask_composition(n)?;
+        if matches!(task, 3..=7) {
+            self.options().validate().map_err(|error| error.number())?;
+        }
+        self.ask_limits()
+    }
+
+    /// Questions 15 to 18.
+    fn ask_composition(&self, n: usize) -> Result<(), u32> {
+        let z = self.fractions(n);
+        let k = if matches!(self.task(), 8 | 9) { self.k_values(n) } else { Vec::new() };
+        if !z.iter().chain(&k).all(|v| v.is_finite()) {
+            return Err(15);
+        }
+        if z.iter().any(|v| *v < 0.0) {
+            return Err(16);
+        }
+        if k.iter().any(|v| *v <= 0.0) {
+            return Err(17);
+        }
+        if (helpers::sum(&z) - 1.0).abs() <= 1e-10 {
+            Ok(())
+        } else {
+            Err(18)
+        }
+    }
+
+    /// Question 21.
+    fn ask_limits(&self) -> Result<(), u32> {
+        let outer = self.words[MAX_TEMPERATURE_ITERATIONS];
+        let high = match self.task() {
+            3..=7 => self.max_iterations() > HIGHEST_LIMIT || outer > HIGHEST_LIMIT,
+            8 | 9 => self.max_iterations() > HIGHEST_LIMIT,
+            _ => false,
+        };
+        if high {
+            Err(21)
+        } else {
+            Ok(())
+        }
+    }
+}
+
+fn is_positive(v: f64) -> bool {
+    v.is_finite() && v > 0.0
+}
