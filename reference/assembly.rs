@@ -1,7 +1,7 @@
 //! The cuts and substitutions that make the reference out of the named Rust.
 //!
 //! `SOURCES` lists them as data: each has its anchor, how often that anchor has to be found, and its reason. An anchor that is found
-//! less or more often is an error, so that a changed source cannot pass unnoticed. README.md shows the same list.
+//! less or more often is an error, so that a changed source cannot pass unnoticed. docs/DIFFERENCES.md shows the same list.
 
 /// One cut or substitution. `within` is the first line of the item that is searched; empty means the whole file.
 pub enum Edit {

@@ -1,6 +1,6 @@
 //! Assembles the reference from the named Rust and links the core's static library where a stage asks for it.
 #[path = "assembly.rs"]
-#[allow(dead_code)] // the reasons are read by README's check
+#[allow(dead_code)] // the reasons are read by the check of docs/DIFFERENCES.md
 mod assembly;
 
 use std::path::{Path, PathBuf};

@@ -70,8 +70,8 @@ mod tests {
 
     #[test]
     fn readme_holds_the_table() {
-        let readme = include_str!("../README.md");
-        assert!(readme.contains(super::table().trim()), "put the output of `cargo run --bin edits` into README.md");
+        let listed = include_str!("../../docs/DIFFERENCES.md");
+        assert!(listed.contains(super::table().trim()), "put the output of `cargo run --bin edits` into docs/DIFFERENCES.md");
     }
 
     #[test]

@@ -1,5 +1,5 @@
 -- Slices of floats as C lends them, read and written as arrays of eight; outcomes as numbers. Assumes nothing.
-use Prim.Native.Nat.{ℕ}
+use Prim.Native.Nat.{ℕ, _+_}
 use mathlib.Core.Bool.{cond}
 use mathlib.Core.List.{List}
 use lib.Dec.{leb}
@@ -26,3 +26,8 @@ numberOf (no r) = r
 unfoldable pub verdictNumber : Verdict → ℕ
 verdictNumber Passed = 0
 verdictNumber (Refused r) = r
+
+-- 100 + n for a book of n solvents, else the refusal's number
+unfoldable pub bookNumber : Out ℕ → ℕ
+bookNumber (ok n) = 100 + n
+bookNumber (no r) = r

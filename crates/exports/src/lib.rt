@@ -1,5 +1,6 @@
 // The functions under C names, for the comparison with the reference and for benchmarks. A slice passes as a pointer and a length.
 ghost use mathlib.Core.Path.{_≡_};
+ghost use mathlib.Core.Bool.{cond};
 ghost use Prim.Native.Nat.{_≤_};
 ghost use lib.ListN.{length};
 ghost use Rattle.floats.specs.Small.{isFinite, maxOf, minOf, absOf, bitsOf, floatOf};
@@ -7,7 +8,11 @@ ghost use Rattle.floats.specs.Vector.{at, fill, places};
 ghost use Rattle.floats.specs.Outcome.{ok};
 ghost use Rattle.numerics.specs.Numerics.{expOf, lnOf, powfOf};
 ghost use Rattle.thermo_types.specs.Composition.{withFractions, normalizeOf};
-ghost use Rattle.exports.specs.Slices.{eightOf, stored, numberOf, verdictNumber};
+ghost use Rattle.blocks.specs.Words.{word, checkSum};
+ghost use Rattle.book.specs.Book.{bookOf};
+ghost use Rattle.rice_exports.specs.Splits.{number, written, sized, constrainedOf, negativeOf};
+ghost use Rattle.exports.specs.Slices.{eightOf, stored, numberOf, verdictNumber, bookNumber};
+use book::Opened;
 use thermo_types::Verdict;
 
 #[no_mangle]
@@ -90,7 +95,7 @@ fn eight(s: &[f64]) -> [f64; 8]
     a
 }
 
-fn number(v: Verdict) -> u64
+fn refusal(v: Verdict) -> u64
     ensures { λ r. ⌜ r ≡ verdictNumber v ⌝ }
 {
     match v {
@@ -105,7 +110,7 @@ pub extern "C" fn zektonk_fractions(x: &[f64], n: usize) -> u64
     ensures { λ r. ⌜ r ≡ numberOf (withFractions (at (eightOf (now (x .entry)))) (places n) (ok (places n))) ⌝ }
 {
     let a = eight(x);
-    number(thermo_types::with_fractions(&a, n))
+    refusal(thermo_types::with_fractions(&a, n))
 }
 
 fn store(a: &[f64; 8], out: &mut [f64])
@@ -128,4 +133,53 @@ pub extern "C" fn zektonk_normalize(x: &mut [f64], n: usize)
     let a = eight(x);
     let y = thermo_types::normalize(&a, n);
     store(&y, x);
+}
+
+// 1 liquid, 2 vapor, 3 both with `out` filled, or 100 + the refusal's number; 0 where a slice is too short.
+#[no_mangle]
+pub extern "C" fn zektonk_rachford_rice(
+    z: &[f64],
+    k: &[f64],
+    n: usize,
+    max_iterations: u64,
+    out: &mut [f64],
+) -> u64
+    ensures { λ r. ⌜ r ≡ cond (sized (now (z .entry)) (now (k .entry)) (now (out .entry))) (number (constrainedOf (now (z .entry)) (now (k .entry)) n «max_iterations»)) 0 ⌝ }
+    ensures { λ _. ⌜ now (out .exit) ≡ cond (sized (now (z .entry)) (now (k .entry)) (now (out .entry))) (written (constrainedOf (now (z .entry)) (now (k .entry)) n «max_iterations») (now (out .entry))) (now (out .entry)) ⌝ }
+{
+    rice_exports::constrained_split(z, k, n, max_iterations, out)
+}
+
+// The same for the negative flash: 3, or 100 + the refusal's number.
+#[no_mangle]
+pub extern "C" fn zektonk_rachford_rice_negative(
+    z: &[f64],
+    k: &[f64],
+    n: usize,
+    max_iterations: u64,
+    out: &mut [f64],
+) -> u64
+    ensures { λ r. ⌜ r ≡ cond (sized (now (z .entry)) (now (k .entry)) (now (out .entry))) (number (negativeOf (now (z .entry)) (now (k .entry)) n «max_iterations»)) 0 ⌝ }
+    ensures { λ _. ⌜ now (out .exit) ≡ cond (sized (now (z .entry)) (now (k .entry)) (now (out .entry))) (written (negativeOf (now (z .entry)) (now (k .entry)) n «max_iterations») (now (out .entry))) (now (out .entry)) ⌝ }
+{
+    rice_exports::negative_split(z, k, n, max_iterations, out)
+}
+
+// 100 + n for an accepted book, else the number 1 to 9.
+#[no_mangle]
+pub extern "C" fn zektonk_open_book(book: &[u8]) -> u64
+    ensures { λ r. ⌜ r ≡ bookNumber (bookOf (now (book .entry))) ⌝ }
+{
+    match book::open_book(book) {
+        Opened::Book(n) => 100 + (n as u64),
+        Opened::No(r) => r,
+    }
+}
+
+// The sums of the first `count` blocks, added modulo 2^64: for the benchmark.
+#[no_mangle]
+pub extern "C" fn zektonk_block_sum(s: &[u8]) -> u64
+    ensures { λ r. ⌜ r ≡ checkSum (word (now (s .entry))) 63 ⌝ }
+{
+    blocks::block_sum(s)
 }

@@ -2,7 +2,7 @@
 --   g(β) = Σ z_i (K_i - 1) / (1 + β (K_i - 1)) = 0, over positive feed fractions z_i.
 -- Newton's method with bisection as its safeguard. Assumes nothing.
 use Prim.Native.Nat.{ℕ, zero, suc}
-use mathlib.Core.Bool.{Bool, true, false, not, cond, _&&_, _||_}
+use mathlib.Core.Bool.{Bool, not, cond, _&&_, _||_}
 use mathlib.Core.List.{List}
 use lib.Ieee.{Float, neg, lt, le, eq}
 use Rattle.floats.specs.Arithmetic.{_⊕_, _⊖_, _⊗_, _⊘_, #, 0f, ½, 1f, 2f, ∞, -∞}
@@ -15,6 +15,7 @@ use Rattle.thermo_types.specs.declared.Verdict.the-variants.{Passed, Refused}
 use Rattle.rachford_rice.specs.declared.RachfordRiceOutcome.{RachfordRiceOutcome}
 use Rattle.rachford_rice.specs.declared.RachfordRiceOutcome.the-variants.{LiquidOnly, VaporOnly, TwoPhase}
 use Rattle.rachford_rice.specs.declared.RachfordRice.{RachfordRice}
+use Rattle.rachford_rice.specs.declared.Turn.{Turn}
 
 -- 1 + β (K_i - 1)
 abbrev pub over : (ℕ → Float) → Float → ℕ → Float
@@ -28,13 +29,6 @@ pub record Solution : Type 0 where
   pub residual : Float
   pub iterations : ℕ
 
--- one turn: the bounds moved, the next β, and whether it is the last
-pub record Turn : Type 0 where
-  pub lo : Float
-  pub hi : Float
-  pub next : Float
-  pub last : Bool
-
 -- bisection
 abbrev pub middle : Float → Float → Float
 middle lo hi = lo ⊕ (hi ⊖ lo) ⊘ 2f
@@ -43,7 +37,7 @@ middle lo hi = lo ⊕ (hi ⊖ lo) ⊘ 2f
 abbrev pub small : Float → Float → Bool
 small next β = le (absOf (next ⊖ β)) (# 0x3cd0000000000000 ⊗ maxOf (absOf β) 1f)
 
--- from g(β) and its derivative: the bounds are moved before the step
+-- one turn (the code's struct: the bounds, the next β, whether it is the last) from g(β) and its derivative: the bounds are moved before the step
 unfoldable pub turnOf : Float → Float → Float → Float → Float → Turn
 turnOf g slope lo₀ hi₀ β =
     let lo = cond (lt 0f g) β lo₀ in
@@ -107,12 +101,15 @@ module _ (z k : ℕ → Float) (n : ℕ) where
       (iterate left (suc done) (turnOf (residualOf β) (slopeOf β) lo hi β .lo) (turnOf (residualOf β) (slopeOf β) lo hi β .hi) (turnOf (residualOf β) (slopeOf β) lo hi β .next)))
 
   -- between the poles 1 / (1 - Kmax) and 1 / (1 - Kmin), from β = 0.5; 28 where K lies on one side of 1
-  unfoldable pub negative : ℕ → Out Solution
-  negative limit =
-      validate
-      (need (not (le kMax 1f)) 28
+  unfoldable pub between : ℕ → Out Solution
+  between limit =
+      need (not (le kMax 1f)) 28
       (need (not (le 1f kMin)) 28
-      (iterate limit 0 (1f ⊘ (1f ⊖ kMax)) (1f ⊘ (1f ⊖ kMin)) ½)))
+      (iterate limit 0 (1f ⊘ (1f ⊖ kMax)) (1f ⊘ (1f ⊖ kMin)) ½))
+
+  -- the negative flash: β may lie outside [0, 1]
+  unfoldable pub negative : ℕ → Out Solution
+  negative limit = validate (between limit)
 
 -- ---- what the code answers
 unfoldable pub twoPhase : Solution → RachfordRice

@@ -10,7 +10,7 @@ use Rattle.exports.proofs.zektonk_fractions.Tie as tie
 use Rattle.exports.proofs.zektonk_fractions.Reads as reads
 use Rattle.exports.proofs.zektonk_fractions.Lts as lts
 use Rattle.exports.proofs.eight.Reads as eight-reads
-use Rattle.exports.proofs.number.Reads as number-reads
+use Rattle.exports.proofs.refusal.Reads as refusal-reads
 use Rattle.thermo_types.proofs.with_fractions.Reads as with-fractions-reads
 
 number-is : (o : Out ℕ) → verdictNumber (verdictOf o) ≡ numberOf o
@@ -27,13 +27,13 @@ with-fractions-requires : tie.Need-with-fractions-requires
 with-fractions-requires c κs = search needs
 
 -- src/lib.rt:108:5
-number-requires : tie.Need-number-requires
-number-requires c κs = search needs
+refusal-requires : tie.Need-refusal-requires
+refusal-requires c κs = search needs
 
 -- src/lib.rt:103:1
 returns : tie.Need-returns
-returns c = rw (c .number .ensures, c .before .with-fractions .ensures, c .before .before .before .eight .ensures) (number-is _)
+returns c = rw (c .refusal .ensures, c .before .with-fractions .ensures, c .before .before .before .eight .ensures) (number-is _)
 
 pub zektonk-fractions-spec : {M : Type 1} → statement M
 zektonk-fractions-spec =
-    tie.close (tie.spec eight-requires with-fractions-requires number-requires returns)
+    tie.close (tie.spec eight-requires with-fractions-requires refusal-requires returns)

@@ -1,0 +1,2 @@
+-- Laws of blocks, which callers cite. Assumes nothing.
+pub mod Laws

@@ -1,0 +1,51 @@
+-- `blocks::sum_short` meets its contract. The invariant: the sum so far. Assumes nothing.
+use mathlib.Core.Path.{_≡_, refl}
+use Prim.Native.Nat.{_≤_, _-_}
+use native.Mathlib.Omega.{arith}
+use borrow.Author.Needs.{needs}
+use Rattle.blocks.proofs.Laws.{sum-turn}
+use Rattle.blocks.specs.Words.{word, checkSum}
+use Rattle.blocks.proofs.sum_short.Statement.{statement}
+use Rattle.blocks.proofs.sum_short.Tie as tie
+
+abbrev Inv-loop : tie.InvT-loop
+Inv-loop s sum₀ k₀ sum k = (k ≤ 63) × (sum ≡ checkSum (word s) k)
+
+abbrev μ-loop : tie.MeasureT-loop
+μ-loop s sum₀ k₀ sum k = 63 - k
+
+loop-holds : tie.Need-loop-holds Inv-loop μ-loop
+unfolding checkSum
+loop-holds c = (omega arith, refl)
+
+short-word-requires : tie.Need-short-word-requires Inv-loop μ-loop
+short-word-requires c κs = search needs
+
+wrapping-add-u64-requires : tie.Need-wrapping-add-u64-requires Inv-loop μ-loop
+wrapping-add-u64-requires c κs = search needs
+
+add-k : tie.Need-add-k Inv-loop μ-loop
+add-k c = omega arith
+
+loop-less : tie.Need-loop-less Inv-loop μ-loop
+loop-less c = omega arith
+
+loop-again : tie.Need-loop-again Inv-loop μ-loop
+loop-again c = (omega arith, sum-turn _ _ (c .before .before .before .loop .inv .1) (c .before .short-word .ensures) (c .wrapping-add-u64 .ensures))
+
+returns : tie.Need-returns Inv-loop μ-loop
+returns c = let e : c .before .loop .k ≡ 63 = omega arith in rw e at (c .before .loop .inv .1)
+
+pub sum-short-spec : {M : Type 1} → statement M
+sum-short-spec =
+    tie.close
+    (tie.spec
+    Inv-loop
+    μ-loop
+    loop-holds
+    short-word-requires
+    wrapping-add-u64-requires
+    add-k
+    loop-less
+    loop-again
+    returns)

@@ -1,0 +1,207 @@
+// Blocks of 512 bytes: 64 little-endian words of 64 bits, the last the sum of the others.
+ghost use mathlib.Core.Path.{_≡_};
+ghost use mathlib.Core.List.{_++_};
+ghost use Prim.Native.Nat.{_≤_, _<_, _+_, _*_};
+ghost use lib.ListN.{length, drop};
+ghost use Rattle.blocks.specs.Words.{byte, word, wordOf, wordFrom, block, checkSum, checkRight};
+ghost use Rattle.blocks.specs.Bytes.{bytes, put, written, blockBytes, wordAt};
+
+fn wide(x: u8) -> u64
+    ensures { λ r. ⌜ (r ≡ x) × (r < 256) ⌝ }
+{
+    x as u64
+}
+
+fn half(a: u8, b: u8, c: u8, d: u8) -> u64
+    ensures { λ r. ⌜ (r ≡ a + b * 256 + c * 65536 + d * 16777216) × (r < 4294967296) ⌝ }
+{
+    wide(a) + wide(b) * 256 + wide(c) * 65536 + wide(d) * 16777216
+}
+
+// The word of eight bytes, lowest first.
+pub fn word_of(a: u8, b: u8, c: u8, d: u8, e: u8, f: u8, g: u8, h: u8) -> u64
+    ensures { λ r. ⌜ r ≡ wordOf a b c d e f g h ⌝ }
+{
+    half(a, b, c, d) + half(e, f, g, h) * 4294967296
+}
+
+fn word_from(s: &[u8], at: usize) -> u64
+    requires { ⌜ at + 8 ≤ length (now s) ⌝ }
+    ensures { λ r. ⌜ r ≡ wordFrom (now (s .entry)) at ⌝ }
+{
+    word_of(
+        s[at],
+        s[at + 1],
+        s[at + 2],
+        s[at + 3],
+        s[at + 4],
+        s[at + 5],
+        s[at + 6],
+        s[at + 7],
+    )
+}
+
+fn byte_at(s: &[u8], at: usize) -> u8
+    ensures { λ r. ⌜ r ≡ byte (now (s .entry)) at ⌝ }
+{
+    if at < s.len() { s[at] } else { 0 }
+}
+
+fn word_end(s: &[u8], at: usize) -> u64
+    requires { ⌜ at ≤ length (now s) ⌝ }
+    ensures { λ r. ⌜ r ≡ wordFrom (now (s .entry)) at ⌝ }
+{
+    word_of(
+        byte_at(s, at),
+        byte_at(s, at + 1),
+        byte_at(s, at + 2),
+        byte_at(s, at + 3),
+        byte_at(s, at + 4),
+        byte_at(s, at + 5),
+        byte_at(s, at + 6),
+        byte_at(s, at + 7),
+    )
+}
+
+// A word that the slice's end may cut short, each byte tested by itself.
+fn short_word(s: &[u8], k: usize) -> u64
+    ensures { λ r. ⌜ r ≡ word (now (s .entry)) k ⌝ }
+{
+    if s.len() / 8 < k {
+        return 0;
+    }
+    word_end(s, 8 * k)
+}
+
+// Word k of a slice, of a block as a rule. Bytes past the end count as 0.
+pub fn word(s: &[u8], k: usize) -> u64
+    ensures { λ r. ⌜ r ≡ word (now (s .entry)) k ⌝ }
+{
+    if k < s.len() / 8 {
+        return word_from(s, 8 * k);
+    }
+    short_word(s, k)
+}
+
+// Block k of a book: those 512 bytes of the caller's own slice, or what there is of them.
+pub fn block(book: &[u8], k: usize) -> &[u8]
+    ensures { λ r. ⌜ now r ≡ block (now (book .entry)) k ⌝ }
+{
+    let n = book.len() / 512;
+    if n < k {
+        let end = book.len();
+        return &book[end..];
+    }
+    let from = 512 * k;
+    if k == n {
+        return &book[from..];
+    }
+    let to = from + 512;
+    &book[from..to]
+}
+
+fn sum_whole(s: &[u8]) -> u64
+    requires { ⌜ 504 ≤ length (now s) ⌝ }
+    ensures { λ r. ⌜ r ≡ checkSum (word (now (s .entry))) 63 ⌝ }
+{
+    let mut sum: u64 = 0;
+    for k in 0usize..63 {
+        sum = std::num::wrapping_add_u64(sum, word_from(s, 8 * k));
+    }
+    sum
+}
+
+fn sum_short(s: &[u8]) -> u64
+    ensures { λ r. ⌜ r ≡ checkSum (word (now (s .entry))) 63 ⌝ }
+{
+    let mut sum: u64 = 0;
+    for k in 0usize..63 {
+        sum = std::num::wrapping_add_u64(sum, short_word(s, k));
+    }
+    sum
+}
+
+// The sum of words 0 to 62 of a block, modulo 2^64. A whole block has a loop of its own: with `word`'s test in it the sum takes four times as long.
+pub fn block_sum(s: &[u8]) -> u64
+    ensures { λ r. ⌜ r ≡ checkSum (word (now (s .entry))) 63 ⌝ }
+{
+    if 504 <= s.len() {
+        sum_whole(s)
+    } else {
+        sum_short(s)
+    }
+}
+
+// Is word 63 of a block the sum of the words before it?
+pub fn check_right(s: &[u8]) -> bool
+    ensures { λ r. ⌜ r ≡ checkRight (word (now (s .entry))) ⌝ }
+{
+    block_sum(s) == word(s, 63)
+}
+
+fn write_from(out: &mut [u8], from: usize, w: u64)
+    requires { ⌜ from + 8 ≤ length (now out) ⌝ }
+    ensures { λ _. ⌜ now (out .exit) ≡ put (now (out .entry)) from (bytes w) ⌝ }
+{
+    out[from] = (w % 256) as u8;
+    out[from + 1] = (w / 256 % 256) as u8;
+    out[from + 2] = (w / 65536 % 256) as u8;
+    out[from + 3] = (w / 16777216 % 256) as u8;
+    out[from + 4] = (w / 4294967296 % 256) as u8;
+    out[from + 5] = (w / 1099511627776 % 256) as u8;
+    out[from + 6] = (w / 281474976710656 % 256) as u8;
+    out[from + 7] = (w / 72057594037927936 % 256) as u8;
+}
+
+fn store_word(out: &mut [u8], k: usize, w: u64)
+    requires { ⌜ 8 * k + 8 ≤ length (now out) ⌝ }
+    ensures { λ _. ⌜ now (out .exit) ≡ put (now (out .entry)) (8 * k) (bytes w) ⌝ }
+{
+    write_from(out, 8 * k, w);
+}
+
+// Word k of a slice is written; where the slice is too short, nothing.
+pub fn write_word(out: &mut [u8], k: usize, w: u64)
+    ensures { λ _. ⌜ now (out .exit) ≡ written (now (out .entry)) (8 * k) (bytes w) ⌝ }
+{
+    if k < out.len() / 8 {
+        store_word(out, k, w);
+    }
+}
+
+fn store_block(out: &mut [u8], ws: &[u64; 64])
+    requires { ⌜ 512 ≤ length (now out) ⌝ }
+    ensures { λ _. ⌜ now (out .exit) ≡ blockBytes (wordAt (now (ws .entry))) ++ drop 512 (now (out .entry)) ⌝ }
+{
+    let mut sum: u64 = 0;
+    for k in 0usize..63 {
+        let w = ws[k];
+        store_word(out, k, w);
+        sum = std::num::wrapping_add_u64(sum, w);
+    }
+    store_word(out, 63, sum);
+}
+
+fn store_at(out: &mut [u8], b: usize, ws: &[u64; 64])
+    requires { ⌜ 512 * b + 512 ≤ length (now out) ⌝ }
+    ensures { λ _. ⌜ now (out .exit) ≡ put (now (out .entry)) (512 * b) (blockBytes (wordAt (now (ws .entry)))) ⌝ }
+{
+    let from = 512 * b;
+    store_block(&mut out[from..], ws);
+}
+
+// Block b of a slice is written: words 0 to 62 of `ws` and their sum. Where the slice is too short, nothing.
+pub fn write_at(out: &mut [u8], b: usize, ws: &[u64; 64])
+    ensures { λ _. ⌜ now (out .exit) ≡ written (now (out .entry)) (512 * b) (blockBytes (wordAt (now (ws .entry)))) ⌝ }
+{
+    if b < out.len() / 512 {
+        store_at(out, b, ws);
+    }
+}
+
+// The first block of a slice is written, as by `write_at`.
+pub fn write_block(out: &mut [u8], ws: &[u64; 64])
+    ensures { λ _. ⌜ now (out .exit) ≡ written (now (out .entry)) 0 (blockBytes (wordAt (now (ws .entry)))) ⌝ }
+{
+    write_at(out, 0, ws);
+}

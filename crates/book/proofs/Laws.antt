@@ -1,0 +1,85 @@
+-- Laws of questions in a row and of the places of pairs. Assumes nothing.
+use mathlib.Core.Path.{_≡_, refl, sym, _∙_}
+use mathlib.Core.Bool.{Bool, true, false, not, _&&_, true≢false}
+use Prim.Native.Nat.{ℕ, zero, suc, _+_, _≤_, _<_, _-_, _*_}
+use native.Mathlib.Numerals.{add-one}
+use native.Mathlib.Omega.{arith}
+use borrow.Author.Tests.{leb-true, eq-eqb, ne-eqb}
+use lib.Dec.{eqb, ltb, leb}
+use Rattle.floats.specs.Fold.{allTo}
+use Rattle.floats.specs.Outcome.{Out, ok, no, need}
+use Rattle.floats.proofs.Folds.{all-at}
+use Rattle.book.specs.declared.Opened.{Opened}
+use Rattle.book.specs.declared.Opened.the-variants.{Book, No}
+use Rattle.book.specs.Places.{pairCount, blockCount, rowFrom, pairPlace}
+use Rattle.book.specs.Book.{headRight, openedOf}
+
+pub opened-ok : (o : Out ℕ) {n : ℕ} → Book n ≡ openedOf o → o ≡ ok n
+unfolding openedOf
+opened-ok (ok m) e = cc
+opened-ok (no r) e = let z : _≡_ {A = ℕ} 0 1 = cc in absurd (omega arith)
+
+pub opened-no : (o : Out ℕ) {r : ℕ} → No r ≡ openedOf o → o ≡ no r
+unfolding openedOf
+opened-no (ok m) e = let z : _≡_ {A = ℕ} 0 1 = cc in absurd (omega arith)
+opened-no (no r) e = cc
+
+-- a question that is answered no, and one that is answered yes
+pub says-no : (r : ℕ) (o : Out ℕ) {b : Bool} → b ≡ false → No r ≡ openedOf (need b r o)
+unfolding need openedOf
+says-no r o e = rw e
+
+pub says-yes : (r : ℕ) (o : Out ℕ) {b : Bool} {x : Opened} → b ≡ true → x ≡ openedOf o → x ≡ openedOf (need b r o)
+unfolding need
+says-yes r o e h = rw e h
+
+-- the rows of pairs end where the book does, and a count of pairs is small: at n up to 8 antt computes it
+fitting : ℕ → ℕ → Bool
+fitting n i = leb (rowFrom n i) (blockCount n)
+
+pub row-fits : (n i : ℕ) → n ≤ 8 → i ≤ n → rowFrom n i ≤ blockCount n
+unfolding fitting allTo rowFrom
+row-fits n i a b = leb-true (rowFrom n i) (blockCount n) (all-at (fitting n) (suc n) i (omega arith) (all-at (λ m. allTo (fitting m) (suc m)) 9 n (omega arith) refl))
+
+pub few : (n : ℕ) → n ≤ 8 → n * (n - 1) ≤ 56
+unfolding allTo
+few n a = leb-true (n * (n - 1)) 56 (all-at (λ m. leb (m * (m - 1)) 56) 9 n (omega arith) refl)
+
+pub row-next : (n i : ℕ) → rowFrom n (i + 1) ≡ rowFrom n i + (n - i - 1)
+unfolding rowFrom
+row-next n i = rw add-one
+
+-- the pairs stand behind the solvents
+pub row-above : (n i : ℕ) → n < rowFrom n i
+unfolding rowFrom
+row-above n zero = omega arith
+row-above n (suc i) = omega (arith, row-above n i)
+
+-- a pair's block stands behind the solvents and in the book
+pub place-above : (n i j : ℕ) → n < pairPlace n i j
+unfolding pairPlace
+place-above n i j = omega (arith, row-above n i)
+
+pub place-within : (n i j : ℕ) → n ≤ 8 → i < j → j < n → pairPlace n i j < blockCount n
+unfolding pairPlace
+place-within n i j a h l = omega (arith, row-fits n (i + 1) a (omega arith), row-next n i)
+
+pub same : {a b x y : ℕ} → x ≡ a → y ≡ b → x ≡ y → not (eqb a b) ≡ false
+same {a} {b} p q e = rw (eq-eqb a b (sym p ∙ e ∙ q))
+
+pub other : {a b x y : ℕ} → x ≡ a → y ≡ b → (x ≡ y → ⊥) → not (eqb a b) ≡ true
+other {a} {b} p q f = rw (ne-eqb a b (λ e. f (p ∙ e ∙ sym q)))
+
+second : (a : Bool) {b : Bool} → a && b ≡ true → b ≡ true
+second true e = e
+second false e = absurd (true≢false (sym e))
+
+pub head-few : (w : ℕ → ℕ) → headRight w ≡ true → w 2 ≤ 8
+unfolding headRight
+head-few w h = leb-true (w 2) 8 (second (eqb (w 0) 1 && eqb (w 1) 1 && ltb 0 (w 2)) h)
+
+pub count-no : {count r n m : ℕ} → (count ≡ 1 + n + r → ⊥) → r ≡ pairCount n → n ≡ m → eqb count (blockCount m) ≡ false
+count-no {count} {r} {n} {m} f e q = ne-eqb count (blockCount m) (λ p. f (rw (e, q) p))
+
+pub count-yes : {count r n m : ℕ} → count ≡ 1 + n + r → r ≡ pairCount n → n ≡ m → eqb count (blockCount m) ≡ true
+count-yes {count} {r} {n} {m} p e q = eq-eqb count (blockCount m) (rw (e, q) at p)

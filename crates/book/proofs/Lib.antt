@@ -1,0 +1,5 @@
+-- Laws of the book, which callers cite. Assumes nothing.
+pub mod Bits
+pub mod Laws
+pub mod Accepted
+pub mod Unread

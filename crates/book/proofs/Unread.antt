@@ -1,0 +1,149 @@
+-- Words that are not named are never read: two books whose checks are right and that agree on the named words are opened alike. Assumes nothing.
+use mathlib.Core.Path.{_≡_, refl, ap}
+use mathlib.Core.List.{List}
+use mathlib.Core.Bool.{Bool, true, false, cond, not, _||_}
+use Prim.Native.Nat.{ℕ, _+_, _-_, _/_, _≤_, _<_}
+use native.Mathlib.Nat.{min-le-right}
+use native.Mathlib.Omega.{arith}
+use borrow.Author.Tests.{lt-ltb, le-leb, lt-leb, ne-eqb}
+use lib.Dec.{T, eqb, ltb}
+use lib.ListN.{length}
+use Rattle.blocks.specs.Words.{checkRight}
+use Rattle.floats.specs.Small.{isFinite, floatOf}
+use Rattle.floats.specs.Fold.{allTo}
+use Rattle.floats.proofs.Folds.{all-cong}
+use Rattle.book.proofs.Laws.{row-above}
+use Rattle.book.specs.Places.{words, pairCount, rowFrom}
+use Rattle.book.specs.Named.{pairNamed, named, Agree}
+use Rattle.book.specs.Book.{floatsFinite, headRight, solventRight, rangeRight, termCount, recordRight, recordsRight, casNew, pairRight, rowRight, boundsFinite, pairFinite, alphasEqual, pairsOf, solventsOf, headOf, bookOf}
+
+-- a block's tests read only its named words
+floats-same : (w v : ℕ → ℕ) (f n : ℕ) → ((k : ℕ) → k < n → w (f + k) ≡ v (f + k)) → floatsFinite w f n ≡ floatsFinite v f n
+unfolding floatsFinite
+floats-same w v f n e = all-cong n (λ k l. ap (λ (x : ℕ). isFinite (floatOf x)) (e k l))
+
+head-same : (w v : ℕ → ℕ) → ((k : ℕ) → k < 3 → w k ≡ v k) → headRight w ≡ headRight v
+unfolding headRight
+head-same w v e = rw (e 0 (omega arith), e 1 (omega arith), e 2 (omega arith))
+
+module _ (w v : ℕ → ℕ) (e : (k : ℕ) → k < 45 → w k ≡ v k) where
+  solvent-same : (i : ℕ) → solventRight w i ≡ solventRight v i
+  unfolding solventRight
+  solvent-same i = rw (e 0 (omega arith), e 1 (omega arith), e 2 (omega arith), e 7 (omega arith), e 28 (omega arith))
+
+  range-same : (f : ℕ) → f ≤ 24 → rangeRight w f ≡ rangeRight v f
+  unfolding rangeRight
+  range-same f h = rw (e f (omega arith), e (f + 1) (omega arith), e (f + 2) (omega arith), e (f + 3) (omega arith))
+
+  record-same : (f : ℕ) → f ≤ 24 → recordRight w f ≡ recordRight v f
+  unfolding recordRight
+  record-same f h =
+      let c : w (f + 4) ≡ v (f + 4) = e (f + 4) (omega arith) in
+      let m : termCount v f ≤ 8 = min-le-right (v (f + 4)) 8 in
+      let a : floatsFinite w f 4 ≡ floatsFinite v f 4 = floats-same w v f 4 (λ k l. e (f + k) (omega arith)) in
+      let n : floatsFinite w (f + 5) (termCount v f) ≡ floatsFinite v (f + 5) (termCount v f) = floats-same w v (f + 5) (termCount v f) (λ k l. e (f + 5 + k) (omega arith)) in
+      let t : floatsFinite w (f + 13) (termCount v f) ≡ floatsFinite v (f + 13) (termCount v f) = floats-same w v (f + 13) (termCount v f) (λ k l. e (f + 13 + k) (omega arith)) in
+      rw (c, a, n, t, range-same f h)
+
+  records-same : recordsRight w ≡ recordsRight v
+  unfolding recordsRight
+  records-same = rw (record-same 3 (omega arith), record-same 24 (omega arith))
+
+-- two pair blocks that agree on their named words
+pub record PairAgrees (w v : ℕ → ℕ) : Type 0 where
+  pub low : (k : ℕ) → k < 16 → w k ≡ v k
+  pub inferred : w 18 ≡ v 18
+  pub flagged : eqb (w 15) 0 ≡ false → (k : ℕ) → k < 19 → w k ≡ v k
+
+module _ (w v : ℕ → ℕ) (e : PairAgrees w v) where
+  pair-same : (i j : ℕ) → pairRight w i j ≡ pairRight v i j
+  unfolding pairRight
+  pair-same i j = rw (e .low 0 (omega arith), e .low 1 (omega arith), e .low 2 (omega arith), e .low 15 (omega arith), e .inferred)
+
+  bounds-same : boundsFinite w ≡ boundsFinite v
+  unfolding boundsFinite
+  bounds-same = pick (eqb (w 15) 0) refl
+    where
+      pick : (b : Bool) → eqb (w 15) 0 ≡ b → cond (eqb (w 15) 0) true (floatsFinite w 16 2) ≡ cond (eqb (v 15) 0) true (floatsFinite v 16 2)
+      pick true q = rw (← e .low 15 (omega arith), q)
+      pick false q = rw (← e .low 15 (omega arith), q) (floats-same w v 16 2 (λ k l. e .flagged q (16 + k) (omega arith)))
+
+  finite-same : pairFinite w ≡ pairFinite v
+  unfolding pairFinite
+  finite-same = rw (floats-same w v 3 12 (λ k l. e .low (3 + k) (omega arith)), bounds-same)
+
+  alphas-same : alphasEqual w ≡ alphasEqual v
+  unfolding alphasEqual
+  alphas-same = rw (e .low 11 (omega arith), e .low 12 (omega arith), e .low 13 (omega arith), e .low 14 (omega arith))
+
+-- the named words of the three kinds of block
+pair-low : (b : Bool) (k : ℕ) → k < 16 → T (cond b (ltb k 16 || eqb k 18) (ltb k 19))
+pair-low true k h = rw (lt-ltb k 16 h) tt
+pair-low false k h = let l : k < 19 = omega arith in rw (lt-ltb k 19 l) tt
+
+pair-inferred : (b : Bool) → T (cond b (ltb 18 16 || eqb 18 18) (ltb 18 19))
+pair-inferred true = tt
+pair-inferred false = tt
+
+module _ (w : ℕ → ℕ → ℕ) (n : ℕ) where
+  head-named : (k : ℕ) → k < 3 → T (named w n 0 k)
+  unfolding named
+  head-named k h = rw (lt-ltb k 3 h) tt
+
+  solvent-named : (i k : ℕ) → i < n → k < 45 → T (named w n (i + 1) k)
+  unfolding named
+  solvent-named i k l h =
+      let a : i + 1 ≤ n = omega arith in
+      rw (ne-eqb (i + 1) 0 (λ (z : i + 1 ≡ 0). omega arith), le-leb (i + 1) n a, lt-ltb k 45 h) tt
+
+  pair-named : (j k : ℕ) → n < j → T (pairNamed (w j 15) k) → T (named w n j k)
+  unfolding named
+  pair-named j k l h = rw (ne-eqb j 0 (λ (z : j ≡ 0). omega arith), lt-leb j n l) h
+
+module _ (s t : List ℕ) (a : Agree s t) where
+  pub head-agrees : (k : ℕ) → k < 3 → words s 0 k ≡ words t 0 k
+  head-agrees k h = a .same 0 k (head-named (words s) (words s 0 2) k h)
+
+  pub solvent-agrees : (i : ℕ) → i < words s 0 2 → (k : ℕ) → k < 45 → words s (i + 1) k ≡ words t (i + 1) k
+  solvent-agrees i l k h = a .same (i + 1) k (solvent-named (words s) (words s 0 2) i k l h)
+
+  pub pair-agrees : (j : ℕ) → words s 0 2 < j → PairAgrees (words s j) (words t j)
+  unfolding pairNamed
+  pair-agrees j l =
+      let f = words s j 15 in
+      let e : (k : ℕ) → T (pairNamed f k) → words s j k ≡ words t j k = λ k h. a .same j k (pair-named (words s) (words s 0 2) j k l h) in
+      record {
+        low = λ k h. e k (pair-low (eqb f 0) k h);
+        inferred = e 18 (pair-inferred (eqb f 0));
+        flagged = λ q k h. e k (rw (q, lt-ltb k 19 h) tt);
+      }
+
+module _ (s t : List ℕ) (a : Agree s t) where
+  pairs-same : pairsOf (words s) (words s 0 2) ≡ pairsOf (words t) (words s 0 2)
+  unfolding pairsOf rowRight
+  pairs-same =
+      let n = words s 0 2 in
+      let q7 = all-cong n (λ i l. all-cong (n - i - 1) (λ d m. pair-same _ _ (pair-agrees s t a (rowFrom n i + d) (omega (arith, row-above n i))) i (i + 1 + d))) in
+      let q8 = all-cong (pairCount n) (λ d m. finite-same _ _ (pair-agrees s t a (1 + n + d) (omega arith))) in
+      let q9 = all-cong (pairCount n) (λ d m. alphas-same _ _ (pair-agrees s t a (1 + n + d) (omega arith))) in
+      rw (q7, q8, q9)
+
+  solvents-same : solventsOf (words s) (words s 0 2) ≡ solventsOf (words t) (words s 0 2)
+  unfolding solventsOf casNew
+  solvents-same =
+      let n = words s 0 2 in
+      let q4 = all-cong n (λ i l. solvent-same (words s (i + 1)) (words t (i + 1)) (solvent-agrees s t a i l) i) in
+      let q5 = all-cong n (λ i l. records-same (words s (i + 1)) (words t (i + 1)) (solvent-agrees s t a i l)) in
+      let q6 = all-cong n (λ i l. all-cong i (λ j m. cas-same (solvent-agrees s t a j (omega arith) 2 (omega arith)) (solvent-agrees s t a i l 2 (omega arith)))) in
+      rw (q4, q5, q6, pairs-same)
+    where
+      cas-same : {a b c d : ℕ} → a ≡ b → c ≡ d → not (eqb a c) ≡ not (eqb b d)
+      cas-same p q = rw (p, q)
+
+  -- the checks of both are right: then the same is answered
+  pub book-unread : allTo (λ k. checkRight (words s k)) (length s / 512) ≡ true → allTo (λ k. checkRight (words t k)) (length t / 512) ≡ true → bookOf s ≡ bookOf t
+  unfolding bookOf headOf
+  book-unread p q =
+      let h = head-same (words s 0) (words t 0) (head-agrees s t a) in
+      let n = head-agrees s t a 2 (omega arith) in
+      rw (p, q, h, solvents-same, a .size, n)

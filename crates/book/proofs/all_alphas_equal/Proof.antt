@@ -1,0 +1,62 @@
+-- `book::all_alphas_equal` meets its contract. A scan: the invariant is that every index passed its test; a test that fails makes the whole false. Assumes nothing.
+use mathlib.Core.Bool.{true}
+use mathlib.Core.Path.{_≡_, refl, sym}
+use Prim.Native.Nat.{_≤_, _-_, _+_}
+use native.Mathlib.Omega.{arith}
+use borrow.Author.Needs.{needs}
+use Rattle.floats.proofs.Folds.{was-no, was-yes, all-turn, all-fails, all-end}
+use Rattle.floats.specs.Fold.{allTo}
+use Rattle.book.specs.Book.{alphasEqual}
+use Rattle.book.specs.Places.{words}
+use Rattle.book.proofs.all_alphas_equal.Statement.{statement}
+use Rattle.book.proofs.all_alphas_equal.Tie as tie
+
+abbrev Inv-loop : tie.InvT-loop
+Inv-loop book from count d₀ d = (d ≤ count) × (allTo (λ k. alphasEqual (words book (from + k))) d ≡ true)
+
+abbrev μ-loop : tie.MeasureT-loop
+μ-loop book from count d₀ d = count - d
+
+loop-holds : tie.Need-loop-holds Inv-loop μ-loop
+unfolding allTo
+loop-holds c = (omega arith, refl)
+
+add-whole-block : tie.Need-add-whole-block Inv-loop μ-loop
+add-whole-block c = omega arith
+
+whole-block-requires : tie.Need-whole-block-requires Inv-loop μ-loop
+whole-block-requires c κs = omega arith
+
+alphas-equal-requires : tie.Need-alphas-equal-requires Inv-loop μ-loop
+alphas-equal-requires c κs = search needs
+
+returns : tie.Need-returns Inv-loop μ-loop
+returns c = sym (all-fails _ _ _ (c .before .before .before .loop-test .taken) (was-no (c .if1 .taken) (rw (c .before .before .whole-block .ensures .0) at (c .before .alphas-equal .ensures))))
+
+add-d : tie.Need-add-d Inv-loop μ-loop
+add-d c = omega arith
+
+loop-less : tie.Need-loop-less Inv-loop μ-loop
+loop-less c = omega arith
+
+loop-again : tie.Need-loop-again Inv-loop μ-loop
+loop-again c = (omega arith, all-turn _ _ (c .before .before .before .before .loop .inv .1) (was-yes (c .if1 .left) (rw (c .before .before .whole-block .ensures .0) at (c .before .alphas-equal .ensures))))
+
+returns-2 : tie.Need-returns-2 Inv-loop μ-loop
+returns-2 c = all-end _ _ _ (c .before .loop .inv .0) (c .loop-test .left) (c .before .loop .inv .1)
+
+pub all-alphas-equal-spec : {M : Type 1} → statement M
+all-alphas-equal-spec =
+    tie.close
+    (tie.spec
+    Inv-loop
+    μ-loop
+    loop-holds
+    add-whole-block
+    whole-block-requires
+    alphas-equal-requires
+    returns
+    add-d
+    loop-less
+    loop-again
+    returns-2)

@@ -1,0 +1,373 @@
+// The book: questions 1 to 9.
+ghost use mathlib.Core.Path.{_≡_};
+ghost use Prim.Native.Nat.{_≤_, _<_, _+_, _*_, _-_};
+ghost use lib.ListN.{length};
+ghost use Rattle.blocks.specs.Words.{word, block, checkRight};
+ghost use Rattle.floats.specs.Small.{isFinite, floatOf};
+ghost use Rattle.floats.specs.Fold.{allTo};
+ghost use Rattle.book.specs.Places.{words, pairCount, blockCount, rowFrom};
+ghost use Rattle.book.specs.Book.{float, floatsFinite, headRight, solventRight, rangeRight, recordRight, recordsRight, casNew, pairRight, rowRight, boundsFinite, pairFinite, alphasEqual, pairsOf, solventsOf, headOf, bookOf, openedOf};
+
+// A book that passed, with its number of solvents, or the number of the question that was answered no.
+pub enum Opened {
+    Book(usize),
+    No(u64),
+}
+
+// A block that is there: its 512 bytes of the caller's own slice.
+fn whole_block(book: &[u8], k: usize) -> &[u8]
+    requires { ⌜ 512 * k + 512 ≤ length (now book) ⌝ }
+    ensures { λ r. ⌜ (now r ≡ block (now (book .entry)) k) × (length (now r) ≡ 512) ⌝ }
+{
+    let from = 512 * k;
+    let to = from + 512;
+    &book[from..to]
+}
+
+// A word of a whole block, read with no test for the slice's end.
+fn word(s: &[u8], k: usize) -> u64
+    requires { ⌜ (length (now s) ≡ 512) × (k < 64) ⌝ }
+    ensures { λ r. ⌜ r ≡ word (now (s .entry)) k ⌝ }
+{
+    let at = 8 * k;
+    blocks::word_of(
+        s[at],
+        s[at + 1],
+        s[at + 2],
+        s[at + 3],
+        s[at + 4],
+        s[at + 5],
+        s[at + 6],
+        s[at + 7],
+    )
+}
+
+fn float_at(s: &[u8], k: usize) -> f64
+    requires { ⌜ (length (now s) ≡ 512) × (k < 64) ⌝ }
+    ensures { λ r. ⌜ r ≡ float (word (now (s .entry))) k ⌝ }
+{
+    floats::float_of(word(s, k))
+}
+
+// Of a float by its bits: neither infinite nor a NaN.
+fn finite(bits: u64) -> bool
+    ensures { λ r. ⌜ r ≡ isFinite (floatOf bits) ⌝ }
+{
+    bits % 0x8000000000000000 < 0x7ff0000000000000
+}
+
+// No early way out: so the loop over a known count is unrolled.
+fn floats_finite(s: &[u8], from: usize, count: usize) -> bool
+    requires { ⌜ (length (now s) ≡ 512) × (from + count ≤ 64) ⌝ }
+    ensures { λ r. ⌜ r ≡ floatsFinite (word (now (s .entry))) from count ⌝ }
+{
+    let mut right = true;
+    for k in 0..count {
+        right = right & finite(word(s, from + k));
+    }
+    right
+}
+
+fn checks_right(book: &[u8], count: usize) -> bool
+    ensures { λ r. ⌜ r ≡ allTo (λ k. checkRight (words (now (book .entry)) k)) count ⌝ }
+{
+    let mut k = 0;
+    while k < count {
+        if !blocks::check_right(blocks::block(book, k)) {
+            return false;
+        }
+        k += 1;
+    }
+    true
+}
+
+fn head_right(s: &[u8]) -> bool
+    requires { ⌜ length (now s) ≡ 512 ⌝ }
+    ensures { λ r. ⌜ r ≡ headRight (word (now (s .entry))) ⌝ }
+{
+    let n = word(s, 2);
+    (word(s, 0) == 1) & (word(s, 1) == 1) & (0 < n) & (n <= 8)
+}
+
+fn pair_count(n: usize) -> usize
+    requires { ⌜ n ≤ 8 ⌝ }
+    ensures { λ r. ⌜ (r ≡ pairCount n) × (r ≤ 28) ⌝ }
+{
+    if n == 0 {
+        return 0;
+    }
+    n * (n - 1) / 2
+}
+
+// Kind 2, its own index, a CAS number, term counts 1 to 8.
+fn solvent_right(s: &[u8], i: u64) -> bool
+    requires { ⌜ length (now s) ≡ 512 ⌝ }
+    ensures { λ r. ⌜ r ≡ solventRight (word (now (s .entry))) i ⌝ }
+{
+    let terms = word(s, 7);
+    let more = word(s, 28);
+    (word(s, 0) == 2)
+        & (word(s, 1) == i)
+        & (word(s, 2) != 0)
+        & (0 < terms)
+        & (terms <= 8)
+        & (0 < more)
+        & (more <= 8)
+}
+
+fn solvents_right(book: &[u8], n: usize) -> bool
+    requires { ⌜ 512 * n + 512 ≤ length (now book) ⌝ }
+    ensures { λ r. ⌜ r ≡ allTo (λ i. solventRight (words (now (book .entry)) (i + 1)) i) n ⌝ }
+{
+    let mut i = 0;
+    while i < n {
+        if !solvent_right(whole_block(book, i + 1), i as u64) {
+            return false;
+        }
+        i += 1;
+    }
+    true
+}
+
+// 0 < low ≤ high < t_r (K), the reducing value positive.
+fn range_right(s: &[u8], f: usize) -> bool
+    requires { ⌜ (length (now s) ≡ 512) × (f ≤ 24) ⌝ }
+    ensures { λ r. ⌜ r ≡ rangeRight (word (now (s .entry))) f ⌝ }
+{
+    let t_r = float_at(s, f);
+    let reducing_value = float_at(s, f + 1);
+    let low = float_at(s, f + 2);
+    let high = float_at(s, f + 3);
+    (0.0 < low) & (low <= high) & (high < t_r) & (0.0 < reducing_value)
+}
+
+// The record from word f on.
+fn record_right(s: &[u8], f: usize) -> bool
+    requires { ⌜ (length (now s) ≡ 512) × (f ≤ 24) ⌝ }
+    ensures { λ r. ⌜ r ≡ recordRight (word (now (s .entry))) f ⌝ }
+{
+    let count = floats::places(word(s, f + 4) as usize);
+    floats_finite(s, f, 4)
+        & floats_finite(s, f + 5, count)
+        & floats_finite(s, f + 13, count)
+        & range_right(s, f)
+}
+
+// Vapor pressure and liquid density.
+fn records_right(s: &[u8]) -> bool
+    requires { ⌜ length (now s) ≡ 512 ⌝ }
+    ensures { λ r. ⌜ r ≡ recordsRight (word (now (s .entry))) ⌝ }
+{
+    record_right(s, 3) & record_right(s, 24)
+}
+
+fn all_records_right(book: &[u8], n: usize) -> bool
+    requires { ⌜ 512 * n + 512 ≤ length (now book) ⌝ }
+    ensures { λ r. ⌜ r ≡ allTo (λ i. recordsRight (words (now (book .entry)) (i + 1))) n ⌝ }
+{
+    let mut i = 0;
+    while i < n {
+        if !records_right(whole_block(book, i + 1)) {
+            return false;
+        }
+        i += 1;
+    }
+    true
+}
+
+fn cas(book: &[u8], i: usize) -> u64
+    requires { ⌜ 512 * i + 1024 ≤ length (now book) ⌝ }
+    ensures { λ r. ⌜ r ≡ words (now (book .entry)) (i + 1) 2 ⌝ }
+{
+    word(whole_block(book, i + 1), 2)
+}
+
+fn cas_new(book: &[u8], i: usize) -> bool
+    requires { ⌜ 512 * i + 1024 ≤ length (now book) ⌝ }
+    ensures { λ r. ⌜ r ≡ casNew (words (now (book .entry))) i ⌝ }
+{
+    let own = cas(book, i);
+    let mut j = 0;
+    while j < i {
+        if cas(book, j) == own {
+            return false;
+        }
+        j += 1;
+    }
+    true
+}
+
+fn cas_distinct(book: &[u8], n: usize) -> bool
+    requires { ⌜ 512 * n + 512 ≤ length (now book) ⌝ }
+    ensures { λ r. ⌜ r ≡ allTo (casNew (words (now (book .entry)))) n ⌝ }
+{
+    let mut i = 0;
+    while i < n {
+        if !cas_new(book, i) {
+            return false;
+        }
+        i += 1;
+    }
+    true
+}
+
+// Kind 3, due i and j, flags 0 or 1.
+fn pair_right(s: &[u8], i: u64, j: u64) -> bool
+    requires { ⌜ length (now s) ≡ 512 ⌝ }
+    ensures { λ r. ⌜ r ≡ pairRight (word (now (s .entry))) i j ⌝ }
+{
+    (word(s, 0) == 3)
+        & (word(s, 1) == i)
+        & (word(s, 2) == j)
+        & (word(s, 15) <= 1)
+        & (word(s, 18) <= 1)
+}
+
+fn row_right(book: &[u8], i: usize, from: usize, count: usize) -> bool
+    requires { ⌜ (512 * (from + count) ≤ length (now book)) × (i + count ≤ 8) ⌝ }
+    ensures { λ r. ⌜ r ≡ rowRight (words (now (book .entry))) i from count ⌝ }
+{
+    let mut d = 0;
+    while d < count {
+        if !pair_right(whole_block(book, from + d), i as u64, (i + 1 + d) as u64) {
+            return false;
+        }
+        d += 1;
+    }
+    true
+}
+
+fn pairs_right(book: &[u8], n: usize) -> bool
+    requires { ⌜ (n ≤ 8) × (512 * blockCount n ≤ length (now book)) ⌝ }
+    ensures { λ r. ⌜ r ≡ allTo (λ i. rowRight (words (now (book .entry))) i (rowFrom n i) (n - i - 1)) n ⌝ }
+{
+    let mut i = 0;
+    let mut from = 1 + n;
+    while i < n {
+        let count = n - i - 1;
+        if !row_right(book, i, from, count) {
+            return false;
+        }
+        from += count;
+        i += 1;
+    }
+    true
+}
+
+// The bounds of an interval are read only if it is flagged.
+fn bounds_finite(s: &[u8]) -> bool
+    requires { ⌜ length (now s) ≡ 512 ⌝ }
+    ensures { λ r. ⌜ r ≡ boundsFinite (word (now (s .entry))) ⌝ }
+{
+    if word(s, 15) == 0 {
+        return true;
+    }
+    floats_finite(s, 16, 2)
+}
+
+fn pair_finite(s: &[u8]) -> bool
+    requires { ⌜ length (now s) ≡ 512 ⌝ }
+    ensures { λ r. ⌜ r ≡ pairFinite (word (now (s .entry))) ⌝ }
+{
+    floats_finite(s, 3, 12) & bounds_finite(s)
+}
+
+fn pairs_finite(book: &[u8], from: usize, count: usize) -> bool
+    requires { ⌜ 512 * (from + count) ≤ length (now book) ⌝ }
+    ensures { λ r. ⌜ r ≡ allTo (λ d. pairFinite (words (now (book .entry)) (from + d))) count ⌝ }
+{
+    let mut d = 0;
+    while d < count {
+        if !pair_finite(whole_block(book, from + d)) {
+            return false;
+        }
+        d += 1;
+    }
+    true
+}
+
+fn alphas_equal(s: &[u8]) -> bool
+    requires { ⌜ length (now s) ≡ 512 ⌝ }
+    ensures { λ r. ⌜ r ≡ alphasEqual (word (now (s .entry))) ⌝ }
+{
+    (float_at(s, 11) == float_at(s, 13)) & (float_at(s, 12) == float_at(s, 14))
+}
+
+fn all_alphas_equal(book: &[u8], from: usize, count: usize) -> bool
+    requires { ⌜ 512 * (from + count) ≤ length (now book) ⌝ }
+    ensures { λ r. ⌜ r ≡ allTo (λ d. alphasEqual (words (now (book .entry)) (from + d))) count ⌝ }
+{
+    let mut d = 0;
+    while d < count {
+        if !alphas_equal(whole_block(book, from + d)) {
+            return false;
+        }
+        d += 1;
+    }
+    true
+}
+
+fn open_pairs(book: &[u8], n: usize) -> Opened
+    requires { ⌜ (n ≤ 8) × (512 * blockCount n ≤ length (now book)) ⌝ }
+    ensures { λ r. ⌜ r ≡ openedOf (pairsOf (words (now (book .entry))) n) ⌝ }
+{
+    if !pairs_right(book, n) {
+        return Opened::No(7);
+    }
+    let count = pair_count(n);
+    if !pairs_finite(book, 1 + n, count) {
+        return Opened::No(8);
+    }
+    if !all_alphas_equal(book, 1 + n, count) {
+        return Opened::No(9);
+    }
+    Opened::Book(n)
+}
+
+fn open_solvents(book: &[u8], n: usize) -> Opened
+    requires { ⌜ (n ≤ 8) × (512 * blockCount n ≤ length (now book)) ⌝ }
+    ensures { λ r. ⌜ r ≡ openedOf (solventsOf (words (now (book .entry))) n) ⌝ }
+{
+    if !solvents_right(book, n) {
+        return Opened::No(4);
+    }
+    if !all_records_right(book, n) {
+        return Opened::No(5);
+    }
+    if !cas_distinct(book, n) {
+        return Opened::No(6);
+    }
+    open_pairs(book, n)
+}
+
+fn open_head(book: &[u8], count: usize) -> Opened
+    requires { ⌜ (0 < count) × (512 * count ≤ length (now book)) ⌝ }
+    ensures { λ r. ⌜ r ≡ openedOf (headOf (words (now (book .entry))) count) ⌝ }
+{
+    let head = whole_block(book, 0);
+    if !head_right(head) {
+        return Opened::No(3);
+    }
+    let n = word(head, 2) as usize;
+    if count != 1 + n + pair_count(n) {
+        return Opened::No(3);
+    }
+    open_solvents(book, n)
+}
+
+// Questions 1 to 9: the number of solvents, or the number of the first question that is answered no.
+pub fn open_book(book: &[u8]) -> Opened
+    ensures { λ r. ⌜ r ≡ openedOf (bookOf (now (book .entry))) ⌝ }
+{
+    if book.len() % 512 != 0 {
+        return Opened::No(1);
+    }
+    if book.len() == 0 {
+        return Opened::No(1);
+    }
+    let count = book.len() / 512;
+    if !checks_right(book, count) {
+        return Opened::No(2);
+    }
+    open_head(book, count)
+}

@@ -1,0 +1,2 @@
+-- The definitions that jet's contracts cite. Assumes nothing.
+pub mod Jets

@@ -1,0 +1,2 @@
+-- What the contracts of liquid cite. Assumes nothing.
+pub mod Vapor

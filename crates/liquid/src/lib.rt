@@ -1,0 +1,129 @@
+// Vapor pressure of a pure liquid (liquid.rs), from the solvent's record: p = p_r exp((T_r/T) Σ n_k θ^t_k), θ = 1 − T/T_r.
+ghost use mathlib.Core.Path.{_≡_};
+ghost use Prim.Native.Nat.{_≤_};
+ghost use Rattle.floats.specs.Arithmetic.{_⊗_};
+ghost use Rattle.numerics.specs.Numerics.{expOf};
+ghost use Rattle.liquid.specs.Vapor.{inRange, term, slopeTerm, curvatureTerm, sumsOf, vaporOf, vaporFrom, representable, vaporPressureOf, vaporAnswer, vapor};
+ghost use Rattle.floats.specs.Outcome.{no};
+use records::Ancillary;
+use thermo_types::Temperature;
+use thermo_types::Verdict;
+
+// p in Pa, ln p, d ln p/dT in 1/K, d² ln p/dT² in 1/K²; zeros where the verdict is a refusal.
+pub struct VaporPressure {
+    pub verdict: Verdict,
+    pub pressure: f64,
+    pub ln_pressure: f64,
+    pub d_ln_pressure_dt: f64,
+    pub d2_ln_pressure_dt2: f64,
+}
+
+// S = Σ n_k θ^t_k and its first two derivatives by T.
+pub struct Sums {
+    pub s: f64,
+    pub ds: f64,
+    pub d2s: f64,
+}
+
+// T in a closed range, K.
+pub fn in_range(low: f64, high: f64, t: f64) -> bool
+    ensures { λ r. ⌜ r ≡ inRange low high t ⌝ }
+{
+    (low <= t) & (t <= high)
+}
+
+// θ^e is exp(e ln θ), so that ln θ is worked out once.
+fn power(ln_theta: f64, e: f64) -> f64
+    ensures { λ r. ⌜ r ≡ expOf (e ⊗ «ln_theta») ⌝ }
+{
+    numerics::exp(e * ln_theta)
+}
+
+fn sum_terms(n: &[f64; 8], e: &[f64; 8], t_r: f64, theta: f64, count: usize) -> Sums
+    requires { ⌜ count ≤ 8 ⌝ }
+    ensures { λ r. ⌜ r ≡ sumsOf (now (n .entry)) (now (e .entry)) «t_r» theta count ⌝ }
+{
+    let l = numerics::ln(theta);
+    let mut s = 0.0;
+    let mut ds = 0.0;
+    let mut d2s = 0.0;
+    for k in 0..count {
+        let n_k = n[k];
+        let e_k = e[k];
+        s = s + n_k * power(l, e_k);
+        ds = ds + -n_k * e_k * power(l, e_k - 1.0) / t_r;
+        d2s = d2s + n_k * e_k * (e_k - 1.0) * power(l, e_k - 2.0) / (t_r * t_r);
+    }
+    Sums {
+        s: s,
+        ds: ds,
+        d2s: d2s,
+    }
+}
+
+fn refused(number: u64) -> VaporPressure
+    ensures { λ r. ⌜ r ≡ vaporAnswer (no number) ⌝ }
+{
+    VaporPressure {
+        verdict: Verdict::Refused(number),
+        pressure: 0.0,
+        ln_pressure: 0.0,
+        d_ln_pressure_dt: 0.0,
+        d2_ln_pressure_dt2: 0.0,
+    }
+}
+
+// All four finite and the pressure positive, else 25.
+fn tested(pressure: f64, ln_p: f64, d1: f64, d2: f64) -> VaporPressure
+    ensures { λ r. ⌜ r ≡ vaporAnswer (representable (vapor pressure «ln_p» d1 d2)) ⌝ }
+{
+    let finite = floats::is_finite(pressure)
+        & floats::is_finite(ln_p)
+        & floats::is_finite(d1)
+        & floats::is_finite(d2);
+    if !finite {
+        return refused(25);
+    }
+    if pressure <= 0.0 {
+        return refused(25);
+    }
+    VaporPressure {
+        verdict: Verdict::Passed,
+        pressure: pressure,
+        ln_pressure: ln_p,
+        d_ln_pressure_dt: d1,
+        d2_ln_pressure_dt2: d2,
+    }
+}
+
+fn from_sums(t_r: f64, reducing_value: f64, t: f64, sums: Sums) -> VaporPressure
+    ensures { λ r. ⌜ r ≡ vaporAnswer (representable (vaporFrom «t_r» «reducing_value» t sums)) ⌝ }
+{
+    let s = sums.s;
+    let ds = sums.ds;
+    let q = t_r / t;
+    let dq = -t_r / (t * t);
+    let d2q = 2.0 * t_r / (t * t * t);
+    let ln_p = numerics::ln(reducing_value) + q * s;
+    tested(
+        numerics::exp(ln_p),
+        ln_p,
+        dq * s + q * ds,
+        d2q * s + 2.0 * dq * ds + q * sums.d2s,
+    )
+}
+
+// Outside the correlation's range: 22; not representable: 25.
+pub fn vapor_pressure(a: Ancillary, t: Temperature) -> VaporPressure
+    ensures { λ r. ⌜ r ≡ vaporAnswer (vaporPressureOf a (t .0)) ⌝ }
+{
+    let v = t.value();
+    if !in_range(a.low, a.high, v) {
+        return refused(22);
+    }
+    let t_r = a.t_r;
+    let n = a.n;
+    let e = a.t;
+    let s = sum_terms(&n, &e, t_r, 1.0 - v / t_r, floats::places(a.count));
+    from_sums(t_r, a.reducing_value, v, s)
+}

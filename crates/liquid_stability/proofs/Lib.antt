@@ -1,0 +1,2 @@
+-- Laws that callers of liquid_stability cite, and those of its own proofs. Assumes nothing.
+pub mod Laws

@@ -1,0 +1,6 @@
+-- Laws of the excess state. Assumes nothing.
+mod Turns
+mod Tests
+mod Whole
+pub mod Tabled
+pub mod Finite

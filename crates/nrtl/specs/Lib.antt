@@ -1,0 +1,6 @@
+-- The definitions that nrtl's contracts cite. Assumes nothing.
+pub mod Columns
+pub mod State
+pub mod On
+pub mod Answers
+pub mod Steps

@@ -1,0 +1,38 @@
+-- `rachford_rice::solution` meets its contract. Assumes nothing.
+use borrow.Author.Needs.{needs}
+use Rattle.rachford_rice.proofs.Laws.{solution-is}
+use Rattle.rachford_rice.proofs.solution.Statement.{statement}
+use Rattle.rachford_rice.proofs.solution.Tie as tie
+
+liquid-parts-requires : tie.Need-liquid-parts-requires
+liquid-parts-requires c κs = search needs
+
+vapor-parts-requires : tie.Need-vapor-parts-requires
+vapor-parts-requires c κs = search needs
+
+normalize-requires : tie.Need-normalize-requires
+normalize-requires c κs = search needs
+
+normalize-requires-2 : tie.Need-normalize-requires-2
+normalize-requires-2 c κs = search needs
+
+residual-requires : tie.Need-residual-requires
+residual-requires c κs = search needs
+
+abs-requires : tie.Need-abs-requires
+abs-requires c κs = search needs
+
+returns : tie.Need-returns
+returns c = solution-is _ _ _ (c .before .before .before .before .before .before .before .before .before .pre) _ (c .before .before .before .before .before .before .before .before .liquid-parts .ensures) (c .before .before .before .before .vapor-parts .ensures) _ (c .before .before .before .before .before .before .normalize .ensures) (c .before .before .normalize2 .ensures) (c .before .residual .ensures) (c .abs .ensures)
+
+pub solution-spec : {M : Type 1} → statement M
+solution-spec =
+    tie.close
+    (tie.spec
+    liquid-parts-requires
+    normalize-requires
+    vapor-parts-requires
+    normalize-requires-2
+    residual-requires
+    abs-requires
+    returns)

@@ -1,0 +1,5 @@
+-- Laws of the records, which callers cite. Assumes nothing.
+pub mod Rows
+pub mod Loads
+pub mod Entries
+pub mod Unread

@@ -1,0 +1,47 @@
+-- `records::fill_alpha` meets its contract. The invariant: the rows so far. Assumes nothing.
+use mathlib.Core.Path.{_≡_}
+use Prim.Native.Nat.{_≤_, _-_}
+use native.Mathlib.Omega.{arith}
+use borrow.Author.Needs.{needs}
+use Rattle.book.specs.Places.{words}
+use Rattle.records.proofs.Loads.{rows-holds, rows-turn, rows-done}
+use Rattle.records.specs.Tables.{alphaWord, tableRows}
+use Rattle.records.proofs.fill_alpha.Statement.{statement}
+use Rattle.records.proofs.fill_alpha.Tie as tie
+
+abbrev Inv-loop : tie.InvT-loop
+Inv-loop book n alpha₀ i₀ alpha i = (i ≤ n) × (alpha ≡ tableRows (alphaWord (words book) n) 2 n i)
+
+abbrev μ-loop : tie.MeasureT-loop
+μ-loop book n alpha₀ i₀ alpha i = n - i
+
+loop-holds : tie.Need-loop-holds Inv-loop μ-loop
+loop-holds c = (omega arith, rows-holds _ 2 _)
+
+fill-alpha-row-requires : tie.Need-fill-alpha-row-requires Inv-loop μ-loop
+fill-alpha-row-requires c κs = search needs
+
+add-i : tie.Need-add-i Inv-loop μ-loop
+add-i c = omega arith
+
+loop-less : tie.Need-loop-less Inv-loop μ-loop
+loop-less c = omega arith
+
+loop-again : tie.Need-loop-again Inv-loop μ-loop
+loop-again c = (omega arith, rows-turn _ 2 _ _ (c .fill-alpha-row .ensures) (c .before .before .before .loop .inv .1))
+
+returns : tie.Need-returns Inv-loop μ-loop
+returns c = rows-done _ 2 _ _ (omega arith) (c .before .loop .inv .1)
+
+pub fill-alpha-spec : {M : Type 1} → statement M
+fill-alpha-spec =
+    tie.close
+    (tie.spec
+    Inv-loop
+    μ-loop
+    loop-holds
+    fill-alpha-row-requires
+    add-i
+    loop-less
+    loop-again
+    returns)

@@ -1,0 +1,320 @@
+// The records that the models read from a book. Every reader is total: past the book's end a word is 0.
+ghost use mathlib.Core.Path.{_≡_};
+ghost use Prim.Native.Nat.{_≤_, _<_, _+_, _*_};
+ghost use lib.ListN.{set};
+ghost use Rattle.blocks.specs.Words.{word, block};
+ghost use Rattle.floats.specs.Vector.{vec, places};
+ghost use Rattle.book.specs.Places.{words, rowFrom, pairPlace};
+ghost use Rattle.book.specs.Book.{float};
+ghost use Rattle.records.specs.Records.{ancillaryOf, rangeOf, tauOf, alphaOf, regressionOf, pairOf, tauTerms, alphaTerms};
+ghost use Rattle.records.specs.Tables.{tauWord, alphaWord, tableRow, table};
+use blocks::word;
+
+// A correlation of document 003: t_r, low and high in K, the reducing value in Pa; the first `count` of n and t are its terms.
+pub struct Ancillary {
+    pub t_r: f64,
+    pub reducing_value: f64,
+    pub low: f64,
+    pub high: f64,
+    pub count: usize,
+    pub n: [f64; 8],
+    pub t: [f64; 8],
+}
+
+// The temperatures that a correlation holds between, in K.
+pub struct Range(pub f64, pub f64);
+
+// tau = t0 + t1 / T + t2 ln T + t3 T.
+pub struct TauTerms {
+    pub t0: f64,
+    pub t1: f64,
+    pub t2: f64,
+    pub t3: f64,
+}
+
+// alpha = a0 + a1 T.
+pub struct AlphaTerms {
+    pub a0: f64,
+    pub a1: f64,
+}
+
+// The temperatures that a pair was regressed between, in K, and whether they were inferred.
+pub enum Regression {
+    None,
+    Interval(f64, f64, bool),
+}
+
+pub struct Pair {
+    pub tau_ij: TauTerms,
+    pub tau_ji: TauTerms,
+    pub alpha: AlphaTerms,
+    pub regression: Regression,
+}
+
+fn float_at(s: &[u8], k: usize) -> f64
+    ensures { λ r. ⌜ r ≡ float (word (now (s .entry))) k ⌝ }
+{
+    floats::float_of(word(s, k))
+}
+
+fn eight_floats(s: &[u8], from: usize) -> [f64; 8]
+    requires { ⌜ from ≤ 56 ⌝ }
+    ensures { λ r. ⌜ r ≡ vec (λ k. float (word (now (s .entry))) (from + k)) 8 ⌝ }
+{
+    let mut x = [0.0; 8];
+    for k in 0usize..8 {
+        x[k] = float_at(s, from + k);
+    }
+    x
+}
+
+// Solvent i's block, which is block i + 1.
+fn solvent_block(book: &[u8], i: usize) -> &[u8]
+    ensures { λ r. ⌜ now r ≡ block (now (book .entry)) (i + 1) ⌝ }
+{
+    if i < book.len() {
+        return blocks::block(book, i + 1);
+    }
+    blocks::block(book, i)
+}
+
+fn ancillary_at(s: &[u8], f: usize) -> Ancillary
+    requires { ⌜ f ≤ 24 ⌝ }
+    ensures { λ r. ⌜ r ≡ ancillaryOf (word (now (s .entry))) f ⌝ }
+{
+    let count = floats::places(word(s, f + 4) as usize);
+    let n = eight_floats(s, f + 5);
+    let t = eight_floats(s, f + 13);
+    Ancillary {
+        t_r: float_at(s, f),
+        reducing_value: float_at(s, f + 1),
+        low: float_at(s, f + 2),
+        high: float_at(s, f + 3),
+        count: count,
+        n: n,
+        t: t,
+    }
+}
+
+fn range_at(s: &[u8], f: usize) -> Range
+    requires { ⌜ f ≤ 24 ⌝ }
+    ensures { λ r. ⌜ r ≡ rangeOf (word (now (s .entry))) f ⌝ }
+{
+    Range(float_at(s, f + 2), float_at(s, f + 3))
+}
+
+// Solvent i's vapor pressure correlation, words 3 to 23.
+pub fn vapor_pressure_record(book: &[u8], i: usize) -> Ancillary
+    ensures { λ r. ⌜ r ≡ ancillaryOf (words (now (book .entry)) (i + 1)) 3 ⌝ }
+{
+    ancillary_at(solvent_block(book, i), 3)
+}
+
+// Its range, words 5 and 6.
+pub fn vapor_pressure_range(book: &[u8], i: usize) -> Range
+    ensures { λ r. ⌜ r ≡ rangeOf (words (now (book .entry)) (i + 1)) 3 ⌝ }
+{
+    range_at(solvent_block(book, i), 3)
+}
+
+// The range of solvent i's liquid density correlation, words 26 and 27.
+pub fn density_range(book: &[u8], i: usize) -> Range
+    ensures { λ r. ⌜ r ≡ rangeOf (words (now (book .entry)) (i + 1)) 24 ⌝ }
+{
+    range_at(solvent_block(book, i), 24)
+}
+
+// Row i's first block: 1 + n, and the n - 1, n - 2, .. pairs of the rows before it.
+fn row_start(n: usize, i: usize) -> usize
+    requires { ⌜ (n ≤ 8) × (i ≤ n) ⌝ }
+    ensures { λ r. ⌜ (r ≡ rowFrom n i) × (r ≤ 37) ⌝ }
+{
+    1 + n + (i * (2 * n - i) - i) / 2
+}
+
+// The rows past the last are empty.
+fn row_from(n: usize, i: usize) -> usize
+    requires { ⌜ n ≤ 8 ⌝ }
+    ensures { λ r. ⌜ (r ≡ rowFrom n i) × (r ≤ 37) ⌝ }
+{
+    if i < n {
+        return row_start(n, i);
+    }
+    row_start(n, n)
+}
+
+fn pair_place(n: usize, i: usize, j: usize) -> usize
+    requires { ⌜ (n ≤ 8) × (j ≤ 8) ⌝ }
+    ensures { λ r. ⌜ r ≡ pairPlace n i j ⌝ }
+{
+    let from = row_from(n, i);
+    if i < j {
+        return from + (j - i - 1);
+    }
+    from
+}
+
+fn pair_block(book: &[u8], n: usize, i: usize, j: usize) -> &[u8]
+    requires { ⌜ (n ≤ 8) × (j ≤ 8) ⌝ }
+    ensures { λ r. ⌜ now r ≡ block (now (book .entry)) (pairPlace n i j) ⌝ }
+{
+    blocks::block(book, pair_place(n, i, j))
+}
+
+fn tau_at(s: &[u8], f: usize) -> TauTerms
+    requires { ⌜ f ≤ 7 ⌝ }
+    ensures { λ r. ⌜ r ≡ tauOf (word (now (s .entry))) f ⌝ }
+{
+    TauTerms {
+        t0: float_at(s, f),
+        t1: float_at(s, f + 1),
+        t2: float_at(s, f + 2),
+        t3: float_at(s, f + 3),
+    }
+}
+
+fn alpha_at(s: &[u8], f: usize) -> AlphaTerms
+    requires { ⌜ f ≤ 13 ⌝ }
+    ensures { λ r. ⌜ r ≡ alphaOf (word (now (s .entry))) f ⌝ }
+{
+    AlphaTerms {
+        a0: float_at(s, f),
+        a1: float_at(s, f + 1),
+    }
+}
+
+fn regression_at(s: &[u8]) -> Regression
+    ensures { λ r. ⌜ r ≡ regressionOf (word (now (s .entry))) ⌝ }
+{
+    if word(s, 15) == 0 {
+        return Regression::None;
+    }
+    Regression::Interval(float_at(s, 16), float_at(s, 17), word(s, 18) != 0)
+}
+
+fn pair_at(s: &[u8]) -> Pair
+    ensures { λ r. ⌜ r ≡ pairOf (word (now (s .entry))) ⌝ }
+{
+    let tau_ij = tau_at(s, 3);
+    let tau_ji = tau_at(s, 7);
+    let alpha = alpha_at(s, 11);
+    let interval = regression_at(s);
+    Pair {
+        tau_ij: tau_ij,
+        tau_ji: tau_ji,
+        alpha: alpha,
+        regression: interval,
+    }
+}
+
+// The pair (i, j), i < j, of a book of n solvents.
+pub fn pair_record(book: &[u8], n: usize, i: usize, j: usize) -> Pair
+    ensures { λ r. ⌜ r ≡ pairOf (words (now (book .entry)) (pairPlace (places n) (places i) (places j))) ⌝ }
+{
+    pair_at(pair_block(
+        book,
+        floats::places(n),
+        floats::places(i),
+        floats::places(j),
+    ))
+}
+
+// The tau of the ordered pair (i, j), +0 for i = j.
+fn tau_of(book: &[u8], n: usize, i: usize, j: usize) -> TauTerms
+    requires { ⌜ (n ≤ 8) × (i ≤ 8) × (j ≤ 8) ⌝ }
+    ensures { λ r. ⌜ r ≡ tauTerms (tauWord (words (now (book .entry))) n i j) ⌝ }
+{
+    if i < j {
+        return tau_at(pair_block(book, n, i, j), 3);
+    }
+    if j < i {
+        return tau_at(pair_block(book, n, j, i), 7);
+    }
+    TauTerms {
+        t0: 0.0,
+        t1: 0.0,
+        t2: 0.0,
+        t3: 0.0,
+    }
+}
+
+// The alpha of the ordered pair (i, j), +0 for i = j.
+fn alpha_of(book: &[u8], n: usize, i: usize, j: usize) -> AlphaTerms
+    requires { ⌜ (n ≤ 8) × (i ≤ 8) × (j ≤ 8) ⌝ }
+    ensures { λ r. ⌜ r ≡ alphaTerms (alphaWord (words (now (book .entry))) n i j) ⌝ }
+{
+    if i < j {
+        return alpha_at(pair_block(book, n, i, j), 11);
+    }
+    if j < i {
+        return alpha_at(pair_block(book, n, j, i), 11);
+    }
+    AlphaTerms { a0: 0.0, a1: 0.0 }
+}
+
+fn set_tau(tau: &mut [f64; 256], from: usize, t: TauTerms)
+    requires { ⌜ from + 4 ≤ 256 ⌝ }
+    ensures { λ _. ⌜ now (tau .exit) ≡ set (set (set (set (now (tau .entry)) from (t .t0)) (from + 1) (t .t1)) (from + 2) (t .t2)) (from + 3) (t .t3) ⌝ }
+{
+    tau[from] = t.t0;
+    tau[from + 1] = t.t1;
+    tau[from + 2] = t.t2;
+    tau[from + 3] = t.t3;
+}
+
+fn set_alpha(alpha: &mut [f64; 128], from: usize, a: AlphaTerms)
+    requires { ⌜ from + 2 ≤ 128 ⌝ }
+    ensures { λ _. ⌜ now (alpha .exit) ≡ set (set (now (alpha .entry)) from (a .a0)) (from + 1) (a .a1) ⌝ }
+{
+    alpha[from] = a.a0;
+    alpha[from + 1] = a.a1;
+}
+
+fn fill_tau_row(book: &[u8], n: usize, i: usize, tau: &mut [f64; 256])
+    requires { ⌜ (n ≤ 8) × (i < 8) ⌝ }
+    ensures { λ _. ⌜ now (tau .exit) ≡ tableRow (tauWord (words (now (book .entry))) n i) 4 n i (now (tau .entry)) ⌝ }
+{
+    for j in 0..n {
+        let t = tau_of(book, n, i, j);
+        set_tau(tau, (i * 8 + j) * 4, t);
+    }
+}
+
+fn fill_alpha_row(book: &[u8], n: usize, i: usize, alpha: &mut [f64; 128])
+    requires { ⌜ (n ≤ 8) × (i < 8) ⌝ }
+    ensures { λ _. ⌜ now (alpha .exit) ≡ tableRow (alphaWord (words (now (book .entry))) n i) 2 n i (now (alpha .entry)) ⌝ }
+{
+    for j in 0..n {
+        let a = alpha_of(book, n, i, j);
+        set_alpha(alpha, (i * 8 + j) * 2, a);
+    }
+}
+
+fn fill_tau(book: &[u8], n: usize, tau: &mut [f64; 256])
+    requires { ⌜ n ≤ 8 ⌝ }
+    ensures { λ _. ⌜ now (tau .exit) ≡ table (tauWord (words (now (book .entry))) n) 4 n ⌝ }
+{
+    *tau = [0.0; 256];
+    for i in 0..n {
+        fill_tau_row(book, n, i, tau);
+    }
+}
+
+fn fill_alpha(book: &[u8], n: usize, alpha: &mut [f64; 128])
+    requires { ⌜ n ≤ 8 ⌝ }
+    ensures { λ _. ⌜ now (alpha .exit) ≡ table (alphaWord (words (now (book .entry))) n) 2 n ⌝ }
+{
+    *alpha = [0.0; 128];
+    for i in 0..n {
+        fill_alpha_row(book, n, i, alpha);
+    }
+}
+
+// The parameters of all ordered pairs: tau's t_k at (i * 8 + j) * 4 + k, alpha's a_k at (i * 8 + j) * 2 + k, +0 for i = j and past n.
+pub fn parameters(book: &[u8], n: usize, tau: &mut [f64; 256], alpha: &mut [f64; 128])
+    ensures { λ _. ⌜ (now (tau .exit) ≡ table (tauWord (words (now (book .entry))) (places n)) 4 (places n)) × (now (alpha .exit) ≡ table (alphaWord (words (now (book .entry))) (places n)) 2 (places n)) ⌝ }
+{
+    let m = floats::places(n);
+    fill_tau(book, m, tau);
+    fill_alpha(book, m, alpha);
+}

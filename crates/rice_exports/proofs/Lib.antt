@@ -1,0 +1,2 @@
+-- Laws that the proofs of exports share. Assumes nothing.
+pub mod Laws

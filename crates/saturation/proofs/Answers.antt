@@ -1,0 +1,73 @@
+-- For callers: what the verdict of an answer says of the definition's outcome, with the answer's own values; what an activity that is at hand spares. Assumes nothing.
+use Prim.Native.Nat.{ℕ}
+use mathlib.Core.Path.{_≡_}
+use mathlib.Core.List.{List}
+use native.Mathlib.Omega.{arith}
+use lib.Ieee.{Float}
+use Rattle.floats.specs.Outcome.{Out, ok, no}
+use Rattle.floats.proofs.Outcomes.{bind-yes, bind-no}
+use Rattle.thermo_types.specs.declared.Verdict.the-variants.{Passed, Refused}
+use Rattle.thermo_models.specs.Model.{Activity}
+use Rattle.saturation.specs.Saturation.{Bubble, Dew, Saturation, bubbleFrom, residualWith, bubbleAt, residual}
+use Rattle.saturation.specs.Answers.{bubbleAnswer, residualAnswer, dewAnswer, saturationAnswer}
+use Rattle.saturation.specs.declared.BubblePoint.{BubblePoint}
+use Rattle.saturation.specs.declared.Residual.{Residual}
+use Rattle.saturation.specs.declared.DewPoint.{DewPoint}
+use Rattle.saturation.specs.declared.ActivitySaturation.{ActivitySaturation}
+
+-- ---- r is the code's answer to the outcome o
+pub bubble-passed : (o : Out Bubble) {r : BubblePoint} → r ≡ bubbleAnswer o → r .verdict ≡ Passed → o ≡ ok (record { pressure = r .pressure; vapor = r .vapor })
+unfolding bubbleAnswer
+bubble-passed (ok b) e q = rw e
+bubble-passed (no m) e q = let z : _≡_ {A = ℕ} 0 1 = cc in absurd (omega arith)
+
+pub bubble-refused : (o : Out Bubble) {r : BubblePoint} {m : ℕ} → r ≡ bubbleAnswer o → r .verdict ≡ Refused m → o ≡ no m
+unfolding bubbleAnswer
+bubble-refused (ok b) e q = let z : _≡_ {A = ℕ} 0 1 = cc in absurd (omega arith)
+bubble-refused (no m) e q = cc
+
+pub residual-passed : (o : Out Float) {r : Residual} → r ≡ residualAnswer o → r .verdict ≡ Passed → o ≡ ok (r .value)
+unfolding residualAnswer
+residual-passed (ok v) e q = rw e
+residual-passed (no m) e q = let z : _≡_ {A = ℕ} 0 1 = cc in absurd (omega arith)
+
+pub residual-refused : (o : Out Float) {r : Residual} {m : ℕ} → r ≡ residualAnswer o → r .verdict ≡ Refused m → o ≡ no m
+unfolding residualAnswer
+residual-refused (ok v) e q = let z : _≡_ {A = ℕ} 0 1 = cc in absurd (omega arith)
+residual-refused (no m) e q = cc
+
+pub dew-passed : (o : Out Dew) {r : DewPoint} → r ≡ dewAnswer o → r .verdict ≡ Passed
+    → o ≡ ok (record { pressure = r .pressure; liquid = r .liquid; iterations = r .iterations; residual = r .residual; activity = record { lnGamma = r .lg; slopes = r .sl } })
+unfolding dewAnswer
+dew-passed (ok d) e q = rw e
+dew-passed (no m) e q = let z : _≡_ {A = ℕ} 0 1 = cc in absurd (omega arith)
+
+pub dew-refused : (o : Out Dew) {r : DewPoint} {m : ℕ} → r ≡ dewAnswer o → r .verdict ≡ Refused m → o ≡ no m
+unfolding dewAnswer
+dew-refused (ok d) e q = let z : _≡_ {A = ℕ} 0 1 = cc in absurd (omega arith)
+dew-refused (no m) e q = cc
+
+pub saturation-passed : (o : Out Saturation) {r : ActivitySaturation} → r ≡ saturationAnswer o → r .verdict ≡ Passed
+    → o ≡ ok (record { temperature = r .temperature; pressure = r .pressure; liquid = r .liquid; vapor = r .vapor; residual = r .residual; iterations = r .iterations })
+unfolding saturationAnswer
+saturation-passed (ok s) e q = rw e
+saturation-passed (no m) e q = let z : _≡_ {A = ℕ} 0 1 = cc in absurd (omega arith)
+
+pub saturation-refused : (o : Out Saturation) {r : ActivitySaturation} {m : ℕ} → r ≡ saturationAnswer o → r .verdict ≡ Refused m → o ≡ no m
+unfolding saturationAnswer
+saturation-refused (ok s) e q = let z : _≡_ {A = ℕ} 0 1 = cc in absurd (omega arith)
+saturation-refused (no m) e q = cc
+
+-- ---- with the activity at x at hand, neither `bubble_at` nor `residual` has to work it out again
+module _ (E : List Float → Out Activity) (ps : List Float) (n : ℕ) (x : List Float) where
+  pub bubble-at-given : {a : Activity} → E x ≡ ok a → bubbleAt E ps n x ≡ bubbleFrom x (a .lnGamma) ps n
+  unfolding bubbleAt
+  bubble-at-given e = bind-yes _ e
+
+  pub bubble-at-none : {m : ℕ} → E x ≡ no m → bubbleAt E ps n x ≡ no m
+  unfolding bubbleAt
+  bubble-at-none e = bind-no _ e
+
+  pub residual-given : (p : Float) (y : List Float) {a : Activity} → E x ≡ ok a → residual E ps n p x y ≡ residualWith (a .lnGamma) ps p x y n
+  unfolding residual
+  residual-given p y e = bind-yes _ e

@@ -1,0 +1,58 @@
+-- `saturation::dew_point` meets its contract. Assumes nothing.
+use borrow.Author.Needs.{needs}
+use Rattle.saturation.proofs.Laws.{places-is, point-refused, point-infinite, point-good}
+use Rattle.saturation.proofs.dew_point.Statement.{statement}
+use Rattle.saturation.proofs.dew_point.Tie as tie
+
+incipient-requires : tie.Need-incipient-requires
+incipient-requires c κs = search needs
+
+activity-requires : tie.Need-activity-requires
+activity-requires c κs = search needs
+
+enum-known-verdict : tie.Need-enum-known-verdict
+enum-known-verdict c = search needs
+
+no-dew-requires : tie.Need-no-dew-requires
+no-dew-requires c κs = search needs
+
+returns : tie.Need-returns
+returns c = point-refused _ _ _ _ _ (c .before .before .before .before .before .before .before .before .incipient .ensures) (rw (places-is _ (c .before .before .before .before .before .before .before .before .before .before .pre)) at (c .before .before .before .before .activity .ensures)) _ (c .before .before .verdict .given .1) (c .no-dew .ensures)
+
+enum-told : tie.Need-enum-told
+enum-told c = search needs
+
+residual-with-requires : tie.Need-residual-with-requires
+residual-with-requires c κs = search needs
+
+enum-known-found : tie.Need-enum-known-found
+enum-known-found c = search needs
+
+no-dew-requires-2 : tie.Need-no-dew-requires-2
+no-dew-requires-2 c κs = search needs
+
+enum-told-2 : tie.Need-enum-told-2
+enum-told-2 c = search needs
+
+returns-2 : tie.Need-returns-2
+returns-2 c = point-infinite _ _ _ _ _ (c .before .before .before .before .before .before .before .before .before .before .before .before .before .incipient .ensures) (rw (places-is _ (c .before .before .before .before .before .before .before .before .before .before .before .before .before .before .before .pre)) at (c .before .before .before .before .before .before .before .before .before .activity .ensures)) (c .before .before .before .before .before .before .before .enum-told .given .1) (rw (places-is _ (c .before .before .before .before .before .before .before .before .before .before .before .before .before .before .before .pre)) at (c .before .before .before .before .residual-with .ensures)) _ (c .before .before .found .given .1) (c .no-dew2 .ensures)
+
+returns-3 : tie.Need-returns-3
+returns-3 c = point-good _ _ _ _ _ (c .before .before .before .before .before .before .before .before .before .before .before .incipient .ensures) (rw (places-is _ (c .before .before .before .before .before .before .before .before .before .before .before .before .before .pre)) at (c .before .before .before .before .before .before .before .activity .ensures)) (c .before .before .before .before .before .enum-told .given .1) (rw (places-is _ (c .before .before .before .before .before .before .before .before .before .before .before .before .before .pre)) at (c .before .before .residual-with .ensures)) _ (c .enum-told2 .given .1)
+
+pub dew-point-spec : {M : Type 1} → statement M
+dew-point-spec =
+    tie.close
+    (tie.spec
+    incipient-requires
+    activity-requires
+    enum-known-verdict
+    no-dew-requires
+    returns
+    enum-told
+    residual-with-requires
+    enum-known-found
+    no-dew-requires-2
+    enum-told-2
+    returns-2
+    returns-3)

@@ -1,0 +1,20 @@
+-- `saturation::incipient` meets its contract. Assumes nothing.
+use borrow.Author.Needs.{needs}
+use Rattle.saturation.proofs.Laws.{incipient-is}
+use Rattle.saturation.proofs.incipient.Statement.{statement}
+use Rattle.saturation.proofs.incipient.Tie as tie
+
+dew-terms-requires : tie.Need-dew-terms-requires
+dew-terms-requires c κs = search needs
+
+sum-requires : tie.Need-sum-requires
+sum-requires c κs = search needs
+
+divided-requires : tie.Need-divided-requires
+divided-requires c κs = search needs
+
+returns : tie.Need-returns
+returns c = incipient-is _ _ _ _ (c .before .before .before .before .before .pre) _ (c .before .before .before .before .dew-terms .ensures) (c .before .before .sum .ensures) (c .divided .ensures)
+
+pub incipient-spec : {M : Type 1} → statement M
+incipient-spec = tie.close (tie.spec dew-terms-requires sum-requires divided-requires returns)

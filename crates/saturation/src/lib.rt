@@ -1,0 +1,600 @@
+// Bubble and dew points at a temperature (activity.rs): modified Raoult, y_i p = x_i γ_i p_i^sat, with an NRTL liquid and an ideal-gas vapor.
+// Compositions and ln γ are arrays of eight, 0.0 past n; pressures in Pa, temperatures in K.
+ghost use mathlib.Core.Path.{_≡_};
+ghost use mathlib.Core.Bool.{cond, _&&_};
+ghost use Prim.Native.Nat.{_≤_};
+ghost use lib.Ieee.{lt};
+ghost use Rattle.floats.specs.Arithmetic.{_⊕_, _⊖_, _⊗_, _⊘_, 0f};
+ghost use Rattle.floats.specs.Small.{maxOf, absOf};
+ghost use Rattle.floats.specs.Vector.{at, vec, places};
+ghost use Rattle.floats.specs.Outcome.{no, bind};
+ghost use Rattle.numerics.specs.Numerics.{expOf, lnOf};
+ghost use Rattle.thermo_models.specs.Activity.{activityOn, activityOf};
+ghost use Rattle.thermo_models.specs.Domain.{pureLiquidsOf};
+ghost use Rattle.saturation.specs.Saturation.{partialOf, bubbleFrom, gapOf, residualWith, dewTerm, changeOf, bubbleAt, dewTurn, dewPoint, dewAt, bubblePressure, dewPressurePoint};
+ghost use Rattle.saturation.specs.Answers.{bubbleAnswer, residualAnswer, dewAnswer, saturationAnswer};
+ghost use Rattle.saturation.specs.Steps.{Incipient, noTurn, turnAnswer, bubbleWith, bubbleChecked, dewChecked};
+use thermo_types::Temperature;
+use thermo_types::Verdict;
+
+// Pressure in Pa and incipient vapor. Here and below: zeros where it is refused.
+pub struct BubblePoint {
+    pub verdict: Verdict,
+    pub pressure: f64,
+    pub vapor: [f64; 8],
+}
+
+// max_i |ln(y_i p) - ln(x_i γ_i p_i^sat)|.
+pub struct Residual {
+    pub verdict: Verdict,
+    pub value: f64,
+}
+
+// One turn of the dew iteration: the largest change of ln γ, and the new ln γ.
+struct Turn {
+    verdict: Verdict,
+    change: f64,
+    lg: [f64; 8],
+}
+
+// A converged dew point at T: pressure (Pa), incipient liquid, and the activity (ln γ, 1/K) at that liquid.
+pub struct DewPoint {
+    pub verdict: Verdict,
+    pub pressure: f64,
+    pub liquid: [f64; 8],
+    pub iterations: u64,
+    pub residual: f64,
+    pub lg: [f64; 8],
+    pub sl: [f64; 8],
+}
+
+// Saturation point of the feed; the incipient phase has zero amount. K, Pa.
+pub struct ActivitySaturation {
+    pub verdict: Verdict,
+    pub temperature: f64,
+    pub pressure: f64,
+    pub liquid: [f64; 8],
+    pub vapor: [f64; 8],
+    pub residual: f64,
+    pub iterations: u64,
+}
+
+// ---- refusals
+
+fn no_bubble(number: u64) -> BubblePoint
+    ensures { λ r. ⌜ r ≡ bubbleAnswer (no number) ⌝ }
+{
+    let z = [0.0; 8];
+    BubblePoint {
+        verdict: Verdict::Refused(number),
+        pressure: 0.0,
+        vapor: z,
+    }
+}
+
+fn no_turn(number: u64) -> Turn
+    ensures { λ r. ⌜ r ≡ noTurn number ⌝ }
+{
+    let z = [0.0; 8];
+    Turn {
+        verdict: Verdict::Refused(number),
+        change: 0.0,
+        lg: z,
+    }
+}
+
+fn no_dew(number: u64) -> DewPoint
+    ensures { λ r. ⌜ r ≡ dewAnswer (no number) ⌝ }
+{
+    let z = [0.0; 8];
+    DewPoint {
+        verdict: Verdict::Refused(number),
+        pressure: 0.0,
+        liquid: z,
+        iterations: 0,
+        residual: 0.0,
+        lg: z,
+        sl: z,
+    }
+}
+
+fn no_saturation(number: u64) -> ActivitySaturation
+    ensures { λ r. ⌜ r ≡ saturationAnswer (no number) ⌝ }
+{
+    let z = [0.0; 8];
+    ActivitySaturation {
+        verdict: Verdict::Refused(number),
+        temperature: 0.0,
+        pressure: 0.0,
+        liquid: z,
+        vapor: z,
+        residual: 0.0,
+        iterations: 0,
+    }
+}
+
+// ---- bubble point: p = Σ x_i γ_i p_i^sat, y_i = x_i γ_i p_i^sat / p
+
+fn partial(x: f64, lg: f64, ps: f64) -> f64
+    ensures { λ r. ⌜ r ≡ cond (lt 0f x) (x ⊗ expOf lg ⊗ ps) 0f ⌝ }
+{
+    if x > 0.0 {
+        x * numerics::exp(lg) * ps
+    } else {
+        0.0
+    }
+}
+
+fn partials(x: &[f64; 8], lg: &[f64; 8], ps: &[f64; 8], n: usize) -> [f64; 8]
+    requires { ⌜ n ≤ 8 ⌝ }
+    ensures { λ r. ⌜ r ≡ vec (partialOf (now (x .entry)) (now (lg .entry)) (now (ps .entry))) n ⌝ }
+{
+    let mut w = [0.0; 8];
+    for i in 0..n {
+        w[i] = partial(x[i], lg[i], ps[i]);
+    }
+    w
+}
+
+// Each of the first n terms over s.
+fn divided(w: &[f64; 8], s: f64, n: usize) -> [f64; 8]
+    requires { ⌜ n ≤ 8 ⌝ }
+    ensures { λ r. ⌜ r ≡ vec (λ i. at (now (w .entry)) i ⊘ s) n ⌝ }
+{
+    let mut x = [0.0; 8];
+    for i in 0..n {
+        x[i] = w[i] / s;
+    }
+    x
+}
+
+fn bubble_of(x: &[f64; 8], lg: &[f64; 8], ps: &[f64; 8], n: usize) -> BubblePoint
+    requires { ⌜ n ≤ 8 ⌝ }
+    ensures { λ r. ⌜ r ≡ bubbleAnswer (bubbleFrom (now (x .entry)) (now (lg .entry)) (now (ps .entry)) n) ⌝ }
+{
+    let w = partials(x, lg, ps, n);
+    let p = thermo_types::sum(&w, n);
+    if !floats::is_finite(p) {
+        return no_bubble(25);
+    }
+    if p <= 0.0 {
+        return no_bubble(25);
+    }
+    let y = divided(&w, p, n);
+    BubblePoint {
+        verdict: Verdict::Passed,
+        pressure: p,
+        vapor: y,
+    }
+}
+
+// The bubble point of x whose ln γ are at hand: 25.
+pub fn bubble_from(x: &[f64; 8], lg: &[f64; 8], ps: &[f64; 8], n: usize) -> BubblePoint
+    ensures { λ r. ⌜ r ≡ bubbleAnswer (bubbleFrom (now (x .entry)) (now (lg .entry)) (now (ps .entry)) (places n)) ⌝ }
+{
+    bubble_of(x, lg, ps, floats::places(n))
+}
+
+// The bubble point of x: what `activity` refuses, then 25.
+pub fn bubble_at(
+    table: &[f64; 512],
+    alphas: Verdict,
+    n: usize,
+    t: Temperature,
+    x: &[f64; 8],
+    ps: &[f64; 8],
+) -> BubblePoint
+    ensures { λ r. ⌜ r ≡ bubbleAnswer (bubbleAt (activityOn (now (table .entry)) alphas (places n) (t .0)) (now (ps .entry)) (places n) (now (x .entry))) ⌝ }
+{
+    let mut lg = [0.0; 8];
+    let mut sl = [0.0; 8];
+    let verdict = thermo_models::activity(table, alphas, n, t, x, &mut lg, &mut sl);
+    match verdict {
+        Verdict::Refused(number) => no_bubble(number),
+        Verdict::Passed => bubble_from(x, &lg, ps, n),
+    }
+}
+
+// ---- residual of ln fugacities
+
+// |ln(y_i p) - ln(x_i γ_i p_i^sat)| of one solvent; ln_p is ln p.
+fn gap(lg: f64, ps: f64, ln_p: f64, x: f64, y: f64) -> f64
+    ensures { λ r. ⌜ r ≡ absOf (lnOf y ⊕ «ln_p» ⊖ lnOf x ⊖ lg ⊖ lnOf ps) ⌝ }
+{
+    floats::abs(numerics::ln(y) + ln_p - numerics::ln(x) - lg - numerics::ln(ps))
+}
+
+// The larger of r and the gap of a solvent that is present in both phases.
+fn larger_gap(lg: f64, ps: f64, ln_p: f64, x: f64, y: f64, r: f64) -> f64
+    ensures { λ v. ⌜ v ≡ cond (lt 0f x && lt 0f y) (maxOf r (absOf (lnOf y ⊕ «ln_p» ⊖ lnOf x ⊖ lg ⊖ lnOf ps))) r ⌝ }
+{
+    if (x > 0.0) & (y > 0.0) {
+        let g = gap(lg, ps, ln_p, x, y);
+        floats::max(r, g)
+    } else {
+        r
+    }
+}
+
+fn largest_gap(lg: &[f64; 8], ps: &[f64; 8], p: f64, x: &[f64; 8], y: &[f64; 8], n: usize) -> f64
+    requires { ⌜ n ≤ 8 ⌝ }
+    ensures { λ r. ⌜ r ≡ gapOf (now (lg .entry)) (now (ps .entry)) p (now (x .entry)) (now (y .entry)) n ⌝ }
+{
+    let ln_p = numerics::ln(p);
+    let mut r = 0.0;
+    for i in 0..n {
+        r = larger_gap(lg[i], ps[i], ln_p, x[i], y[i], r);
+    }
+    r
+}
+
+// max_i |ln(y_i p) - ln(x_i γ_i p_i^sat)| over solvents present in both phases: 25 where it isn't finite.
+pub fn residual_with(
+    lg: &[f64; 8],
+    ps: &[f64; 8],
+    p: f64,
+    x: &[f64; 8],
+    y: &[f64; 8],
+    n: usize,
+) -> Residual
+    ensures { λ r. ⌜ r ≡ residualAnswer (residualWith (now (lg .entry)) (now (ps .entry)) p (now (x .entry)) (now (y .entry)) (places n)) ⌝ }
+{
+    let r = largest_gap(lg, ps, p, x, y, floats::places(n));
+    if floats::is_finite(r) {
+        Residual {
+            verdict: Verdict::Passed,
+            value: r,
+        }
+    } else {
+        Residual {
+            verdict: Verdict::Refused(25),
+            value: 0.0,
+        }
+    }
+}
+
+// ---- dew point: p = 1 / Σ y_i / (γ_i p_i^sat), by successive substitution on ln γ of the incipient liquid
+
+fn dew_term(y: f64, ps: f64, lg: f64) -> f64
+    ensures { λ r. ⌜ r ≡ cond (lt 0f y) (y ⊘ (expOf lg ⊗ ps)) 0f ⌝ }
+{
+    if y > 0.0 {
+        y / (numerics::exp(lg) * ps)
+    } else {
+        0.0
+    }
+}
+
+fn dew_terms(y: &[f64; 8], ps: &[f64; 8], lg: &[f64; 8], n: usize) -> [f64; 8]
+    requires { ⌜ n ≤ 8 ⌝ }
+    ensures { λ r. ⌜ r ≡ vec (dewTerm (now (y .entry)) (now (ps .entry)) (now (lg .entry))) n ⌝ }
+{
+    let mut w = [0.0; 8];
+    for i in 0..n {
+        w[i] = dew_term(y[i], ps[i], lg[i]);
+    }
+    w
+}
+
+// The incipient liquid into x, and its pressure.
+fn incipient(y: &[f64; 8], ps: &[f64; 8], lg: &[f64; 8], n: usize, x: &mut [f64; 8]) -> f64
+    requires { ⌜ n ≤ 8 ⌝ }
+    ensures { λ r. ⌜ Incipient (now (y .entry)) (now (ps .entry)) (now (lg .entry)) n r (now (x .exit)) ⌝ }
+{
+    let w = dew_terms(y, ps, lg, n);
+    let s = thermo_types::sum(&w, n);
+    *x = divided(&w, s, n);
+    1.0 / s
+}
+
+fn larger_change(y: f64, new: f64, old: f64, r: f64) -> f64
+    ensures { λ v. ⌜ v ≡ cond (lt 0f y) (maxOf r (absOf (new ⊖ old))) r ⌝ }
+{
+    if y > 0.0 {
+        let d = floats::abs(new - old);
+        floats::max(r, d)
+    } else {
+        r
+    }
+}
+
+fn largest_change(y: &[f64; 8], new: &[f64; 8], old: &[f64; 8], n: usize) -> f64
+    requires { ⌜ n ≤ 8 ⌝ }
+    ensures { λ r. ⌜ r ≡ changeOf (now (y .entry)) (now (new .entry)) (now (old .entry)) n ⌝ }
+{
+    let mut r = 0.0;
+    for i in 0..n {
+        r = larger_change(y[i], new[i], old[i], r);
+    }
+    r
+}
+
+// A turn from ln γ: what `activity` refuses at the incipient liquid, then 25 where the change or the pressure isn't finite.
+fn dew_turn(
+    table: &[f64; 512],
+    alphas: Verdict,
+    n: usize,
+    t: Temperature,
+    y: &[f64; 8],
+    ps: &[f64; 8],
+    lg: &[f64; 8],
+) -> Turn
+    requires { ⌜ n ≤ 8 ⌝ }
+    ensures { λ r. ⌜ r ≡ turnAnswer (now (y .entry)) (now (lg .entry)) n (dewTurn (activityOn (now (table .entry)) alphas n (t .0)) (now (ps .entry)) n (now (y .entry)) (now (lg .entry))) ⌝ }
+{
+    let mut x = [0.0; 8];
+    let mut new = [0.0; 8];
+    let mut sl = [0.0; 8];
+    let p = incipient(y, ps, lg, n, &mut x);
+    let verdict = thermo_models::activity(table, alphas, n, t, &x, &mut new, &mut sl);
+    match verdict {
+        Verdict::Refused(number) => return no_turn(number),
+        Verdict::Passed => {}
+    }
+    let r = largest_change(y, &new, lg, n);
+    if !floats::is_finite(r) {
+        return no_turn(25);
+    }
+    if !floats::is_finite(p) {
+        return no_turn(25);
+    }
+    Turn {
+        verdict: Verdict::Passed,
+        change: r,
+        lg: new,
+    }
+}
+
+// The dew point of converged ln γ.
+fn dew_point(
+    table: &[f64; 512],
+    alphas: Verdict,
+    n: usize,
+    t: Temperature,
+    y: &[f64; 8],
+    ps: &[f64; 8],
+    lg: &[f64; 8],
+    iteration: u64,
+) -> DewPoint
+    requires { ⌜ n ≤ 8 ⌝ }
+    ensures { λ r. ⌜ r ≡ dewAnswer (dewPoint (activityOn (now (table .entry)) alphas n (t .0)) (now (ps .entry)) n (now (y .entry)) (now (lg .entry)) iteration) ⌝ }
+{
+    let mut x = [0.0; 8];
+    let mut new = [0.0; 8];
+    let mut sl = [0.0; 8];
+    let p = incipient(y, ps, lg, n, &mut x);
+    let verdict = thermo_models::activity(table, alphas, n, t, &x, &mut new, &mut sl);
+    match verdict {
+        Verdict::Refused(number) => return no_dew(number),
+        Verdict::Passed => {}
+    }
+    let r = residual_with(&new, ps, p, &x, y, n);
+    let found = r.verdict;
+    match found {
+        Verdict::Refused(number) => no_dew(number),
+        Verdict::Passed => DewPoint {
+            verdict: Verdict::Passed,
+            pressure: p,
+            liquid: x,
+            iterations: iteration,
+            residual: r.value,
+            lg: new,
+            sl: sl,
+        },
+    }
+}
+
+// Turns from ln γ = 0 until the change is within the tolerance.
+fn dew_iterate(
+    table: &[f64; 512],
+    alphas: Verdict,
+    n: usize,
+    t: Temperature,
+    y: &[f64; 8],
+    ps: &[f64; 8],
+    tolerance: f64,
+    max_iterations: u64,
+) -> DewPoint
+    requires { ⌜ n ≤ 8 ⌝ }
+    ensures { λ r. ⌜ r ≡ dewAnswer (dewAt (activityOn (now (table .entry)) alphas n (t .0)) (now (ps .entry)) n (now (y .entry)) tolerance «max_iterations») ⌝ }
+{
+    let mut lg = [0.0; 8];
+    for iteration in 1..=max_iterations {
+        let step = dew_turn(table, alphas, n, t, y, ps, &lg);
+        let verdict = step.verdict;
+        match verdict {
+            Verdict::Refused(number) => return no_dew(number),
+            Verdict::Passed => {}
+        }
+        let new = step.lg;
+        lg = new;
+        if step.change <= tolerance {
+            return dew_point(table, alphas, n, t, y, ps, &lg, iteration);
+        }
+    }
+    no_dew(27)
+}
+
+// The dew point of y, from ln γ = 0: what `activity` refuses, 25, and 27 where the limit is used up.
+pub fn dew_at(
+    table: &[f64; 512],
+    alphas: Verdict,
+    n: usize,
+    t: Temperature,
+    y: &[f64; 8],
+    ps: &[f64; 8],
+    tolerance: f64,
+    max_iterations: u64,
+) -> DewPoint
+    ensures { λ r. ⌜ r ≡ dewAnswer (dewAt (activityOn (now (table .entry)) alphas (places n) (t .0)) (now (ps .entry)) (places n) (now (y .entry)) tolerance «max_iterations») ⌝ }
+{
+    dew_iterate(
+        table,
+        alphas,
+        floats::places(n),
+        t,
+        y,
+        ps,
+        tolerance,
+        max_iterations,
+    )
+}
+
+// ---- tasks 2 and 3
+
+// A bubble point's pressure in the domain (23), then its residual.
+fn bubble_checked(
+    x: &[f64; 8],
+    lg: &[f64; 8],
+    ps: &[f64; 8],
+    n: usize,
+    t: Temperature,
+    p: f64,
+    y: &[f64; 8],
+) -> ActivitySaturation
+    ensures { λ r. ⌜ r ≡ saturationAnswer (bubbleChecked (now (x .entry)) (now (lg .entry)) (now (ps .entry)) (places n) (t .0) p (now (y .entry))) ⌝ }
+{
+    if !thermo_models::check_pressure(p) {
+        return no_saturation(23);
+    }
+    let r = residual_with(lg, ps, p, x, y, n);
+    let verdict = r.verdict;
+    match verdict {
+        Verdict::Refused(number) => no_saturation(number),
+        Verdict::Passed => {
+            let liquid = *x;
+            let vapor = *y;
+            ActivitySaturation {
+                verdict: Verdict::Passed,
+                temperature: t.value(),
+                pressure: p,
+                liquid: liquid,
+                vapor: vapor,
+                residual: r.value,
+                iterations: 0,
+            }
+        }
+    }
+}
+
+// From ln γ of x.
+fn bubble_with(
+    x: &[f64; 8],
+    lg: &[f64; 8],
+    ps: &[f64; 8],
+    n: usize,
+    t: Temperature,
+) -> ActivitySaturation
+    ensures { λ r. ⌜ r ≡ saturationAnswer (bubbleWith (now (x .entry)) (now (lg .entry)) (now (ps .entry)) (places n) (t .0)) ⌝ }
+{
+    let b = bubble_from(x, lg, ps, n);
+    let verdict = b.verdict;
+    match verdict {
+        Verdict::Refused(number) => no_saturation(number),
+        Verdict::Passed => {
+            let y = b.vapor;
+            bubble_checked(x, lg, ps, n, t, b.pressure, &y)
+        }
+    }
+}
+
+// From the vapor pressures. The activity at x serves the bubble point and its residual.
+fn bubble_pressure(
+    tau: &[f64; 256],
+    alpha: &[f64; 128],
+    n: usize,
+    t: Temperature,
+    x: &[f64; 8],
+    ps: &[f64; 8],
+) -> ActivitySaturation
+    ensures { λ r. ⌜ r ≡ saturationAnswer (bind (activityOf (now (tau .entry)) (now (alpha .entry)) (places n) (t .0) (now (x .entry))) (λ a. bubbleWith (now (x .entry)) (a .lnGamma) (now (ps .entry)) (places n) (t .0))) ⌝ }
+{
+    let mut table = [0.0; 512];
+    let mut lg = [0.0; 8];
+    let mut sl = [0.0; 8];
+    let alphas = thermo_models::tables(tau, alpha, n, t, &mut table);
+    let verdict = thermo_models::activity(&table, alphas, n, t, x, &mut lg, &mut sl);
+    match verdict {
+        Verdict::Refused(number) => no_saturation(number),
+        Verdict::Passed => bubble_with(x, &lg, ps, n, t),
+    }
+}
+
+// Bubble pressure at T of the feed x, p = Σ x_i γ_i p_i^sat: 22, 25, what `activity` refuses, 23.
+pub fn activity_bubble_pressure(
+    book: &[u8],
+    tau: &[f64; 256],
+    alpha: &[f64; 128],
+    n: usize,
+    t: Temperature,
+    x: &[f64; 8],
+) -> ActivitySaturation
+    ensures { λ r. ⌜ r ≡ saturationAnswer (bubblePressure (activityOf (now (tau .entry)) (now (alpha .entry)) (places n)) (pureLiquidsOf (now (book .entry)) (places n)) (places n) (t .0) (now (x .entry))) ⌝ }
+{
+    let mut ps = [0.0; 8];
+    let mut dps = [0.0; 8];
+    let verdict = thermo_models::pure_liquids(book, n, t, &mut ps, &mut dps);
+    match verdict {
+        Verdict::Refused(number) => no_saturation(number),
+        Verdict::Passed => bubble_pressure(tau, alpha, n, t, x, &ps),
+    }
+}
+
+// From the vapor pressures: the dew point, then its pressure in the domain (23).
+fn dew_pressure(
+    tau: &[f64; 256],
+    alpha: &[f64; 128],
+    n: usize,
+    t: Temperature,
+    y: &[f64; 8],
+    ps: &[f64; 8],
+    tolerance: f64,
+    max_iterations: u64,
+) -> ActivitySaturation
+    ensures { λ r. ⌜ r ≡ saturationAnswer (bind (dewAt (activityOf (now (tau .entry)) (now (alpha .entry)) (places n) (t .0)) (now (ps .entry)) (places n) (now (y .entry)) tolerance «max_iterations») (dewChecked (t .0) (now (y .entry)))) ⌝ }
+{
+    let mut table = [0.0; 512];
+    let alphas = thermo_models::tables(tau, alpha, n, t, &mut table);
+    let d = dew_at(&table, alphas, n, t, y, ps, tolerance, max_iterations);
+    let verdict = d.verdict;
+    match verdict {
+        Verdict::Refused(number) => return no_saturation(number),
+        Verdict::Passed => {}
+    }
+    if !thermo_models::check_pressure(d.pressure) {
+        return no_saturation(23);
+    }
+    let liquid = d.liquid;
+    let vapor = *y;
+    ActivitySaturation {
+        verdict: Verdict::Passed,
+        temperature: t.value(),
+        pressure: d.pressure,
+        liquid: liquid,
+        vapor: vapor,
+        residual: d.residual,
+        iterations: d.iterations,
+    }
+}
+
+// Dew pressure at T of the feed y: 22, 25, what `activity` refuses at an incipient liquid, 27, 23.
+pub fn activity_dew_pressure(
+    book: &[u8],
+    tau: &[f64; 256],
+    alpha: &[f64; 128],
+    n: usize,
+    t: Temperature,
+    y: &[f64; 8],
+    tolerance: f64,
+    max_iterations: u64,
+) -> ActivitySaturation
+    ensures { λ r. ⌜ r ≡ saturationAnswer (dewPressurePoint (activityOf (now (tau .entry)) (now (alpha .entry)) (places n)) (pureLiquidsOf (now (book .entry)) (places n)) (places n) (t .0) (now (y .entry)) tolerance «max_iterations») ⌝ }
+{
+    let mut ps = [0.0; 8];
+    let mut dps = [0.0; 8];
+    let verdict = thermo_models::pure_liquids(book, n, t, &mut ps, &mut dps);
+    match verdict {
+        Verdict::Refused(number) => no_saturation(number),
+        Verdict::Passed => dew_pressure(tau, alpha, n, t, y, &ps, tolerance, max_iterations),
+    }
+}

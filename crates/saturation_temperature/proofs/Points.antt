@@ -1,0 +1,130 @@
+-- f at a temperature, and the answer at the temperature found, put together. Assumes nothing.
+use Prim.Native.Nat.{ℕ, _+_}
+use mathlib.Core.Path.{_≡_, refl, sym, _∙_, ap}
+use mathlib.Core.Bool.{Bool, true, false, not, cond}
+use mathlib.Core.List.{List}
+use native.Mathlib.Omega.{arith}
+use lib.Ieee.{Float, lt}
+use Rattle.floats.specs.Arithmetic.{_⊕_, _⊖_, _⊗_, _⊘_, 0f}
+use Rattle.floats.specs.Small.{maxOf, absOf}
+use Rattle.floats.specs.Fold.{foldTo, sumTo}
+use Rattle.floats.specs.Vector.{at}
+use Rattle.floats.specs.Outcome.{Out, ok, no, bind, need}
+use Rattle.floats.proofs.Folds.{fold-turn, was-no, was-yes}
+use Rattle.numerics.specs.Numerics.{expOf, lnOf}
+use Rattle.thermo_types.specs.declared.Verdict.the-variants.{Passed}
+use Rattle.thermo_types.specs.declared.Temperature.{Temperature}
+use Rattle.thermo_types.specs.declared.NewTemperature.{NewTemperature}
+use Rattle.thermo_types.specs.declared.NewTemperature.the-variants.{Valid, No}
+use Rattle.thermo_types.specs.Quantities.{positiveOf, newTemperature}
+use Rattle.thermo_models.specs.Model.{Model, Liquids, pressureInDomain}
+use Rattle.saturation.specs.Saturation.{Dew, bubbleFrom, bubbleAt, residual, residualWith}
+use Rattle.saturation.specs.Answers.{saturationAnswer}
+use Rattle.saturation.specs.declared.ActivitySaturation.{ActivitySaturation}
+use Rattle.saturation_temperature.specs.Search.{solveTemperature}
+use Rattle.saturation_temperature.specs.Boiling.{weightSum, weightSlope, dewSlope, bubblePoint, bubbleTemperature, dewPoint, dewTemperature}
+use Rattle.saturation_temperature.specs.Answers.{pointAnswer}
+use Rattle.saturation_temperature.specs.Steps.{activityIn, puresIn, Weighed, bubbleValue, dewValue, bubbleSaturation, dewSaturation, bubbleFound, dewFound}
+use Rattle.saturation_temperature.specs.declared.Weights.{Weights}
+
+-- ---- the answer g of an outcome that goes on by k
+module _ {A B C : Type 0} (g : Out B → C) (o : Out A) (k : A → Out B) {r : C} where
+  pub answer-no : {m : ℕ} → o ≡ no m → r ≡ g (no m) → r ≡ g (bind o k)
+  unfolding bind
+  answer-no e q = rw e q
+
+  pub answer-ok : {a : A} → o ≡ ok a → r ≡ g (k a) → r ≡ g (bind o k)
+  unfolding bind
+  answer-ok e q = rw e q
+
+-- ---- `Temperature::new`
+made : NewTemperature → Float
+made (Valid t) = t .0
+made (No m) = 0f
+
+module _ {v : NewTemperature} where
+  pub new-valid : (o : Out Float) {t : Temperature} → v ≡ newTemperature o → v ≡ Valid t → o ≡ ok (t .0)
+  unfolding newTemperature made
+  new-valid (ok a) e q = ap ok (ap made (sym e ∙ q))
+  new-valid (no m) e q = let z : _≡_ {A = ℕ} 0 1 = cc in absurd (omega arith)
+
+  pub new-no : (o : Out Float) {m : ℕ} → v ≡ newTemperature o → v ≡ No m → o ≡ no m
+  unfolding newTemperature
+  new-no (ok a) e q = let z : _≡_ {A = ℕ} 0 1 = cc in absurd (omega arith)
+  new-no (no m) e q = cc
+
+-- ---- the sums of the bubble temperature
+module _ (x lg sl ps dps : List Float) where
+  pub weighed-none : Weighed x lg sl ps dps 0 (record { sum = 0f; slope = 0f })
+  unfolding weightSum weightSlope foldTo
+  weighed-none = record { sum = refl; slope = refl }
+
+  pub weighed-turn : (k : ℕ) {s r : Weights} → Weighed x lg sl ps dps k s
+      → (r .sum ≡ cond (lt 0f (at x k)) (s .sum ⊕ at x k ⊗ expOf (at lg k) ⊗ at ps k) (s .sum)) × (r .slope ≡ cond (lt 0f (at x k)) (s .slope ⊕ at x k ⊗ expOf (at lg k) ⊗ at ps k ⊗ (at sl k ⊕ at dps k)) (s .slope))
+      → Weighed x lg sl ps dps (k + 1) r
+  unfolding weightSum weightSlope
+  weighed-turn k h e = record { sum = fold-turn _ _ k (e .0) (h .sum); slope = fold-turn _ _ k (e .1) (h .slope) }
+
+  pub weighed-done : (k n : ℕ) {s : Weights} → k ≡ n → Weighed x lg sl ps dps k s → Weighed x lg sl ps dps n s
+  weighed-done k n e h = rw e at h
+
+  pub bubble-value-is : (p : Float) {m n : ℕ} {w : Weights} {l q : Float} → m ≡ n → Weighed x lg sl ps dps m w → l ≡ lnOf (w .sum) → q ≡ lnOf p
+      → record { verdict = Passed; value = l ⊖ q; slope = w .slope ⊘ w .sum } ≡ pointAnswer (ok (bubbleValue p x n (activityIn lg sl) (puresIn ps dps)))
+  unfolding pointAnswer bubbleValue
+  bubble-value-is p e h a b = rw (← e, a, b, h .sum, h .slope)
+
+-- ---- the slope of the dew temperature
+pub dew-value-is : (p : Float) (d : Dew) (ps dps : List Float) {m n : ℕ} {l q s : Float} → m ≡ n → s ≡ sumTo (λ i. at (d .liquid) i ⊗ (at (d .activity .slopes) i ⊕ at dps i)) m → l ≡ lnOf (d .pressure) → q ≡ lnOf p
+    → record { verdict = Passed; value = l ⊖ q; slope = s } ≡ pointAnswer (ok (dewValue p n (puresIn ps dps) d))
+unfolding pointAnswer dewValue dewSlope
+dew-value-is p d ps dps e h a b = rw (← e, a, b, h)
+
+-- ---- the whole: what Boiling.antt writes in one piece
+bind-cong : {A B : Type 0} (o : Out A) (k h : A → Out B) → ((a : A) → k a ≡ h a) → bind o k ≡ bind o h
+unfolding bind
+bind-cong (ok a) k h e = e a
+bind-cong (no m) k h e = refl
+
+-- the same outcome asked twice is asked once
+twice : {A B C D : Type 0} (o : Out A) (F : A → Out B) (G : A → B → Out C) (H : B → C → Out D) → bind (bind o F) (λ b. bind (bind o (λ a. G a b)) (H b)) ≡ bind o (λ a. bind (F a) (λ b. bind (G a b) (H b)))
+unfolding bind
+twice (ok a) F G H = refl
+twice (no m) F G H = refl
+
+module _ (E : Model) (L : Liquids) (n : ℕ) (p : Float) where
+  bubble-whole : (x : List Float) (tolerance : Float) (limit : ℕ) (lo hi : Float)
+      → bubbleTemperature E L n p x tolerance limit lo hi ≡ need (pressureInDomain p) 23 (bind (solveTemperature (bubblePoint E L n p x) tolerance lo hi limit) (λ q. bind (positiveOf (q .temperature) 13) (bubbleFound E L n p x (q .iterations))))
+  unfolding bubbleTemperature bubbleFound bubbleSaturation bubbleAt residual
+  bubble-whole x tolerance limit lo hi =
+      ap (need (pressureInDomain p) 23)
+      (bind-cong (solveTemperature (bubblePoint E L n p x) tolerance lo hi limit) _ _ (λ q.
+      bind-cong (positiveOf (q .temperature) 13) _ _ (λ T.
+      bind-cong (L T) _ _ (λ pure.
+      twice (E T x) (λ a. bubbleFrom x (a .lnGamma) (pure .pressure) n) (λ a b. residualWith (a .lnGamma) (pure .pressure) p x (b .vapor) n) (λ b r. ok (record {
+        temperature = T;
+        pressure = p;
+        liquid = x;
+        vapor = b .vapor;
+        residual = maxOf r (absOf (lnOf (b .pressure ⊘ p)));
+        iterations = q .iterations;
+      }))))))
+
+  -- the given pressure: the code's test is `not` of what `check_pressure` ensures
+  module _ {b : Bool} (c : b ≡ pressureInDomain p) {r : ActivitySaturation} where
+    module _ (x : List Float) (tolerance : Float) (limit : ℕ) (lo hi : Float) where
+      pub bubble-outside : not b ≡ true → r ≡ saturationAnswer (no 23) → r ≡ saturationAnswer (bubbleTemperature E L n p x tolerance limit lo hi)
+      unfolding need
+      bubble-outside h e = rw (bubble-whole x tolerance limit lo hi, was-no h c) e
+
+      pub bubble-inside : not b ≡ false → r ≡ saturationAnswer (bind (solveTemperature (bubblePoint E L n p x) tolerance lo hi limit) (λ q. bind (positiveOf (q .temperature) 13) (bubbleFound E L n p x (q .iterations)))) → r ≡ saturationAnswer (bubbleTemperature E L n p x tolerance limit lo hi)
+      unfolding need
+      bubble-inside h e = rw (bubble-whole x tolerance limit lo hi, was-yes h c) e
+
+    module _ (y : List Float) (tolerance : Float) (limit outer : ℕ) (lo hi : Float) where
+      pub dew-outside : not b ≡ true → r ≡ saturationAnswer (no 23) → r ≡ saturationAnswer (dewTemperature E L n p y tolerance limit outer lo hi)
+      unfolding dewTemperature need
+      dew-outside h e = rw (was-no h c) e
+
+      pub dew-inside : not b ≡ false → r ≡ saturationAnswer (bind (solveTemperature (dewPoint E L n p y tolerance limit) tolerance lo hi outer) (λ q. bind (positiveOf (q .temperature) 13) (dewFound E L n p y tolerance limit (q .iterations)))) → r ≡ saturationAnswer (dewTemperature E L n p y tolerance limit outer lo hi)
+      unfolding dewTemperature need dewFound dewSaturation
+      dew-inside h e = rw (was-yes h c) e

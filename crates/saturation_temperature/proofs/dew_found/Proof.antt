@@ -1,0 +1,43 @@
+-- `saturation_temperature::dew_found` meets its contract. Assumes nothing.
+use borrow.Author.Needs.{needs}
+use Rattle.thermo_models.proofs.Answers.{pures-passed, pures-refused}
+use Rattle.saturation.specs.Answers.{saturationAnswer}
+use Rattle.saturation_temperature.specs.Steps.{dewFound}
+use Rattle.saturation_temperature.proofs.Points.{answer-no, answer-ok}
+use Rattle.saturation_temperature.proofs.dew_found.Statement.{statement}
+use Rattle.saturation_temperature.proofs.dew_found.Tie as tie
+
+pure-liquids-requires : tie.Need-pure-liquids-requires
+pure-liquids-requires c κs = search needs
+
+enum-known-verdict : tie.Need-enum-known-verdict
+enum-known-verdict c = search needs
+
+refused-requires : tie.Need-refused-requires
+refused-requires c κs = search needs
+
+enum-told : tie.Need-enum-told
+enum-told c = search needs
+
+dew-with-requires : tie.Need-dew-with-requires
+dew-with-requires c κs = search needs
+
+returns : tie.Need-returns
+unfolding dewFound
+returns c = answer-no saturationAnswer _ _ (pures-refused _ (c .before .before .before .before .pure-liquids .ensures) (c .before .before .verdict .given .1)) (c .refused .ensures)
+
+returns-2 : tie.Need-returns-2
+unfolding dewFound
+returns-2 c = answer-ok saturationAnswer _ _ (pures-passed _ (c .before .before .before .before .pure-liquids .ensures) (c .before .before .enum-told .given .1)) (c .dew-with .ensures _)
+
+pub dew-found-spec : {M : Type 1} → statement M
+dew-found-spec =
+    tie.close
+    (tie.spec
+    pure-liquids-requires
+    enum-known-verdict
+    refused-requires
+    enum-told
+    dew-with-requires
+    returns
+    returns-2)

@@ -1,0 +1,63 @@
+-- `saturation_temperature::dew_root` meets its contract. Assumes nothing.
+use Prim.Native.Nat.{_-_}
+use mathlib.Core.Path.{_≡_}
+use native.Mathlib.Omega.{arith}
+use borrow.Author.Needs.{needs}
+use Rattle.floats.specs.Vector.{places}
+use Rattle.thermo_models.specs.Activity.{activityOf}
+use Rattle.thermo_models.specs.Domain.{pureLiquidsOf}
+use Rattle.saturation_temperature.specs.Answers.{remaining}
+use Rattle.saturation_temperature.specs.Boiling.{dewPoint}
+use Rattle.saturation_temperature.specs.Search.{solveTemperature}
+use Rattle.saturation_temperature.proofs.Searching.{more-left, search-begun, search-again, search-over}
+use Rattle.saturation_temperature.proofs.dew_root.Statement.{statement}
+use Rattle.saturation_temperature.proofs.dew_root.Tie as tie
+
+abbrev Inv-loop : tie.InvT-loop
+Inv-loop book tau alpha n p y tolerance limit outer lo hi s₀ done₀ s done = remaining (dewPoint (activityOf tau alpha (places n)) (pureLiquidsOf book (places n)) (places n) p y tolerance limit) tolerance (outer - done) done s ≡ solveTemperature (dewPoint (activityOf tau alpha (places n)) (pureLiquidsOf book (places n)) (places n) p y tolerance limit) tolerance lo hi outer
+
+abbrev μ-loop : tie.MeasureT-loop
+μ-loop book tau alpha n p y tolerance limit outer lo hi s₀ done₀ s done = outer - done
+
+dew-ends-requires : tie.Need-dew-ends-requires Inv-loop μ-loop
+dew-ends-requires c κs = search needs
+
+loop-holds : tie.Need-loop-holds Inv-loop μ-loop
+loop-holds c = search-begun _ _ _ _ (c .dew-ends .ensures _)
+
+dew-point-requires : tie.Need-dew-point-requires Inv-loop μ-loop
+dew-point-requires c κs = search needs
+
+turn-requires : tie.Need-turn-requires Inv-loop μ-loop
+turn-requires c κs = search needs
+
+add-done : tie.Need-add-done Inv-loop μ-loop
+add-done c = omega (arith, more-left (c .before .before .before .before .loop .s .going) (c .before .before .before .before .loop .done) (c .before .before .before .before .before .before .before .args .outer) (c .before .before .if1 .taken))
+
+loop-less : tie.Need-loop-less Inv-loop μ-loop
+loop-less c = omega (arith, more-left (c .before .before .before .before .loop .s .going) (c .before .before .before .before .loop .done) (c .before .before .before .before .before .before .before .args .outer) (c .before .before .if1 .taken))
+
+loop-again : tie.Need-loop-again Inv-loop μ-loop
+loop-again c = search-again _ _ _ _ _ (c .before .before .before .before .loop .inv) (c .before .before .if1 .taken) _ (λ go. c .turn .ensures _ _ _ go (c .before .dew-point .ensures))
+
+root-requires : tie.Need-root-requires Inv-loop μ-loop
+root-requires c κs = search needs
+
+returns : tie.Need-returns Inv-loop μ-loop
+returns c = search-over _ _ _ _ _ (c .before .before .before .loop .inv) (c .before .if1 .left) (c .root .ensures _ _)
+
+pub dew-root-spec : {M : Type 1} → statement M
+dew-root-spec =
+    tie.close
+    (tie.spec
+    Inv-loop
+    μ-loop
+    dew-ends-requires
+    loop-holds
+    dew-point-requires
+    turn-requires
+    add-done
+    loop-less
+    loop-again
+    root-requires
+    returns)

@@ -1,0 +1,5 @@
+-- What the contracts of saturation_temperature cite. Assumes nothing.
+pub mod Search
+pub mod Boiling
+pub mod Answers
+pub mod Steps

@@ -1,0 +1,46 @@
+-- `thermo_models::visit` meets its contract: the record read is the pair's, since its indices are below n. Assumes nothing.
+use borrow.Author.Needs.{needs}
+use Rattle.thermo_models.proofs.Intervals.{interval-is}
+use Rattle.thermo_models.specs.Validity.{visited}
+use Rattle.thermo_models.proofs.visit.Statement.{statement}
+use Rattle.thermo_models.proofs.visit.Tie as tie
+
+mul-if1 : tie.Need-mul-if1
+mul-if1 c = search needs
+
+element-copy-out-if1 : tie.Need-element-copy-out-if1
+element-copy-out-if1 c = search needs
+
+mul-if1-2 : tie.Need-mul-if1-2
+mul-if1-2 c = search needs
+
+element-copy-out-if1-2 : tie.Need-element-copy-out-if1-2
+element-copy-out-if1-2 c = search needs
+
+pair-record-requires : tie.Need-pair-record-requires
+pair-record-requires c κs = search needs
+
+note-requires : tie.Need-note-requires
+note-requires c κs = search needs
+
+returns : tie.Need-returns
+unfolding visited
+returns c = let s = c .before .before .before .before .before .before in
+    rw (c .before .before .if1 .taken, ← interval-is _ _ _ _ (s .pre .0) (s .pre .1) (s .pre .2) (c .before .pair-record .ensures)) (c .note .ensures)
+
+returns-2 : tie.Need-returns-2
+unfolding visited
+returns-2 c = rw (c .if1 .left)
+
+pub visit-spec : {M : Type 1} → statement M
+visit-spec =
+    tie.close
+    (tie.spec
+    mul-if1
+    element-copy-out-if1
+    mul-if1-2
+    element-copy-out-if1-2
+    pair-record-requires
+    note-requires
+    returns
+    returns-2)

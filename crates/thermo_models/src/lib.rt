@@ -1,0 +1,231 @@
+// What the solvers ask of the models: the domain, the pure liquids, activity from the tables of a temperature, and validity (models/activity.rs, nrtl.rs).
+ghost use mathlib.Core.Path.{_≡_};
+ghost use Prim.Native.Nat.{_≤_, _<_};
+ghost use Rattle.floats.specs.Fold.{allTo};
+ghost use Rattle.floats.specs.Vector.{places};
+ghost use Rattle.thermo_models.specs.Model.{ActivityIs, PuresAre, pressureInDomain};
+ghost use Rattle.thermo_models.specs.Domain.{solventCovers, temperatureInDomain, puresTo, pureLiquidsOf};
+ghost use Rattle.thermo_models.specs.Activity.{activityOn, Tabled};
+ghost use Rattle.thermo_models.specs.Validity.{noted, visited, rowSeen, allSeen, statusOf, validityOf};
+use records::Regression;
+use thermo_types::Temperature;
+use thermo_types::Verdict;
+
+// ---- the domain of temperatures and pressures
+
+fn solvent_covers(book: &[u8], t: f64, i: usize) -> bool
+    ensures { λ r. ⌜ r ≡ solventCovers (now (book .entry)) t i ⌝ }
+{
+    let a = records::vapor_pressure_range(book, i);
+    let b = records::density_range(book, i);
+    liquid::in_range(a.0, a.1, t) & liquid::in_range(b.0, b.1, t)
+}
+
+fn all_cover(book: &[u8], t: f64, n: usize) -> bool
+    ensures { λ r. ⌜ r ≡ allTo (solventCovers (now (book .entry)) t) n ⌝ }
+{
+    let mut i = 0;
+    while i < n {
+        if !solvent_covers(book, t, i) {
+            return false;
+        }
+        i += 1;
+    }
+    true
+}
+
+// 273.16 to 450 K and the two ranges of every solvent, absent ones too.
+pub fn check_temperature(book: &[u8], n: usize, t: Temperature) -> bool
+    ensures { λ r. ⌜ r ≡ temperatureInDomain (now (book .entry)) (places n) (t .0) ⌝ }
+{
+    let v = t.value();
+    liquid::in_range(273.16, 450.0, v) & all_cover(book, v, floats::places(n))
+}
+
+// 100 to 500000 Pa.
+pub fn check_pressure(p: f64) -> bool
+    ensures { λ r. ⌜ r ≡ pressureInDomain p ⌝ }
+{
+    (100.0 <= p) & (p <= 500000.0)
+}
+
+// ---- the pure liquids at a temperature
+
+fn fill_pures(
+    book: &[u8],
+    n: usize,
+    t: Temperature,
+    ps: &mut [f64; 8],
+    dps: &mut [f64; 8],
+) -> Verdict
+    requires { ⌜ n ≤ 8 ⌝ }
+    ensures { λ r. ⌜ PuresAre (puresTo (now (book .entry)) (t .0) n) r (now (ps .exit)) (now (dps .exit)) ⌝ }
+{
+    *ps = [0.0; 8];
+    *dps = [0.0; 8];
+    for i in 0..n {
+        let v = liquid::vapor_pressure(records::vapor_pressure_record(book, i), t);
+        let verdict = v.verdict;
+        if let Verdict::Refused(r) = verdict {
+            *ps = [0.0; 8];
+            *dps = [0.0; 8];
+            return Verdict::Refused(r);
+        }
+        ps[i] = v.pressure;
+        dps[i] = v.d_ln_pressure_dt;
+    }
+    Verdict::Passed
+}
+
+// p_sat (Pa) and its logarithmic slope (1/K) of each of the book's first n solvents at t: 22, then 25.
+pub fn pure_liquids(
+    book: &[u8],
+    n: usize,
+    t: Temperature,
+    ps: &mut [f64; 8],
+    dps: &mut [f64; 8],
+) -> Verdict
+    ensures { λ r. ⌜ PuresAre (pureLiquidsOf (now (book .entry)) (places n) (t .0)) r (now (ps .exit)) (now (dps .exit)) ⌝ }
+{
+    if !check_temperature(book, n, t) {
+        *ps = [0.0; 8];
+        *dps = [0.0; 8];
+        return Verdict::Refused(22);
+    }
+    fill_pures(book, floats::places(n), t, ps, dps)
+}
+
+// ---- activity
+
+// The tables of τ and G at t, worked out once per temperature; "24" is carried in the verdict.
+pub fn tables(
+    tau: &[f64; 256],
+    alpha: &[f64; 128],
+    n: usize,
+    t: Temperature,
+    table: &mut [f64; 512],
+) -> Verdict
+    ensures { λ r. ⌜ Tabled (now (tau .entry)) (now (alpha .entry)) (places n) (t .0) r (now (table .entry)) (now (table .exit)) ⌝ }
+{
+    nrtl_tables::tables(tau, alpha, n, t, table)
+}
+
+// ln γ and slopes of x at t, from its tables: 13, 15, 16, 18, 24, 25.
+pub fn activity(
+    table: &[f64; 512],
+    alphas: Verdict,
+    n: usize,
+    t: Temperature,
+    x: &[f64; 8],
+    lg: &mut [f64; 8],
+    sl: &mut [f64; 8],
+) -> Verdict
+    ensures { λ r. ⌜ ActivityIs (activityOn (now (table .entry)) alphas (places n) (t .0) (now (x .entry))) r (now (lg .exit)) (now (sl .exit)) ⌝ }
+{
+    nrtl::excess(table, alphas, n, t, x, lg, sl).verdict
+}
+
+// ---- validity
+
+// Extrapolated: T outside an interval of a pair present. Unassessed: a pair without interval, or no pair present.
+pub enum ValidityStatus {
+    Unassessed,
+    WithinDeclaredDomain,
+    Extrapolated,
+}
+
+pub struct Assessment {
+    pub status: ValidityStatus,
+    pub inferred: bool,
+}
+
+// What the pairs passed so far have shown.
+struct Seen {
+    active: bool,
+    missing: bool,
+    extrapolated: bool,
+    inferred: bool,
+}
+
+fn note(r: Regression, t: f64, s: Seen) -> Seen
+    ensures { λ q. ⌜ q ≡ noted r t s ⌝ }
+{
+    match r {
+        Regression::None => Seen {
+            active: true,
+            missing: true,
+            extrapolated: s.extrapolated,
+            inferred: s.inferred,
+        },
+        Regression::Interval(lo, hi, inferred) => Seen {
+            active: true,
+            missing: s.missing,
+            extrapolated: s.extrapolated | !liquid::in_range(lo, hi, t),
+            inferred: s.inferred | inferred,
+        },
+    }
+}
+
+fn visit(book: &[u8], n: usize, t: f64, x: &[f64; 8], i: usize, j: usize, s: Seen) -> Seen
+    requires { ⌜ (n ≤ 8) × (i < n) × (j < n) ⌝ }
+    ensures { λ r. ⌜ r ≡ visited (now (book .entry)) n t (now (x .entry)) i j s ⌝ }
+{
+    if (i < j) & (!(x[i] <= 0.0) & !(x[j] <= 0.0)) {
+        let pair = records::pair_record(book, n, i, j);
+        let interval = pair.regression;
+        note(interval, t, s)
+    } else {
+        s
+    }
+}
+
+fn see_row(book: &[u8], n: usize, t: f64, x: &[f64; 8], i: usize, seen: Seen) -> Seen
+    requires { ⌜ (n ≤ 8) × (i < n) ⌝ }
+    ensures { λ r. ⌜ r ≡ rowSeen (now (book .entry)) n t (now (x .entry)) i seen ⌝ }
+{
+    let mut s = seen;
+    for j in 0..n {
+        s = visit(book, n, t, x, i, j, s);
+    }
+    s
+}
+
+fn see_all(book: &[u8], n: usize, t: f64, x: &[f64; 8]) -> Seen
+    requires { ⌜ n ≤ 8 ⌝ }
+    ensures { λ r. ⌜ r ≡ allSeen (now (book .entry)) n t (now (x .entry)) ⌝ }
+{
+    let mut s = Seen {
+        active: false,
+        missing: false,
+        extrapolated: false,
+        inferred: false,
+    };
+    for i in 0..n {
+        s = see_row(book, n, t, x, i, s);
+    }
+    s
+}
+
+fn status_of(s: Seen) -> ValidityStatus
+    ensures { λ r. ⌜ r ≡ statusOf s ⌝ }
+{
+    if s.extrapolated {
+        return ValidityStatus::Extrapolated;
+    }
+    if s.missing | !s.active {
+        return ValidityStatus::Unassessed;
+    }
+    ValidityStatus::WithinDeclaredDomain
+}
+
+// Over pairs with both fractions positive.
+pub fn validity(book: &[u8], n: usize, t: Temperature, x: &[f64; 8]) -> Assessment
+    ensures { λ r. ⌜ r ≡ validityOf (now (book .entry)) (places n) (t .0) (now (x .entry)) ⌝ }
+{
+    let s = see_all(book, floats::places(n), t.value(), x);
+    let inferred = s.inferred;
+    Assessment {
+        status: status_of(s),
+        inferred: inferred,
+    }
+}

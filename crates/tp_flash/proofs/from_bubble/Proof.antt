@@ -1,0 +1,38 @@
+-- `tp_flash::from_bubble` meets its contract. Assumes nothing.
+use borrow.Author.Needs.{needs}
+use Rattle.tp_flash.proofs.Laws.{phases-refused, phases-passed}
+use Rattle.tp_flash.proofs.from_bubble.Statement.{statement}
+use Rattle.tp_flash.proofs.from_bubble.Tie as tie
+
+bubble-at-requires : tie.Need-bubble-at-requires
+bubble-at-requires c κs = search needs
+
+enum-known-verdict : tie.Need-enum-known-verdict
+enum-known-verdict c = search needs
+
+no-flash-requires : tie.Need-no-flash-requires
+no-flash-requires c κs = search needs
+
+enum-told : tie.Need-enum-told
+enum-told c = search needs
+
+from-dew-requires : tie.Need-from-dew-requires
+from-dew-requires c κs = search needs
+
+returns : tie.Need-returns
+returns c = phases-refused _ _ _ _ _ _ _ _ (c .before .before .before .before .bubble-at .ensures) (c .before .before .verdict .given .1) (c .no-flash .ensures)
+
+returns-2 : tie.Need-returns-2
+returns-2 c = phases-passed _ _ _ _ _ _ _ _ (c .before .before .before .bubble-at .ensures) (c .before .enum-told .given .1) (c .from-dew .ensures)
+
+pub from-bubble-spec : {M : Type 1} → statement M
+from-bubble-spec =
+    tie.close
+    (tie.spec
+    bubble-at-requires
+    enum-known-verdict
+    no-flash-requires
+    enum-told
+    from-dew-requires
+    returns
+    returns-2)

@@ -1,0 +1,786 @@
+// Isothermal-isobaric gamma-phi flash (activity.rs): at most one liquid. Compositions are arrays of eight, of which the first n are read.
+ghost use mathlib.Core.Path.{_≡_};
+ghost use mathlib.Core.Bool.{cond};
+ghost use lib.Ieee.{lt};
+ghost use Rattle.floats.specs.Arithmetic.{_⊕_, _⊖_, 0f, 1f};
+ghost use Rattle.floats.specs.Small.{maxOf, absOf};
+ghost use Rattle.floats.specs.Vector.{at, places};
+ghost use Rattle.floats.specs.Outcome.{no};
+ghost use Rattle.numerics.specs.Numerics.{expOf, lnOf};
+ghost use Rattle.thermo_models.specs.Activity.{activityOn, activityOf};
+ghost use Rattle.thermo_models.specs.Domain.{pureLiquidsOf, temperatureInDomain};
+ghost use Rattle.liquid_stability.specs.Stability.{noTrial, stabilityOf, stabilityAnswer};
+ghost use Rattle.tp_flash.specs.Split.{kValues, phaseOf, splitGap, balanceOf, turnAt, splitTurn, splitFrom};
+ghost use Rattle.tp_flash.specs.Answers.{noSplit, splitPoint, splitAnswer, noTurn, turnAnswer, splitIn, stopsAt, requireStable, andFractions, phasesWith, dewPressureAnswer};
+ghost use Rattle.tp_flash.specs.Tp.{inside, nearEdge, asLiquid, asVapor, asBoth, boundaryOf, fromSplit, splitFeed, betweenOf, dewOf, fromDew, phasesOf, tpFlash, flashAnswer};
+use liquid_stability::LiquidStability;
+use liquid_stability::LiquidStabilityTrial;
+use rachford_rice::RachfordRiceOutcome;
+use thermo_types::Pressure;
+use thermo_types::Temperature;
+use thermo_types::Verdict;
+
+pub enum FlashPhases {
+    Liquid,
+    Vapor,
+    Both,
+}
+
+// Pressures in Pa. The first `count` trials are those of the liquid, where it was tested.
+pub struct ActivityTpFlash {
+    pub verdict: Verdict,
+    pub phases: FlashPhases,
+    pub bubble: f64,
+    pub dew: f64,
+    pub iterations: u64,
+    pub residual: f64,
+    pub balance: f64,
+    pub vapor_fraction: f64,
+    pub notes: u64,
+    pub liquid: [f64; 8],
+    pub vapor: [f64; 8],
+    pub tested: bool,
+    pub count: usize,
+    pub trials: [LiquidStabilityTrial; 8],
+}
+
+// Of ActivityOptions: tm_threshold, tolerance, max_iterations.
+struct FlashOptions {
+    threshold: f64,
+    tolerance: f64,
+    max_iterations: u64,
+}
+
+// Bubble and dew pressure of the feed, Pa.
+struct Saturated {
+    bubble: f64,
+    dew: f64,
+}
+
+// A7-GAMMA-PHI is bit 0, A7-SPLIT-AT-SATURATION-BOUNDARY bit 1, A7-LIQUID-TPD-FINITE-TRIALS bit 2.
+const GAMMA_PHI: u64 = 1;
+
+const AT_BOUNDARY: u64 = 3;
+
+const FINITE_TRIALS: u64 = 5;
+
+// ---- the split at T and p
+
+// A converged split: vapor fraction, both phases, the largest gap of ln fugacities; zeros where it is refused.
+struct SplitPoint {
+    verdict: Verdict,
+    vapor_fraction: f64,
+    liquid: [f64; 8],
+    vapor: [f64; 8],
+    residual: f64,
+    iterations: u64,
+}
+
+// A turn's split, and ln γ at its liquid.
+struct SplitTurn {
+    point: SplitPoint,
+    lg: [f64; 8],
+}
+
+// K_i, or 1.0 where the feed has none of the solvent; lnp = ln p.
+fn k_value(z: f64, lg: f64, ps: f64, lnp: f64) -> f64
+    ensures { λ r. ⌜ r ≡ cond (lt 0f z) (expOf (lg ⊕ lnOf ps ⊖ lnp)) 1f ⌝ }
+{
+    if z > 0.0 {
+        numerics::exp(lg + numerics::ln(ps) - lnp)
+    } else {
+        1.0
+    }
+}
+
+// K_i = γ_i p_i^sat / p where the feed is positive; no sum of Rachford-Rice reads the others.
+fn k_values(z: &[f64; 8], ps: &[f64; 8], p: Pressure, lg: &[f64; 8], n: usize) -> [f64; 8]
+    ensures { λ r. ⌜ r ≡ kValues (now (z .entry)) (now (ps .entry)) (p .0) (now (lg .entry)) (places n) ⌝ }
+{
+    let m = floats::places(n);
+    let lnp = numerics::ln(p.value());
+    let mut k = [0.0; 8];
+    for i in 0..m {
+        k[i] = k_value(z[i], lg[i], ps[i], lnp);
+    }
+    k
+}
+
+// An entry of a phase, or 0.0 where the feed has none of the solvent.
+fn present_part(z: f64, l: f64) -> f64
+    ensures { λ r. ⌜ r ≡ cond (lt 0f z) l 0f ⌝ }
+{
+    if z > 0.0 { l } else { 0.0 }
+}
+
+// The entries of a phase where the feed is positive, over their sum.
+fn phase_of(z: &[f64; 8], l: &[f64; 8], n: usize) -> [f64; 8]
+    ensures { λ r. ⌜ r ≡ phaseOf (now (z .entry)) (now (l .entry)) (places n) ⌝ }
+{
+    let m = floats::places(n);
+    let mut w = [0.0; 8];
+    for i in 0..m {
+        w[i] = present_part(z[i], l[i]);
+    }
+    thermo_types::normalize(&w, n)
+}
+
+// The larger of r and the gap of one solvent; lnp = ln p.
+fn gap_term(r: f64, z: f64, y: f64, lnp: f64, x: f64, lg: f64, ps: f64) -> f64
+    ensures { λ v. ⌜ v ≡ cond (lt 0f z) (maxOf r (absOf (lnOf y ⊕ lnp ⊖ lnOf x ⊖ lg ⊖ lnOf ps))) r ⌝ }
+{
+    if z > 0.0 {
+        floats::max(
+            r,
+            floats::abs(numerics::ln(y) + lnp - numerics::ln(x) - lg - numerics::ln(ps)),
+        )
+    } else {
+        r
+    }
+}
+
+// max_i |ln(y_i p) - ln(x_i γ_i p_i^sat)| where the feed is positive.
+fn split_gap(
+    z: &[f64; 8],
+    lg: &[f64; 8],
+    ps: &[f64; 8],
+    p: Pressure,
+    x: &[f64; 8],
+    y: &[f64; 8],
+    n: usize,
+) -> f64
+    ensures { λ r. ⌜ r ≡ splitGap (now (z .entry)) (now (lg .entry)) (now (ps .entry)) (p .0) (now (x .entry)) (now (y .entry)) (places n) ⌝ }
+{
+    let m = floats::places(n);
+    let lnp = numerics::ln(p.value());
+    let mut r = 0.0;
+    for i in 0..m {
+        r = gap_term(r, z[i], y[i], lnp, x[i], lg[i], ps[i]);
+    }
+    r
+}
+
+// max_i |β y_i + (1 - β) x_i - z_i|.
+fn balance(beta: f64, x: &[f64; 8], y: &[f64; 8], z: &[f64; 8], n: usize) -> f64
+    ensures { λ r. ⌜ r ≡ balanceOf beta (now (x .entry)) (now (y .entry)) (now (z .entry)) (places n) ⌝ }
+{
+    let m = floats::places(n);
+    let mut r = 0.0;
+    for i in 0..m {
+        r = floats::max(r, floats::abs(beta * y[i] + (1.0 - beta) * x[i] - z[i]));
+    }
+    r
+}
+
+fn no_split(verdict: Verdict) -> SplitPoint
+    ensures { λ r. ⌜ r ≡ noSplit verdict ⌝ }
+{
+    let z = [0.0; 8];
+    SplitPoint {
+        verdict: verdict,
+        vapor_fraction: 0.0,
+        liquid: z,
+        vapor: z,
+        residual: 0.0,
+        iterations: 0,
+    }
+}
+
+fn no_turn(verdict: Verdict) -> SplitTurn
+    ensures { λ r. ⌜ r ≡ noTurn verdict ⌝ }
+{
+    let point = no_split(verdict);
+    let z = [0.0; 8];
+    SplitTurn {
+        point: point,
+        lg: z,
+    }
+}
+
+fn split_point(beta: f64, x: &[f64; 8], y: &[f64; 8], residual: f64, iteration: u64) -> SplitPoint
+    ensures { λ r. ⌜ r ≡ splitPoint beta (now (x .entry)) (now (y .entry)) residual iteration ⌝ }
+{
+    let liquid = *x;
+    let vapor = *y;
+    SplitPoint {
+        verdict: Verdict::Passed,
+        vapor_fraction: beta,
+        liquid: liquid,
+        vapor: vapor,
+        residual: residual,
+        iterations: iteration,
+    }
+}
+
+// The phases x and y of a solution of Rachford-Rice: ln γ at x, and the gap (25).
+fn turn_at(
+    table: &[f64; 512],
+    alphas: Verdict,
+    n: usize,
+    t: Temperature,
+    z: &[f64; 8],
+    p: Pressure,
+    ps: &[f64; 8],
+    beta: f64,
+    x: &[f64; 8],
+    y: &[f64; 8],
+    iteration: u64,
+) -> SplitTurn
+    ensures { λ r. ⌜ r ≡ turnAnswer (turnAt (activityOn (now (table .entry)) alphas (places n) (t .0)) (now (ps .entry)) (places n) (p .0) (now (z .entry)) beta (now (x .entry)) (now (y .entry)) iteration) ⌝ }
+{
+    let mut lg = [0.0; 8];
+    let mut sl = [0.0; 8];
+    let verdict = thermo_models::activity(table, alphas, n, t, x, &mut lg, &mut sl);
+    match verdict {
+        Verdict::Refused(number) => no_turn(Verdict::Refused(number)),
+        Verdict::Passed => {
+            let residual = split_gap(z, &lg, ps, p, x, y, n);
+            if !floats::is_finite(residual) {
+                return no_turn(Verdict::Refused(25));
+            }
+            let point = split_point(beta, x, y, residual, iteration);
+            SplitTurn {
+                point: point,
+                lg: lg,
+            }
+        }
+    }
+}
+
+// RACHFORD_RICE_MAX_ITERATIONS, whatever the options say.
+const RACHFORD_RICE_MAX_ITERATIONS: u64 = 200;
+
+// One turn from ln γ.
+fn split_turn(
+    table: &[f64; 512],
+    alphas: Verdict,
+    n: usize,
+    t: Temperature,
+    z: &[f64; 8],
+    p: Pressure,
+    ps: &[f64; 8],
+    lg: &[f64; 8],
+    iteration: u64,
+) -> SplitTurn
+    ensures { λ r. ⌜ r ≡ turnAnswer (splitTurn (activityOn (now (table .entry)) alphas (places n) (t .0)) (now (ps .entry)) (places n) (p .0) (now (z .entry)) (now (lg .entry)) iteration) ⌝ }
+{
+    let k = k_values(z, ps, p, lg, n);
+    let rr = rachford_rice::rachford_rice_negative(z, &k, n, RACHFORD_RICE_MAX_ITERATIONS);
+    let verdict = rr.verdict;
+    let outcome = rr.outcome;
+    match outcome {
+        RachfordRiceOutcome::TwoPhase(beta, _, _) => {
+            let liquid = rr.liquid;
+            let vapor = rr.vapor;
+            let x = phase_of(z, &liquid, n);
+            let y = phase_of(z, &vapor, n);
+            turn_at(table, alphas, n, t, z, p, ps, beta, &x, &y, iteration)
+        }
+        RachfordRiceOutcome::LiquidOnly => no_turn(verdict),
+        RachfordRiceOutcome::VaporOnly => no_turn(verdict),
+    }
+}
+
+// The iteration ends at a refusal, or where the gap is within the tolerance.
+fn stops_at(verdict: Verdict, residual: f64, tolerance: f64) -> bool
+    ensures { λ r. ⌜ r ≡ stopsAt verdict residual tolerance ⌝ }
+{
+    match verdict {
+        Verdict::Passed => residual <= tolerance,
+        Verdict::Refused(_) => true,
+    }
+}
+
+// Successive substitution from ln γ of the feed, `start`; 27 where the turns are used up.
+fn split_from(
+    table: &[f64; 512],
+    alphas: Verdict,
+    n: usize,
+    t: Temperature,
+    z: &[f64; 8],
+    p: Pressure,
+    ps: &[f64; 8],
+    start: &[f64; 8],
+    tolerance: f64,
+    max_iterations: u64,
+) -> SplitPoint
+    ensures { λ r. ⌜ r ≡ splitAnswer (splitFrom (activityOn (now (table .entry)) alphas (places n) (t .0)) (now (ps .entry)) (places n) (p .0) (now (z .entry)) tolerance «max_iterations» 0 (now (start .entry))) ⌝ }
+{
+    let mut lg = *start;
+    for iteration in 1..=max_iterations {
+        let turn = split_turn(table, alphas, n, t, z, p, ps, &lg, iteration);
+        let point = turn.point;
+        let verdict = point.verdict;
+        if stops_at(verdict, point.residual, tolerance) {
+            return point;
+        }
+        let next = turn.lg;
+        lg = next;
+    }
+    no_split(Verdict::Refused(27))
+}
+
+// ---- the phases of the feed
+
+fn no_trial() -> LiquidStabilityTrial
+    ensures { λ r. ⌜ r ≡ noTrial ⌝ }
+{
+    let z = [0.0; 8];
+    LiquidStabilityTrial {
+        component: 0,
+        distance: 0.0,
+        composition: z,
+        iterations: 0,
+        trivial: false,
+    }
+}
+
+// Phases with neither compositions nor trials yet.
+fn phases_with(
+    phases: FlashPhases,
+    saturated: Saturated,
+    vapor_fraction: f64,
+    notes: u64,
+) -> ActivityTpFlash
+    ensures { λ r. ⌜ r ≡ phasesWith phases saturated «vapor_fraction» notes ⌝ }
+{
+    let z = [0.0; 8];
+    let trial = no_trial();
+    let trials = [trial; 8];
+    ActivityTpFlash {
+        verdict: Verdict::Passed,
+        phases: phases,
+        bubble: saturated.bubble,
+        dew: saturated.dew,
+        iterations: 0,
+        residual: 0.0,
+        balance: 0.0,
+        vapor_fraction: vapor_fraction,
+        notes: notes,
+        liquid: z,
+        vapor: z,
+        tested: false,
+        count: 0,
+        trials: trials,
+    }
+}
+
+fn no_flash(number: u64) -> ActivityTpFlash
+    ensures { λ r. ⌜ r ≡ flashAnswer (no number) ⌝ }
+{
+    let z = [0.0; 8];
+    let trial = no_trial();
+    let trials = [trial; 8];
+    ActivityTpFlash {
+        verdict: Verdict::Refused(number),
+        phases: FlashPhases::Liquid,
+        bubble: 0.0,
+        dew: 0.0,
+        iterations: 0,
+        residual: 0.0,
+        balance: 0.0,
+        vapor_fraction: 0.0,
+        notes: 0,
+        liquid: z,
+        vapor: z,
+        tested: false,
+        count: 0,
+        trials: trials,
+    }
+}
+
+// 29 for a liquid that isn't stable in its trials.
+fn require_stable(verdict: Verdict, stable: bool) -> Verdict
+    ensures { λ r. ⌜ r ≡ requireStable verdict stable ⌝ }
+{
+    match verdict {
+        Verdict::Refused(number) => Verdict::Refused(number),
+        Verdict::Passed => {
+            if stable {
+                Verdict::Passed
+            } else {
+                Verdict::Refused(29)
+            }
+        }
+    }
+}
+
+// A verdict, then that of x as mole fractions.
+fn and_fractions(verdict: Verdict, x: &[f64; 8], n: usize) -> Verdict
+    ensures { λ r. ⌜ r ≡ andFractions verdict (now (x .entry)) (places n) ⌝ }
+{
+    match verdict {
+        Verdict::Refused(number) => Verdict::Refused(number),
+        Verdict::Passed => thermo_types::with_fractions(x, n),
+    }
+}
+
+// The feed as one vapor: its fractions.
+fn as_vapor(n: usize, z: &[f64; 8], saturated: Saturated, notes: u64) -> ActivityTpFlash
+    ensures { λ r. ⌜ r ≡ flashAnswer (asVapor (places n) (now (z .entry)) (saturated .bubble) (saturated .dew) notes) ⌝ }
+{
+    let verdict = thermo_types::with_fractions(z, n);
+    match verdict {
+        Verdict::Refused(number) => no_flash(number),
+        Verdict::Passed => {
+            let mut flash = phases_with(FlashPhases::Vapor, saturated, 1.0, notes);
+            let feed = *z;
+            flash.vapor = feed;
+            flash
+        }
+    }
+}
+
+// The trials of the liquid x.
+fn trials_of(
+    table: &[f64; 512],
+    alphas: Verdict,
+    n: usize,
+    t: Temperature,
+    options: FlashOptions,
+    x: &[f64; 8],
+) -> LiquidStability
+    ensures { λ r. ⌜ r ≡ stabilityAnswer (stabilityOf (activityOn (now (table .entry)) alphas (places n) (t .0)) (options .threshold) (places n) (now (x .entry)) (options .«max_iterations»)) ⌝ }
+{
+    liquid_stability::liquid_stability(
+        table,
+        alphas,
+        n,
+        t,
+        x,
+        options.threshold,
+        options.max_iterations,
+    )
+}
+
+// The feed as one liquid: its trials (29), then its fractions.
+fn as_liquid(
+    table: &[f64; 512],
+    alphas: Verdict,
+    n: usize,
+    t: Temperature,
+    options: FlashOptions,
+    z: &[f64; 8],
+    saturated: Saturated,
+    notes: u64,
+) -> ActivityTpFlash
+    ensures { λ r. ⌜ r ≡ flashAnswer (asLiquid (activityOn (now (table .entry)) alphas (places n) (t .0)) (places n) (options .threshold) (options .«max_iterations») (now (z .entry)) (saturated .bubble) (saturated .dew) notes) ⌝ }
+{
+    let stability = trials_of(table, alphas, n, t, options, z);
+    let answered = stability.verdict;
+    let tested = require_stable(answered, stability.stable);
+    let verdict = and_fractions(tested, z, n);
+    match verdict {
+        Verdict::Refused(number) => no_flash(number),
+        Verdict::Passed => {
+            let mut flash = phases_with(FlashPhases::Liquid, saturated, 0.0, notes);
+            let feed = *z;
+            flash.liquid = feed;
+            flash.tested = true;
+            flash.count = stability.count;
+            let trials = stability.trials;
+            flash.trials = trials;
+            flash
+        }
+    }
+}
+
+// Both phases: the trials of the liquid (29), then the fractions of the vapor and of the liquid.
+fn as_both(
+    table: &[f64; 512],
+    alphas: Verdict,
+    n: usize,
+    t: Temperature,
+    options: FlashOptions,
+    z: &[f64; 8],
+    saturated: Saturated,
+    split: SplitPoint,
+) -> ActivityTpFlash
+    ensures { λ r. ⌜ r ≡ flashAnswer (asBoth (activityOn (now (table .entry)) alphas (places n) (t .0)) (places n) (options .threshold) (options .«max_iterations») (now (z .entry)) (saturated .bubble) (saturated .dew) (splitIn split)) ⌝ }
+{
+    let x = split.liquid;
+    let y = split.vapor;
+    let beta = split.vapor_fraction;
+    let stability = trials_of(table, alphas, n, t, options, &x);
+    let answered = stability.verdict;
+    let tested = require_stable(answered, stability.stable);
+    let passed = and_fractions(tested, &y, n);
+    let verdict = and_fractions(passed, &x, n);
+    match verdict {
+        Verdict::Refused(number) => no_flash(number),
+        Verdict::Passed => {
+            let mut flash = phases_with(FlashPhases::Both, saturated, beta, FINITE_TRIALS);
+            flash.iterations = split.iterations;
+            flash.residual = split.residual;
+            flash.balance = balance(beta, &x, &y, z, n);
+            flash.liquid = x;
+            flash.vapor = y;
+            flash.tested = true;
+            flash.count = stability.count;
+            let trials = stability.trials;
+            flash.trials = trials;
+            flash
+        }
+    }
+}
+
+// A vapor fraction inside (0, 1).
+fn inside(beta: f64) -> bool
+    ensures { λ r. ⌜ r ≡ inside beta ⌝ }
+{
+    (beta > 0.0) & (beta < 1.0)
+}
+
+// |min(β, 1 - β)| within SATURATION_BETA_ROUNDOFF, 1e-10.
+fn near_edge(beta: f64) -> bool
+    ensures { λ r. ⌜ r ≡ nearEdge beta ⌝ }
+{
+    floats::abs(floats::min(beta, 1.0 - beta)) <= 1e-10
+}
+
+// The saturated single phase of a split at a boundary.
+fn at_boundary(
+    table: &[f64; 512],
+    alphas: Verdict,
+    n: usize,
+    t: Temperature,
+    options: FlashOptions,
+    z: &[f64; 8],
+    saturated: Saturated,
+    beta: f64,
+) -> ActivityTpFlash
+    ensures { λ r. ⌜ r ≡ flashAnswer (boundaryOf (activityOn (now (table .entry)) alphas (places n) (t .0)) (places n) (options .threshold) (options .«max_iterations») (now (z .entry)) (saturated .bubble) (saturated .dew) beta) ⌝ }
+{
+    if beta >= 1.0 {
+        as_vapor(n, z, saturated, AT_BOUNDARY)
+    } else {
+        as_liquid(table, alphas, n, t, options, z, saturated, AT_BOUNDARY)
+    }
+}
+
+// A converged split: both phases, or the saturated single phase at a boundary; else 30.
+fn from_split(
+    table: &[f64; 512],
+    alphas: Verdict,
+    n: usize,
+    t: Temperature,
+    options: FlashOptions,
+    z: &[f64; 8],
+    saturated: Saturated,
+    split: SplitPoint,
+) -> ActivityTpFlash
+    ensures { λ r. ⌜ r ≡ flashAnswer (fromSplit (activityOn (now (table .entry)) alphas (places n) (t .0)) (places n) (options .threshold) (options .«max_iterations») (now (z .entry)) (saturated .bubble) (saturated .dew) (splitIn split)) ⌝ }
+{
+    let beta = split.vapor_fraction;
+    let within = inside(beta);
+    if !within & near_edge(beta) {
+        return at_boundary(table, alphas, n, t, options, z, saturated, beta);
+    }
+    if within {
+        as_both(table, alphas, n, t, options, z, saturated, split)
+    } else {
+        no_flash(30)
+    }
+}
+
+// Between dew and bubble: the split from ln γ of the feed.
+fn split_feed(
+    table: &[f64; 512],
+    alphas: Verdict,
+    n: usize,
+    t: Temperature,
+    options: FlashOptions,
+    z: &[f64; 8],
+    p: Pressure,
+    ps: &[f64; 8],
+    saturated: Saturated,
+) -> ActivityTpFlash
+    ensures { λ r. ⌜ r ≡ flashAnswer (splitFeed (activityOn (now (table .entry)) alphas (places n) (t .0)) (places n) (options .threshold) (options .tolerance) (options .«max_iterations») (now (z .entry)) (p .0) (now (ps .entry)) (saturated .bubble) (saturated .dew)) ⌝ }
+{
+    let mut lg = [0.0; 8];
+    let mut sl = [0.0; 8];
+    let feed = thermo_models::activity(table, alphas, n, t, z, &mut lg, &mut sl);
+    match feed {
+        Verdict::Refused(number) => no_flash(number),
+        Verdict::Passed => {
+            let tolerance = options.tolerance;
+            let limit = options.max_iterations;
+            let split = split_from(table, alphas, n, t, z, p, ps, &lg, tolerance, limit);
+            let verdict = split.verdict;
+            match verdict {
+                Verdict::Refused(number) => no_flash(number),
+                Verdict::Passed => from_split(table, alphas, n, t, options, z, saturated, split),
+            }
+        }
+    }
+}
+
+// p ≥ bubble is liquid, then p ≤ dew is vapor, else the split.
+fn between(
+    table: &[f64; 512],
+    alphas: Verdict,
+    n: usize,
+    t: Temperature,
+    options: FlashOptions,
+    z: &[f64; 8],
+    p: Pressure,
+    ps: &[f64; 8],
+    saturated: Saturated,
+) -> ActivityTpFlash
+    ensures { λ r. ⌜ r ≡ flashAnswer (betweenOf (activityOn (now (table .entry)) alphas (places n) (t .0)) (places n) (options .threshold) (options .tolerance) (options .«max_iterations») (now (z .entry)) (p .0) (now (ps .entry)) (saturated .bubble) (saturated .dew)) ⌝ }
+{
+    let pressure = p.value();
+    let bubble = saturated.bubble;
+    let dew = saturated.dew;
+    if pressure >= bubble {
+        return as_liquid(table, alphas, n, t, options, z, saturated, GAMMA_PHI);
+    }
+    if pressure <= dew {
+        return as_vapor(n, z, saturated, GAMMA_PHI);
+    }
+    split_feed(table, alphas, n, t, options, z, p, ps, saturated)
+}
+
+// Of a dew point, or its refusal.
+struct DewPressure {
+    verdict: Verdict,
+    value: f64,
+}
+
+// With one solvent present it is the bubble pressure.
+fn dew_pressure(
+    table: &[f64; 512],
+    alphas: Verdict,
+    n: usize,
+    t: Temperature,
+    options: FlashOptions,
+    z: &[f64; 8],
+    ps: &[f64; 8],
+    bubble: f64,
+) -> DewPressure
+    ensures { λ r. ⌜ r ≡ dewPressureAnswer (dewOf (activityOn (now (table .entry)) alphas (places n) (t .0)) (places n) (options .tolerance) (options .«max_iterations») (now (z .entry)) (now (ps .entry)) bubble) ⌝ }
+{
+    if liquid_stability::present_count(z, n) == 1 {
+        return DewPressure {
+            verdict: Verdict::Passed,
+            value: bubble,
+        };
+    }
+    let d = saturation::dew_at(
+        table,
+        alphas,
+        n,
+        t,
+        z,
+        ps,
+        options.tolerance,
+        options.max_iterations,
+    );
+    let verdict = d.verdict;
+    DewPressure {
+        verdict: verdict,
+        value: d.pressure,
+    }
+}
+
+// The dew pressure, then the phases.
+fn from_dew(
+    table: &[f64; 512],
+    alphas: Verdict,
+    n: usize,
+    t: Temperature,
+    options: FlashOptions,
+    z: &[f64; 8],
+    p: Pressure,
+    ps: &[f64; 8],
+    bubble: f64,
+) -> ActivityTpFlash
+    ensures { λ r. ⌜ r ≡ flashAnswer (fromDew (activityOn (now (table .entry)) alphas (places n) (t .0)) (places n) (options .threshold) (options .tolerance) (options .«max_iterations») (now (z .entry)) (p .0) (now (ps .entry)) bubble) ⌝ }
+{
+    let d = dew_pressure(table, alphas, n, t, options, z, ps, bubble);
+    let verdict = d.verdict;
+    match verdict {
+        Verdict::Refused(number) => no_flash(number),
+        Verdict::Passed => {
+            let saturated = Saturated {
+                bubble: bubble,
+                dew: d.value,
+            };
+            between(table, alphas, n, t, options, z, p, ps, saturated)
+        }
+    }
+}
+
+// Bubble and dew both, then the phases.
+fn from_bubble(
+    table: &[f64; 512],
+    alphas: Verdict,
+    n: usize,
+    t: Temperature,
+    options: FlashOptions,
+    z: &[f64; 8],
+    p: Pressure,
+    ps: &[f64; 8],
+) -> ActivityTpFlash
+    ensures { λ r. ⌜ r ≡ flashAnswer (phasesOf (activityOn (now (table .entry)) alphas (places n) (t .0)) (places n) (options .threshold) (options .tolerance) (options .«max_iterations») (now (z .entry)) (p .0) (now (ps .entry))) ⌝ }
+{
+    let b = saturation::bubble_at(table, alphas, n, t, z, ps);
+    let verdict = b.verdict;
+    match verdict {
+        Verdict::Refused(number) => no_flash(number),
+        Verdict::Passed => from_dew(table, alphas, n, t, options, z, p, ps, b.pressure),
+    }
+}
+
+// The tables of the temperature, made once, then the phases.
+fn phases_of(
+    tau: &[f64; 256],
+    alpha: &[f64; 128],
+    n: usize,
+    t: Temperature,
+    options: FlashOptions,
+    z: &[f64; 8],
+    p: Pressure,
+    ps: &[f64; 8],
+) -> ActivityTpFlash
+    ensures { λ r. ⌜ r ≡ flashAnswer (phasesOf (activityOf (now (tau .entry)) (now (alpha .entry)) (places n) (t .0)) (places n) (options .threshold) (options .tolerance) (options .«max_iterations») (now (z .entry)) (p .0) (now (ps .entry))) ⌝ }
+{
+    let mut table = [0.0; 512];
+    let alphas = thermo_models::tables(tau, alpha, n, t, &mut table);
+    from_bubble(&table, alphas, n, t, options, z, p, ps)
+}
+
+// The flash of the feed z at t and p: 22, 23, 25 and what bubble, dew, split and trials refuse (15 to 18, 24, 25, 27 to 30).
+pub fn activity_tp_flash(
+    book: &[u8],
+    tau: &[f64; 256],
+    alpha: &[f64; 128],
+    n: usize,
+    t: Temperature,
+    p: Pressure,
+    z: &[f64; 8],
+    threshold: f64,
+    tolerance: f64,
+    max_iterations: u64,
+) -> ActivityTpFlash
+    ensures { λ r. ⌜ r ≡ flashAnswer (tpFlash (activityOf (now (tau .entry)) (now (alpha .entry)) (places n)) (pureLiquidsOf (now (book .entry)) (places n)) (temperatureInDomain (now (book .entry)) (places n)) (places n) threshold tolerance «max_iterations» (t .0) (now (z .entry)) (p .0)) ⌝ }
+{
+    let options = FlashOptions {
+        threshold: threshold,
+        tolerance: tolerance,
+        max_iterations: max_iterations,
+    };
+    if !thermo_models::check_temperature(book, n, t) {
+        return no_flash(22);
+    }
+    if !thermo_models::check_pressure(p.value()) {
+        return no_flash(23);
+    }
+    let mut ps = [0.0; 8];
+    let mut dps = [0.0; 8];
+    let verdict = thermo_models::pure_liquids(book, n, t, &mut ps, &mut dps);
+    match verdict {
+        Verdict::Refused(number) => no_flash(number),
+        Verdict::Passed => phases_of(tau, alpha, n, t, options, z, p, &ps),
+    }
+}
