@@ -1,0 +1,278 @@
+// The core's functions on the words of a stored line.
+ghost use Prim.Native.Nat.{_≤_, _+_};
+use book::Opened;
+use rachford_rice::RachfordRice;
+use rachford_rice::RachfordRiceOutcome;
+use thermo_types::Verdict;
+
+// How many words a function took, and how many it gave; none where it is not known.
+pub(crate) struct Called {
+    pub inputs: usize,
+    pub results: usize,
+}
+
+fn word(words: &[u64; 4096], at: usize) -> u64 {
+    if at < 4096 { words[at] } else { 0 }
+}
+
+fn float(words: &[u64; 4096], at: usize) -> f64 {
+    floats::float_of(word(words, at))
+}
+
+fn eight(words: &[u64; 4096], from: usize) -> [f64; 8]
+    requires { ⌜ from ≤ 4096 ⌝ }
+{
+    let mut x = [0.0; 8];
+    for i in 0usize..8 {
+        x[i] = float(words, from + i);
+    }
+    x
+}
+
+fn put(out: &mut [u64; 640], at: usize, w: u64) {
+    if at < 640 {
+        out[at] = w;
+    }
+}
+
+fn put_eight(out: &mut [u64; 640], from: usize, x: &[f64; 8])
+    requires { ⌜ from ≤ 640 ⌝ }
+{
+    for i in 0usize..8 {
+        put(out, from + i, floats::bits_of(x[i]));
+    }
+}
+
+// Which zero max and min give from +0 and -0 is open: it is stored as +0.
+fn plus_zero(v: f64) -> u64 {
+    if v == 0.0 { 0 } else { floats::bits_of(v) }
+}
+
+fn of_one(k: usize, a: u64) -> u64 {
+    let v = floats::float_of(a);
+    match k {
+        0 => floats::bits_of(numerics::exp(v)),
+        1 => floats::bits_of(numerics::ln(v)),
+        5 => floats::bits_of(floats::abs(v)),
+        6 => if floats::is_finite(v) { 1 } else { 0 },
+        _ => floats::bits_of(v),
+    }
+}
+
+fn of_two(k: usize, a: u64, b: u64) -> u64 {
+    let v = floats::float_of(a);
+    let w = floats::float_of(b);
+    match k {
+        2 => floats::bits_of(numerics::powf(v, w)),
+        3 => plus_zero(floats::max(v, w)),
+        _ => plus_zero(floats::min(v, w)),
+    }
+}
+
+fn one(k: usize, words: &[u64; 4096], out: &mut [u64; 640]) -> Called {
+    put(out, 0, of_one(k, word(words, 0)));
+    Called {
+        inputs: 1,
+        results: 1,
+    }
+}
+
+fn two(k: usize, words: &[u64; 4096], out: &mut [u64; 640]) -> Called {
+    put(out, 0, of_two(k, word(words, 0), word(words, 1)));
+    Called {
+        inputs: 2,
+        results: 1,
+    }
+}
+
+fn number(v: Verdict) -> u64 {
+    match v {
+        Verdict::Passed => 0,
+        Verdict::Refused(r) => r,
+    }
+}
+
+fn fractions(words: &[u64; 4096], out: &mut [u64; 640]) -> Called {
+    let x = eight(words, 1);
+    let verdict = thermo_types::with_fractions(&x, word(words, 0) as usize);
+    put(out, 0, number(verdict));
+    Called {
+        inputs: 9,
+        results: 1,
+    }
+}
+
+fn normalize(words: &[u64; 4096], out: &mut [u64; 640]) -> Called {
+    let x = eight(words, 1);
+    let y = thermo_types::normalize(&x, word(words, 0) as usize);
+    put_eight(out, 0, &y);
+    Called {
+        inputs: 9,
+        results: 8,
+    }
+}
+
+// The words from..from + count as bytes.
+fn fill_bytes(words: &[u64; 4096], from: usize, count: usize, bytes: &mut [u8; 32768])
+    requires { ⌜ from + count ≤ 8192 ⌝ }
+{
+    for i in 0..count {
+        blocks::write_word(bytes, i, word(words, from + i));
+    }
+}
+
+fn open_first(bytes: &[u8], size: usize) -> u64 {
+    if bytes.len() < size {
+        return 0;
+    }
+    match book::open_book(&bytes[0..size]) {
+        Opened::Book(n) => std::num::wrapping_add_u64(n as u64, 100),
+        Opened::No(number) => number,
+    }
+}
+
+// The length of an array behind a reference needs no proof.
+fn open_bytes(bytes: &[u8; 32768], size: usize) -> u64 {
+    open_first(bytes, size)
+}
+
+// A book stands first in its line: its size, then its bytes as words.
+fn open_book(words: &[u64; 4096], out: &mut [u64; 640]) -> Called {
+    let n = word(words, 0);
+    if 32760 < n {
+        return Called {
+            inputs: 0,
+            results: 0,
+        };
+    }
+    let size = n as usize;
+    let count = (size + 7) / 8;
+    let mut bytes = [0u8; 32768];
+    fill_bytes(words, 1, count, &mut bytes);
+    put(out, 0, open_bytes(&bytes, size));
+    Called {
+        inputs: 1 + count,
+        results: 1,
+    }
+}
+
+// Exact for every count below 2^32.
+fn count_bits(iterations: u64) -> u64 {
+    floats::bits_of((iterations % 4294967296) as u32 as f64)
+}
+
+fn put_split(
+    beta: f64,
+    residual: f64,
+    iterations: u64,
+    liquid: &[f64; 8],
+    vapor: &[f64; 8],
+    out: &mut [u64; 640],
+) {
+    put(out, 0, 3);
+    put(out, 1, floats::bits_of(beta));
+    put(out, 2, floats::bits_of(residual));
+    put(out, 3, count_bits(iterations));
+    put_eight(out, 4, liquid);
+    put_eight(out, 12, vapor);
+}
+
+fn put_outcome(
+    outcome: RachfordRiceOutcome,
+    liquid: &[f64; 8],
+    vapor: &[f64; 8],
+    out: &mut [u64; 640],
+) -> usize {
+    match outcome {
+        RachfordRiceOutcome::LiquidOnly => {
+            put(out, 0, 1);
+            1
+        }
+        RachfordRiceOutcome::VaporOnly => {
+            put(out, 0, 2);
+            1
+        }
+        RachfordRiceOutcome::TwoPhase(beta, residual, iterations) => {
+            put_split(beta, residual, iterations, liquid, vapor, out);
+            20
+        }
+    }
+}
+
+fn put_rice(a: RachfordRice, out: &mut [u64; 640]) -> usize {
+    let verdict = a.verdict;
+    let outcome = a.outcome;
+    let liquid = a.liquid;
+    let vapor = a.vapor;
+    match verdict {
+        Verdict::Refused(number) => {
+            put(out, 0, std::num::wrapping_add_u64(number, 100));
+            1
+        }
+        Verdict::Passed => put_outcome(outcome, &liquid, &vapor, out),
+    }
+}
+
+fn rice(negative: bool, words: &[u64; 4096], out: &mut [u64; 640]) -> Called {
+    let n = word(words, 0) as usize;
+    let limit = word(words, 1);
+    let z = eight(words, 2);
+    let k = eight(words, 10);
+    let a = if negative {
+        rachford_rice::rachford_rice_negative(&z, &k, n, limit)
+    } else {
+        rachford_rice::rachford_rice(&z, &k, n, limit)
+    };
+    let results = put_rice(a, out);
+    Called {
+        inputs: 18,
+        results,
+    }
+}
+
+// Function k of the names, its results from `out`'s start on.
+pub(crate) fn call(k: usize, words: &[u64; 4096], out: &mut [u64; 640]) -> Called {
+    match k {
+        0 | 1 | 5..=8 => one(k, words, out),
+        2..=4 => two(k, words, out),
+        9 => fractions(words, out),
+        10 => normalize(words, out),
+        11 => open_book(words, out),
+        12 => rice(false, words, out),
+        13 => rice(true, words, out),
+        _ => Called {
+            inputs: 0,
+            results: 0,
+        },
+    }
+}
+
+// Are the stored words from..to the results?
+pub(crate) fn equal(
+    words: &[u64; 4096],
+    from: usize,
+    to: usize,
+    out: &[u64; 640],
+    results: usize,
+) -> bool {
+    if 640 < results {
+        return false;
+    }
+    if 4096 < to {
+        return false;
+    }
+    if to < from {
+        return false;
+    }
+    if to - from != results {
+        return false;
+    }
+    let mut i = 0;
+    while i < results {
+        if words[from + i] != out[i] {
+            return false;
+        }
+        i += 1;
+    }
+    true
+}
