@@ -27,6 +27,15 @@ extern "C" {
         out: *mut f64,
         out_len: usize,
     ) -> u64;
+    fn zektonk_repeat_activity(
+        book: *const u8,
+        book_len: usize,
+        n: usize,
+        t: f64,
+        x: *const f64,
+        x_len: usize,
+        count: u64,
+    ) -> u64;
     fn zektonk_rachford_rice(
         z: *const f64,
         z_len: usize,
@@ -128,6 +137,11 @@ pub fn vapor_pressure(book: &[u8], i: usize, t: f64, out: &mut [f64; 4]) -> Opti
 /// ln γ, slopes, five energies, validity and inferred in `out`.
 pub fn excess(book: &[u8], t: f64, x: &[f64; 8], out: &mut [f64; 23]) -> Option<u64> {
     offered!("excess", zektonk_excess(book.as_ptr(), book.len(), t, x.as_ptr(), x.len(), out.as_mut_ptr(), out.len()))
+}
+
+/// The tables of a book's model at `t`, then the activity of `x` from them, `count` times.
+pub fn repeat_activity(book: &[u8], n: usize, t: f64, x: &[f64; 8], count: u64) -> Option<u64> {
+    offered!("excess", zektonk_repeat_activity(book.as_ptr(), book.len(), n, t, x.as_ptr(), x.len(), count))
 }
 
 /// Vapor fraction, residual, iterations, liquid and vapor in `out`.

@@ -1,2 +1,3 @@
 -- What the contracts of exports cite. Assumes nothing.
 pub mod Slices
+pub mod Models

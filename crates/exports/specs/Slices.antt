@@ -31,3 +31,8 @@ verdictNumber (Refused r) = r
 unfoldable pub bookNumber : Out ℕ → ℕ
 bookNumber (ok n) = 100 + n
 bookNumber (no r) = r
+
+-- how often the benchmark's call is made: not at all without a temperature
+unfoldable pub repeated : Out Float → ℕ → ℕ
+repeated (ok t) count = count
+repeated (no r) count = 0

@@ -1,6 +1,6 @@
 -- The model of a table made by `tables` is that of the parameters, and what `excess` gives is what `activity` gives. Assumes nothing.
 use Prim.Native.Nat.{ℕ, _≤_}
-use mathlib.Core.Path.{_≡_, refl, ap}
+use mathlib.Core.Path.{ap}
 use mathlib.Core.List.{List}
 use lib.Ieee.{Float}
 use Rattle.floats.specs.Vector.{at}

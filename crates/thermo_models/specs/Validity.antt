@@ -1,6 +1,6 @@
 -- Whether T lies in the regression intervals of the pairs present (nrtl.rs, `validity`). Assumes nothing.
 use Prim.Native.Nat.{ℕ}
-use mathlib.Core.Bool.{Bool, true, false, not, cond, _&&_, _||_}
+use mathlib.Core.Bool.{true, false, not, cond, _&&_, _||_}
 use mathlib.Core.List.{List}
 use lib.Dec.{ltb}
 use lib.Ieee.{Float, le}

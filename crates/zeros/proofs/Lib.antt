@@ -2,3 +2,4 @@
 pub mod Congruence
 pub mod Zero
 pub mod Numbers
+pub mod Below

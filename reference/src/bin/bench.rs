@@ -13,6 +13,8 @@ use reference::sheet::{answer_with, open_book, ANSWER_BYTES};
 use reference::stage::padded;
 
 const INPUTS: usize = 64;
+/// Calls from one table, so that making it does not count.
+const REPEATS: u64 = 50;
 const SOLVENTS: [usize; 3] = [2, 4, 8];
 /// Shortest run that counts, ns.
 const RUN: f64 = 2e7;
@@ -155,8 +157,12 @@ fn bench_excess() {
         let models: Vec<_> =
             inputs.iter().map(|(book, t, x)| (open_book(book).expect("realistic").model(), t, x)).collect();
         let mut alone = || models.iter().for_each(|(model, t, x)| drop_value(model.nrtl().excess(**t, &x[..n])));
-        let [time] = medians([&mut alone]);
-        println!("excess, model given, n = {n}: reference {:.1} ns", time / INPUTS as f64);
+        let repeated = |count| {
+            inputs.iter().for_each(|(book, t, x)| drop_value(rattle::repeat_activity(book, n, *t, x, count)));
+        };
+        let [own, once, often] = medians([&mut alone, &mut || repeated(1), &mut || repeated(1 + REPEATS)]);
+        let (own, core) = (own / INPUTS as f64, (often - once) / (REPEATS as f64 * INPUTS as f64));
+        println!("excess, n = {n}: core from its tables {core:.1} ns, reference {own:.1} ns, ratio {:.2}", core / own);
     }
 }
 

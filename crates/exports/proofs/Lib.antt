@@ -1,0 +1,2 @@
+-- Laws of exports. Assumes nothing.
+pub mod Ways

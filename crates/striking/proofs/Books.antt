@@ -1,0 +1,220 @@
+-- The shorter book is accepted where the longer one is (questions 1 to 9), with the count of kept solvents, and has their data. Assumes nothing.
+use mathlib.Core.Path.{_≡_, refl, sym, ap, _∙_, subst}
+use mathlib.Core.Logic.{_≢_}
+use Prim.Native.Nat.{ℕ, zero, suc, _+_, _-_, _/_, _%_, _≤_, _<_}
+use native.Mathlib.Nat.{le-refl, le-trans, min-le-right}
+use native.Mathlib.Omega.{arith}
+use borrow.Author.Tests.{lt-ltb, le-leb, eq-eqb, leb-true}
+use mathlib.Core.Bool.{Bool, true, false, not, _&&_, false≢true}
+use mathlib.Core.List.{List}
+use lib.ListN.{length}
+use lib.Dec.{T, eqb, ltb, leb, ltb→lt, nltb→le}
+use lib.Ieee.Bits.{is-true}
+use Rattle.blocks.specs.Words.{checkRight}
+use Rattle.floats.specs.Fold.{allTo}
+use Rattle.floats.specs.Small.{isFinite, floatOf}
+use Rattle.floats.specs.Outcome.{ok}
+use Rattle.floats.proofs.Folds.{all-at, all-cong}
+use Rattle.floats.proofs.Outcomes.{need-yes}
+use Rattle.book.specs.Places.{words, pairCount, blockCount, rowFrom, pairPlace}
+use Rattle.book.specs.Book.{floatsFinite, headRight, solventRight, rangeRight, termCount, recordRight, recordsRight, casNew, pairRight, rowRight, boundsFinite, pairFinite, alphasEqual, pairsOf, solventsOf, headOf, bookOf}
+use Rattle.book.proofs.Accepted.{Accepted, accepted, solvent-stands, records-stand, pair-stands, floats-stand, alphas-stand}
+use Rattle.striking.specs.Places.{cnt}
+use Rattle.striking.specs.Books.{ShorterBook, KeptSolvents, KeptPairs}
+use Rattle.striking.proofs.Strike.{place, cnt-lt-back}
+use Rattle.striking.proofs.Acc.{all-of}
+use Rattle.striking.proofs.Excess.{cnt-le}
+
+-- ---- tests that read only equal words
+so : {b : Bool} → b ≡ true → T b
+so e = subst T (sym e) tt
+
+all-true : (p : ℕ → Bool) (n : ℕ) → ((k : ℕ) → k < n → p k ≡ true) → allTo p n ≡ true
+all-true p n f = is-true (allTo p n) (all-of p n (λ k l. so (f k l)))
+
+floats-same : (w v : ℕ → ℕ) (f n : ℕ) → ((k : ℕ) → k < n → w (f + k) ≡ v (f + k)) → floatsFinite w f n ≡ floatsFinite v f n
+unfolding floatsFinite
+floats-same w v f n e = all-cong n (λ k l. ap (λ (x : ℕ). isFinite (floatOf x)) (e k l))
+
+one-of : (a b c d e f g : Bool) → a && b && c && d && e && f && g ≡ true → a && true && c && d && e && f && g ≡ true
+one-of true true c d e f g h = h
+one-of true false c d e f g h = absurd (false≢true h)
+one-of false b c d e f g h = absurd (false≢true h)
+
+two-of : (a b c d e : Bool) → a && b && c && d && e ≡ true → a && true && true && d && e ≡ true
+two-of true true true d e h = h
+two-of true true false d e h = absurd (false≢true h)
+two-of true false c d e h = absurd (false≢true h)
+two-of false b c d e h = absurd (false≢true h)
+
+last-of : (a b c d : Bool) → a && b && c && d ≡ true → a && b && true && true ≡ true
+last-of true true c d h = refl
+last-of true false c d h = absurd (false≢true h)
+last-of false b c d h = absurd (false≢true h)
+
+head-right : (w v : ℕ → ℕ) → ((k : ℕ) → k < 63 → k ≢ 2 → w k ≡ v k) → 0 < v 2 → v 2 ≤ 8 → headRight w ≡ true → headRight v ≡ true
+unfolding headRight
+head-right w v e l m h =
+    let a : w 0 ≡ v 0 = e 0 (omega arith) (λ (z : 0 ≡ 2). omega arith) in
+    let b : w 1 ≡ v 1 = e 1 (omega arith) (λ (z : 1 ≡ 2). omega arith) in
+    rw (← a, ← b, lt-ltb 0 (v 2) l, le-leb (v 2) 8 m) (last-of (eqb (w 0) 1) (eqb (w 1) 1) (ltb 0 (w 2)) (leb (w 2) 8) h)
+
+solvent-right : (w v : ℕ → ℕ) (i j : ℕ) → ((k : ℕ) → k < 63 → k ≢ 1 → w k ≡ v k) → v 1 ≡ j → solventRight w i ≡ true → solventRight v j ≡ true
+unfolding solventRight
+solvent-right w v i j e x h =
+    let a : w 0 ≡ v 0 = e 0 (omega arith) (λ (z : 0 ≡ 1). omega arith) in
+    let b : w 2 ≡ v 2 = e 2 (omega arith) (λ (z : 2 ≡ 1). omega arith) in
+    let c : w 7 ≡ v 7 = e 7 (omega arith) (λ (z : 7 ≡ 1). omega arith) in
+    let d : w 28 ≡ v 28 = e 28 (omega arith) (λ (z : 28 ≡ 1). omega arith) in
+    rw (← a, ← b, ← c, ← d, eq-eqb (v 1) j x) (one-of (eqb (w 0) 2) (eqb (w 1) i) (not (eqb (w 2) 0)) (ltb 0 (w 7)) (leb (w 7) 8) (ltb 0 (w 28)) (leb (w 28) 8) h)
+
+module _ (w v : ℕ → ℕ) (f : ℕ) (e : (k : ℕ) → f ≤ k → k ≤ f + 20 → w k ≡ v k) where
+  range-same : rangeRight w f ≡ rangeRight v f
+  unfolding rangeRight
+  range-same = rw (e f (omega arith) (omega arith), e (f + 1) (omega arith) (omega arith), e (f + 2) (omega arith) (omega arith), e (f + 3) (omega arith) (omega arith))
+
+  record-same : recordRight w f ≡ recordRight v f
+  unfolding recordRight
+  record-same =
+      let c : w (f + 4) ≡ v (f + 4) = e (f + 4) (omega arith) (omega arith) in
+      let m : termCount v f ≤ 8 = min-le-right (v (f + 4)) 8 in
+      let a : floatsFinite w f 4 ≡ floatsFinite v f 4 = floats-same w v f 4 (λ k l. e (f + k) (omega arith) (omega arith)) in
+      let n : floatsFinite w (f + 5) (termCount v f) ≡ floatsFinite v (f + 5) (termCount v f) = floats-same w v (f + 5) (termCount v f) (λ k l. e (f + 5 + k) (omega arith) (omega arith)) in
+      let t : floatsFinite w (f + 13) (termCount v f) ≡ floatsFinite v (f + 13) (termCount v f) = floats-same w v (f + 13) (termCount v f) (λ k l. e (f + 13 + k) (omega arith) (omega arith)) in
+      rw (c, a, n, t, range-same)
+
+records-same : (w v : ℕ → ℕ) → ((k : ℕ) → 3 ≤ k → k ≤ 44 → w k ≡ v k) → recordsRight w ≡ recordsRight v
+unfolding recordsRight
+records-same w v e = rw (record-same w v 3 (λ k a b. e k a (omega arith)), record-same w v 24 (λ k a b. e k (omega arith) b))
+
+module _ (w v : ℕ → ℕ) (e : (k : ℕ) → 3 ≤ k → k ≤ 18 → w k ≡ v k) where
+  finite-same : pairFinite w ≡ pairFinite v
+  unfolding pairFinite boundsFinite
+  finite-same = rw (floats-same w v 3 12 (λ k l. e (3 + k) (omega arith) (omega arith)), floats-same w v 16 2 (λ k l. e (16 + k) (omega arith) (omega arith)), e 15 (omega arith) (omega arith))
+
+  alphas-same : alphasEqual w ≡ alphasEqual v
+  unfolding alphasEqual
+  alphas-same = rw (e 11 (omega arith) (omega arith), e 12 (omega arith) (omega arith), e 13 (omega arith) (omega arith), e 14 (omega arith) (omega arith))
+
+pair-right : (w v : ℕ → ℕ) (i j i' j' : ℕ) → w 0 ≡ v 0 → ((k : ℕ) → 3 ≤ k → k ≤ 18 → w k ≡ v k) → v 1 ≡ i' → v 2 ≡ j' → pairRight w i j ≡ true → pairRight v i' j' ≡ true
+unfolding pairRight
+pair-right w v i j i' j' a e x y h =
+    let b : w 15 ≡ v 15 = e 15 (omega arith) (omega arith) in
+    let c : w 18 ≡ v 18 = e 18 (omega arith) (omega arith) in
+    rw (← a, ← b, ← c, eq-eqb (v 1) i' x, eq-eqb (v 2) j' y) (two-of (eqb (w 0) 3) (eqb (w 1) i) (eqb (w 2) j) (leb (w 15) 1) (leb (w 18) 1) h)
+
+-- ---- every block behind the solvents is that of a pair
+record PairOf (m b : ℕ) : Type 0 where
+  first : ℕ
+  second : ℕ
+  ordered : first < second
+  below : second < m
+  stands : b ≡ pairPlace m first second
+
+found : (m b i : ℕ) → i ≤ m → m < b → b < rowFrom m i → PairOf m b
+unfolding rowFrom pairPlace
+found m b zero h l u = absurd (omega arith)
+found m b (suc i) h l u = go (ltb b (rowFrom m i)) (ltb→lt b (rowFrom m i)) (nltb→le b (rowFrom m i)) (found m b i (omega arith) l)
+  where
+    here : rowFrom m i ≤ b → PairOf m b
+    here v = record { first = i; second = i + 1 + (b - rowFrom m i); ordered = omega arith; below = omega arith; stands = omega arith }
+
+    go : (c : Bool) → (T c → b < rowFrom m i) → (T (not c) → rowFrom m i ≤ b) → (b < rowFrom m i → PairOf m b) → PairOf m b
+    go true f g r = r (f tt)
+    go false f g r = here (g tt)
+
+ending : ℕ → Bool
+ending m = leb (blockCount m) (rowFrom m m)
+
+rows-end : (m : ℕ) → m ≤ 8 → blockCount m ≤ rowFrom m m
+unfolding ending allTo rowFrom
+rows-end m h = leb-true (blockCount m) (rowFrom m m) (all-at ending 9 m (omega arith) refl)
+
+-- a test of all pairs' blocks
+each-pair : (p : ℕ → Bool) (m : ℕ) → m ≤ 8 → ((i j : ℕ) → i < j → j < m → p (pairPlace m i j) ≡ true) → allTo (λ d. p (1 + m + d)) (pairCount m) ≡ true
+each-pair p m h f = all-true (λ d. p (1 + m + d)) (pairCount m) (λ d l.
+    let r = found m (1 + m + d) m (le-refl m) (omega arith) (omega (arith, rows-end m h)) in
+    subst (λ (b : ℕ). p b ≡ true) (sym (r .stands)) (f (r .first) (r .second) (r .ordered) (r .below)))
+
+module _ (keep : ℕ → Bool) (n : ℕ) where
+  -- a test of every place, from one of every kept index
+  at-places : (p : ℕ → Bool) → ((i : ℕ) → i < n → T (keep i) → p (cnt keep i) ≡ true) → allTo p (cnt keep n) ≡ true
+  at-places p f = all-true p (cnt keep n) (λ k l. let w = place keep n k l in subst (λ (x : ℕ). p x ≡ true) (w .new) (f (w .old) (w .below) (w .kept)))
+
+  -- the same for two places in order
+  at-pairs : (P : ℕ → ℕ → Type 0) → ((i j : ℕ) → i < j → j < n → T (keep i) → T (keep j) → P (cnt keep i) (cnt keep j)) → (i j : ℕ) → i < j → j < cnt keep n → P i j
+  at-pairs P f i j l m =
+      let u = place keep n i (le-trans l (omega arith)) in
+      let v = place keep n j m in
+      let o : cnt keep (u .old) < cnt keep (v .old) = subst (λ (x : ℕ). x < cnt keep (v .old)) (sym (u .new)) (subst (λ (x : ℕ). i < x) (sym (v .new)) l) in
+      subst (λ (x : ℕ). P x j) (u .new) (subst (λ (y : ℕ). P (cnt keep (u .old)) y) (v .new) (f (u .old) (v .old) (cnt-lt-back keep (u .old) (v .old) (u .kept) (v .kept) o) (v .below) (u .kept) (v .kept)))
+
+  module _ (s s' : List ℕ) (h : ShorterBook keep n s s') where
+    pub shorter-solvents : KeptSolvents keep n s s'
+    shorter-solvents = record { solvent = λ i l q k a b. h .solvent i l q k (omega arith) (λ (z : k ≡ 1). omega arith) }
+
+    pub shorter-pairs : KeptPairs keep n s s'
+    shorter-pairs = record { pair = λ i j l m p q k a b. h .pair i j l m p q k (omega arith) (λ (z : k ≡ 1). omega arith) (λ (z : k ≡ 2). omega arith) }
+
+    module _ (a : Accepted s n) (some : 0 < cnt keep n) where
+      few : cnt keep n ≤ 8
+      few = le-trans (cnt-le keep n) (a .few)
+
+      cas-places : (i : ℕ) → i < n → T (keep i) → casNew (words s') (cnt keep i) ≡ true
+      unfolding casNew
+      cas-places i l q =
+          all-true (λ j. not (eqb (words s' (j + 1) 2) (words s' (cnt keep i + 1) 2))) (cnt keep i) (λ j u.
+          let w = place keep i j u in
+          subst (λ (x : ℕ). not (eqb (words s' (x + 1) 2) (words s' (cnt keep i + 1) 2)) ≡ true) (w .new)
+          (subst (λ (x : ℕ). not (eqb x (words s' (cnt keep i + 1) 2)) ≡ true) (two (w .old) (less (w .old) (w .below)) (w .kept))
+          (subst (λ (x : ℕ). not (eqb (words s (w .old + 1) 2) x) ≡ true) (two i l q)
+          (all-at (λ j. not (eqb (words s (j + 1) 2) (words s (i + 1) 2))) i (w .old) (w .below) (all-at (casNew (words s)) n i l (a .cas))))))
+        where
+          two : (i : ℕ) → i < n → T (keep i) → words s (i + 1) 2 ≡ words s' (cnt keep i + 1) 2
+          two i l q = h .solvent i l q 2 (omega arith) (λ (z : 2 ≡ 1). omega arith)
+
+          less : (j : ℕ) → j < i → j < n
+          less j u = omega arith
+
+      pair-places : (i j : ℕ) → i < j → j < cnt keep n → pairRight (words s' (pairPlace (cnt keep n) i j)) i j ≡ true
+      pair-places = at-pairs (λ i j. pairRight (words s' (pairPlace (cnt keep n) i j)) i j ≡ true) (λ i j l u p q.
+          pair-right _ _ i j (cnt keep i) (cnt keep j) (h .pair i j l u p q 0 (omega arith) (λ (z : 0 ≡ 1). omega arith) (λ (z : 0 ≡ 2). omega arith))
+          (shorter-pairs .pair i j l u p q) (h .pair-i i j l u p q) (h .pair-j i j l u p q) (pair-stands s n a i j l u))
+
+      rows-right : (i : ℕ) → i < cnt keep n → rowRight (words s') i (rowFrom (cnt keep n) i) (cnt keep n - i - 1) ≡ true
+      unfolding rowRight pairPlace
+      rows-right i l = all-true (λ d. pairRight (words s' (rowFrom (cnt keep n) i + d)) i (i + 1 + d)) (cnt keep n - i - 1) (λ d u.
+          let e : i + 1 + d - i - 1 ≡ d = omega arith in
+          subst (λ (x : ℕ). pairRight (words s' (rowFrom (cnt keep n) i + x)) i (i + 1 + d) ≡ true) e (pair-places i (i + 1 + d) (omega arith) (omega arith)))
+
+      pairs-open : pairsOf (words s') (cnt keep n) ≡ ok (cnt keep n)
+      unfolding pairsOf
+      pairs-open =
+          need-yes 7 _ (all-true (λ i. rowRight (words s') i (rowFrom (cnt keep n) i) (cnt keep n - i - 1)) (cnt keep n) rows-right)
+          ∙ need-yes 8 _ (each-pair (λ b. pairFinite (words s' b)) (cnt keep n) few (at-pairs (λ i j. pairFinite (words s' (pairPlace (cnt keep n) i j)) ≡ true) (λ i j l u p q. sym (finite-same _ _ (shorter-pairs .pair i j l u p q)) ∙ floats-stand s n a i j l u)))
+          ∙ need-yes 9 _ (each-pair (λ b. alphasEqual (words s' b)) (cnt keep n) few (at-pairs (λ i j. alphasEqual (words s' (pairPlace (cnt keep n) i j)) ≡ true) (λ i j l u p q. sym (alphas-same _ _ (shorter-pairs .pair i j l u p q)) ∙ alphas-stand s n a i j l u)))
+
+      solvents-open : solventsOf (words s') (cnt keep n) ≡ ok (cnt keep n)
+      unfolding solventsOf
+      solvents-open =
+          need-yes 4 _ (at-places (λ i. solventRight (words s' (i + 1)) i) (λ i l q. solvent-right _ _ i (cnt keep i) (h .solvent i l q) (h .index i l q) (solvent-stands s n a i l)))
+          ∙ need-yes 5 _ (at-places (λ i. recordsRight (words s' (i + 1))) (λ i l q. sym (records-same _ _ (shorter-solvents .solvent i l q)) ∙ records-stand s n a i l))
+          ∙ need-yes 6 _ (at-places (casNew (words s')) cas-places)
+          ∙ pairs-open
+
+      blocks : length s' / 512 ≡ blockCount (cnt keep n)
+      blocks = omega (arith, h .size)
+
+      opens : bookOf s' ≡ ok (cnt keep n)
+      unfolding bookOf headOf
+      opens =
+          need-yes 1 _ (eq-eqb (length s' % 512) 0 (omega (arith, h .size)))
+          ∙ need-yes 1 _ (lt-ltb 0 (length s') (omega (arith, h .size)))
+          ∙ need-yes 2 _ (subst (λ (c : ℕ). allTo (λ k. checkRight (words s' k)) c ≡ true) (sym blocks) (is-true _ (h .checks)))
+          ∙ need-yes 3 _ (head-right (words s 0) (words s' 0) (h .head) (subst (λ (x : ℕ). 0 < x) (sym (h .count)) some) (subst (λ (x : ℕ). x ≤ 8) (sym (h .count)) few) (a .head))
+          ∙ need-yes 3 _ (eq-eqb (length s' / 512) (blockCount (words s' 0 2)) (blocks ∙ ap (λ (x : ℕ). blockCount x) (sym (h .count))))
+          ∙ subst (λ (x : ℕ). solventsOf (words s') x ≡ ok (cnt keep n)) (sym (h .count)) solvents-open
+
+-- questions 1 to 9; that some solvent is kept follows from a feed that sums to 1
+pub strike-book : (keep : ℕ → Bool) (n : ℕ) (s s' : List ℕ) → ShorterBook keep n s s' → 0 < cnt keep n → bookOf s ≡ ok n → bookOf s' ≡ ok (cnt keep n)
+strike-book keep n s s' h some e = opens keep n s s' h (accepted s e) some

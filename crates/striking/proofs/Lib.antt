@@ -1,0 +1,24 @@
+-- Laws of striking. Assumes nothing.
+pub mod Strike
+pub mod Acc
+pub mod Jets
+pub mod Sums
+pub mod Excess
+pub mod Models
+pub mod Active
+pub mod Vectors
+pub mod Rice
+pub mod Saturation
+pub mod Stability
+pub mod Search
+pub mod Boiling
+pub mod Sizes
+pub mod Split
+pub mod Flash
+pub mod Liquids
+pub mod Parameters
+pub mod Validity
+pub mod Words
+pub mod Tasks
+pub mod Books
+pub mod Some

@@ -1,0 +1,7 @@
+-- What striking means. Assumes nothing.
+pub mod Places
+pub mod Accepted
+pub mod Related
+pub mod Results
+pub mod Books
+pub mod Words

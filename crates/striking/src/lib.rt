@@ -1,0 +1,1 @@
+// Demand 3: laws and the theorem; no code.
