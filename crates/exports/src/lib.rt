@@ -13,6 +13,7 @@ ghost use Rattle.thermo_types.specs.Quantities.{positiveOf};
 ghost use Rattle.liquid.specs.Vapor.{vaporPressureOf};
 ghost use Rattle.thermo_models.specs.Domain.{vaporRecord};
 ghost use Rattle.book.specs.Book.{bookOf};
+ghost use Rattle.sheet.specs.Sheet.{sheetOf, Answers};
 ghost use Rattle.rice_exports.specs.Splits.{number, written, sized, constrainedOf, negativeOf};
 ghost use Rattle.exports.specs.Slices.{eightOf, stored, numberOf, verdictNumber, bookNumber, repeated};
 ghost use Rattle.exports.specs.Models.{vaporFrom, vaporAt, VaporGives, excessIn, excessFrom, excessAt, ExcessGives, statusFloat, flagFloat, energiesStored};
@@ -389,4 +390,12 @@ pub extern "C" fn zektonk_repeat_activity(
         }
         NewTemperature::No(_r) => 0,
     }
+}
+
+// The whole call: 0 and the answer's blocks in `out`, or the refusal's number.
+#[no_mangle]
+pub extern "C" fn zektonk_answer(book: &[u8], question: &[u8], out: &mut [u8]) -> u64
+    ensures { λ r. ⌜ Answers (sheetOf (now (book .entry)) (now (question .entry)) (length (now (out .entry)))) r (now (out .entry)) (now (out .exit)) ⌝ }
+{
+    sheet::answer(book, question, out)
 }

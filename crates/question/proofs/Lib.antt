@@ -1,0 +1,2 @@
+-- Laws of the question, which callers cite. Assumes nothing.
+pub mod Laws

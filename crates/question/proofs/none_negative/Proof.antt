@@ -1,0 +1,58 @@
+-- `question::none_negative` meets its contract. The loop's invariant: no entry passed is negative. Assumes nothing.
+use Prim.Native.Nat.{_≤_, _-_}
+use mathlib.Core.Path.{_≡_, refl, sym}
+use mathlib.Core.Bool.{true, not}
+use native.Mathlib.Omega.{arith}
+use lib.Ieee.{lt}
+use Rattle.floats.proofs.Folds.{all-turn, all-fails, all-end}
+use Rattle.floats.specs.Vector.{at}
+use Rattle.floats.specs.Fold.{allTo}
+use Rattle.floats.specs.Arithmetic.{0f}
+use Rattle.question.proofs.none_negative.Statement.{statement}
+use Rattle.question.proofs.none_negative.Tie as tie
+
+abbrev Inv-loop : tie.InvT-loop
+Inv-loop x n i₀ i = (i ≤ n) × (allTo (λ k. not (lt (at x k) 0f)) i ≡ true)
+
+abbrev μ-loop : tie.MeasureT-loop
+μ-loop x n i₀ i = n - i
+
+loop-holds : tie.Need-loop-holds Inv-loop μ-loop
+unfolding allTo
+loop-holds c = (omega arith, refl)
+
+mul-if1 : tie.Need-mul-if1 Inv-loop μ-loop
+mul-if1 c = omega arith
+
+element-copy-out-if1 : tie.Need-element-copy-out-if1 Inv-loop μ-loop
+element-copy-out-if1 c = omega arith
+
+returns : tie.Need-returns Inv-loop μ-loop
+returns c = sym (all-fails _ _ _ (c .before .before .loop-test .taken) (rw (c .if1 .taken)))
+
+add-i : tie.Need-add-i Inv-loop μ-loop
+add-i c = omega arith
+
+loop-less : tie.Need-loop-less Inv-loop μ-loop
+loop-less c = omega arith
+
+loop-again : tie.Need-loop-again Inv-loop μ-loop
+loop-again c = (omega arith, all-turn _ _ (c .before .before .before .loop .inv .1) (rw (c .if1 .left)))
+
+returns-2 : tie.Need-returns-2 Inv-loop μ-loop
+returns-2 c = all-end _ _ _ (c .before .loop .inv .0) (c .loop-test .left) (c .before .loop .inv .1)
+
+pub none-negative-spec : {M : Type 1} → statement M
+none-negative-spec =
+    tie.close
+    (tie.spec
+    Inv-loop
+    μ-loop
+    loop-holds
+    mul-if1
+    element-copy-out-if1
+    returns
+    add-i
+    loop-less
+    loop-again
+    returns-2)

@@ -1,0 +1,28 @@
+-- Which inputs each task needs (document 01, "Questions put to every call"). Assumes nothing.
+use Prim.Native.Nat.{ℕ}
+use mathlib.Core.Bool.{Bool, _&&_, _||_}
+use lib.Dec.{eqb, leb}
+
+-- from a to b
+abbrev pub within : ℕ → ℕ → ℕ → Bool
+within a b k = leb a k && leb k b
+
+-- tasks: 1 to 9. Task 6 is refused until demand 3 is shipped with it
+unfoldable pub isTask : ℕ → Bool
+isTask k = within 1 5 k || within 7 9 k
+
+-- temperature: 1, 2, 3, 6, 7
+unfoldable pub needsTemperature : ℕ → Bool
+needsTemperature k = within 1 3 k || within 6 7 k
+
+-- pressure: 4, 5, 7
+unfoldable pub needsPressure : ℕ → Bool
+needsPressure k = within 4 5 k || eqb k 7
+
+-- options and both limits: 3 to 7
+unfoldable pub needsOptions : ℕ → Bool
+needsOptions k = within 3 7 k
+
+-- K values, and M alone of the limits: 8 and 9
+unfoldable pub needsRatios : ℕ → Bool
+needsRatios k = within 8 9 k

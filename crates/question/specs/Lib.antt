@@ -1,0 +1,3 @@
+-- What the contracts of question cite. Assumes nothing.
+pub mod Inputs
+pub mod Asked

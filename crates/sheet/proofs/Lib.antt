@@ -1,0 +1,5 @@
+-- Laws of the whole call, which other crates may cite. Assumes nothing.
+pub mod Laws
+pub mod Counts
+pub mod Replies
+pub mod Dispatch
