@@ -156,6 +156,103 @@ fn open_book(words: &[u64; 4096], out: &mut [u64; 640]) -> Called {
     }
 }
 
+fn answer_first(
+    book: &[u8],
+    size: usize,
+    question: &[u8],
+    asked: usize,
+    slice: &mut [u8],
+    room: usize,
+) -> u64 {
+    if book.len() < size {
+        return 0;
+    }
+    if question.len() < asked {
+        return 0;
+    }
+    if slice.len() < room {
+        return 0;
+    }
+    sheet::answer(&book[0..size], &question[0..asked], &mut slice[0..room])
+}
+
+fn answer_bytes(
+    book: &[u8; 32768],
+    size: usize,
+    question: &[u8; 32768],
+    asked: usize,
+    slice: &mut [u8; 32768],
+    room: usize,
+) -> u64 {
+    answer_first(book, size, question, asked, slice, room)
+}
+
+// The words of the answer's blocks behind the number: the first block and as many trials as its word 12 says.
+fn put_blocks(slice: &[u8; 32768], out: &mut [u64; 640]) -> usize {
+    let trials = blocks::word(slice, 12);
+    if 8 < trials {
+        return 0;
+    }
+    let count = 64 * (1 + trials as usize);
+    for i in 0..count {
+        put(out, 1 + i, blocks::word(slice, i));
+    }
+    1 + count
+}
+
+// A book, a question, each with its size first, and the length of the answer slice.
+fn answer_sizes(
+    words: &[u64; 4096],
+    size: usize,
+    asked: usize,
+    room: usize,
+    out: &mut [u64; 640],
+) -> Called
+    requires { ⌜ (size ≤ 24576) × (asked ≤ 4096) ⌝ }
+{
+    let count = (size + 7) / 8;
+    let more = (asked + 7) / 8;
+    let mut book = [0u8; 32768];
+    let mut question = [0u8; 32768];
+    let mut slice = [0u8; 32768];
+    fill_bytes(words, 1, count, &mut book);
+    fill_bytes(words, 2 + count, more, &mut question);
+    let number = answer_bytes(&book, size, &question, asked, &mut slice, room);
+    put(out, 0, number);
+    let inputs = 3 + count + more;
+    if number != 0 {
+        return Called {
+            inputs: inputs,
+            results: 1,
+        };
+    }
+    Called {
+        inputs: inputs,
+        results: put_blocks(&slice, out),
+    }
+}
+
+fn answer(words: &[u64; 4096], out: &mut [u64; 640]) -> Called {
+    let none = Called {
+        inputs: 0,
+        results: 0,
+    };
+    let size = word(words, 0);
+    if 24576 < size {
+        return none;
+    }
+    let count = (size as usize + 7) / 8;
+    let asked = word(words, 1 + count);
+    if 4096 < asked {
+        return none;
+    }
+    let room = word(words, 2 + count + (asked as usize + 7) / 8);
+    if 32768 < room {
+        return none;
+    }
+    answer_sizes(words, size as usize, asked as usize, room as usize, out)
+}
+
 // Exact for every count below 2^32.
 fn count_bits(iterations: u64) -> u64 {
     floats::bits_of((iterations % 4294967296) as u32 as f64)
@@ -240,6 +337,7 @@ pub(crate) fn call(k: usize, words: &[u64; 4096], out: &mut [u64; 640]) -> Calle
         11 => open_book(words, out),
         12 => rice(false, words, out),
         13 => rice(true, words, out),
+        14 => answer(words, out),
         _ => Called {
             inputs: 0,
             results: 0,
