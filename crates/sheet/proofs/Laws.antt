@@ -16,7 +16,7 @@ use Rattle.blocks.specs.Bytes as slices
 use Rattle.blocks.proofs.Laws.{length-block-bytes, length-row, put-more, written-fits, written-front}
 use Rattle.liquid_stability.specs.declared.LiquidStabilityTrial.{LiquidStabilityTrial}
 use Rattle.liquid_stability.specs.Stability.{noTrial}
-use Rattle.sheet.specs.Blocks.{answerWords, trialWords, trialBytes, answerBytes}
+use Rattle.replies.specs.Blocks.{answerWords, trialWords, trialBytes, answerBytes}
 use Rattle.sheet.specs.Tasks.{sheet}
 use Rattle.sheet.specs.Sheet.{Answers, numberOf, written}
 use Rattle.sheet.specs.Steps.{onPassed}

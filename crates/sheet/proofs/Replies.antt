@@ -37,10 +37,11 @@ use Rattle.rachford_rice.specs.declared.RachfordRiceOutcome.{RachfordRiceOutcom
 use Rattle.rachford_rice.specs.declared.RachfordRiceOutcome.the-variants.{LiquidOnly, VaporOnly, TwoPhase}
 use Rattle.rachford_rice.specs.Rachford.{Solution, constrained, splitOf, answerOf, twoPhase, refusedWith}
 use Rattle.rachford_rice.proofs.Answers.{constrained-no, constrained-ok}
-use Rattle.sheet.specs.Blocks.{bit, stateWords, modelWords, stableWords, Answer, answerWords, trialBytes, answerBytes}
-use Rattle.sheet.specs.Tasks.{statusNumber, phaseNumber, excessAnswer, saturationSheet, stabilitySheet, flashSheet, riceSheet}
+use Rattle.replies.specs.Blocks.{bit, stateWords, modelWords, stableWords, Answer, answerWords, trialBytes, answerBytes}
+use Rattle.replies.specs.Numbers.{statusNumber, phaseNumber, riceNumber, riceState}
+use Rattle.sheet.specs.Tasks.{excessAnswer, saturationSheet, stabilitySheet, flashSheet, riceSheet}
 use Rattle.sheet.specs.Sheet.{Answers}
-use Rattle.sheet.specs.Steps.{replied, onPassed, finiteReduced, riceNumber, riceState}
+use Rattle.sheet.specs.Steps.{replied, onPassed, finiteReduced}
 use Rattle.sheet.proofs.Laws.{Behind, same-as, refuses, one-block, trial-length, trials-end}
 use Rattle.sheet.proofs.Counts.{Each, Few}
 
@@ -123,13 +124,14 @@ unfolding stabilityAnswer
 no-count (ok v) e q = let z : _≡_ {A = ℕ} 0 1 = cc in absurd (omega arith)
 no-count (no m) e q = rw e
 
-pub stability-says : (task : ℕ) (o : Out Trials) {s : LiquidStability} {number k : ℕ} {old mid out : List ℕ} → s ≡ stabilityAnswer o → k ≡ s .count
-    → Answers (onPassed (s .verdict) (blockBytes (wordAt (answerWords task 0 (stateWords 0f 0f 0f 0f 0 0f 0f 0f (s .count) 0) zeros8 zeros8 (stableWords (bit (s .stable))))))) number old mid
+pub stability-says : (task : ℕ) (o : Out Trials) {s : LiquidStability} {number k : ℕ} {ws old mid out : List ℕ} → s ≡ stabilityAnswer o → k ≡ s .count
+    → ws ≡ answerWords task 0 (stateWords 0f 0f 0f 0f 0 0f 0f 0f (s .count) 0) zeros8 zeros8 (stableWords (bit (s .stable)))
+    → Answers (onPassed (s .verdict) (blockBytes (wordAt ws))) number old mid
     → Behind (s .trials) k mid out
     → Answers (replied task (bind o (λ s. ok (stabilitySheet s)))) number old out
-stability-says task o {s} {number} {k} e c h p =
+stability-says task o {s} {number} {k} e c u h p =
     same-as (stability-reply task o e)
-    (rw c at (trials-end (s .verdict) _ (trialBytes (s .trials)) k (length-block-bytes _) (trial-length (s .trials)) (λ _ q. c ∙ no-count o e q) h (p .row)))
+    (rw (c, u) at (trials-end (s .verdict) _ (trialBytes (s .trials)) k (length-block-bytes _) (trial-length (s .trials)) (λ _ q. c ∙ no-count o e q) h (p .row)))
 
 -- the array of an answer, refused or not
 pub stability-sized : (o : Out Trials) {s : LiquidStability} {n : ℕ} → Each (Few n) o → s ≡ stabilityAnswer o → (s .count ≤ n) × (length (s .trials) ≡ 8)

@@ -7,7 +7,7 @@ use lib.ListN.{length, drop}
 use Rattle.floats.specs.Outcome.{Out, ok, no, bind, need}
 use Rattle.book.specs.Book.{bookOf}
 use Rattle.question.specs.Asked.{questionOf}
-use Rattle.sheet.specs.Blocks.{answerBytes}
+use Rattle.replies.specs.Blocks.{answerBytes}
 use Rattle.sheet.specs.Tasks.{taskOf}
 
 -- a book's questions (1 to 9), the room for an answer (10), the question's (11 to 21), then the task's own (22 to 30, and 13 to 18 inside a calculation)

@@ -4,7 +4,6 @@ use mathlib.Core.Bool.{cond}
 use mathlib.Core.List.{List}
 use lib.Dec.{leb}
 use lib.Ieee.{Float}
-use Rattle.floats.specs.Arithmetic.{0f}
 use Rattle.floats.specs.Small.{isFinite}
 use Rattle.floats.specs.Vector.{at}
 use Rattle.floats.specs.Outcome.{Out, ok, no, bind, need}
@@ -15,15 +14,14 @@ use Rattle.thermo_models.specs.Domain.{temperatureInDomain, pureLiquidsOf}
 use Rattle.thermo_models.specs.Activity.{activityOf}
 use Rattle.thermo_models.specs.Validity.{validityOf}
 use Rattle.rachford_rice.specs.Rachford.{constrained, negative}
-use Rattle.rachford_rice.specs.declared.RachfordRiceOutcome.{RachfordRiceOutcome}
-use Rattle.rachford_rice.specs.declared.RachfordRiceOutcome.the-variants.{LiquidOnly, VaporOnly, TwoPhase}
+use Rattle.rachford_rice.specs.declared.RachfordRiceOutcome.the-variants.{TwoPhase}
 use Rattle.saturation.specs.Saturation.{bubblePressure, dewPressurePoint}
 use Rattle.saturation_temperature.specs.Boiling.{bubbleTemperature, dewTemperature}
 use Rattle.liquid_stability.specs.Stability.{stabilityOf}
 use Rattle.tp_flash.specs.Tp.{Flash, tpFlash}
 use Rattle.question.specs.Asked.{questionOf}
 use Rattle.question.specs.declared.Question.{Question}
-use Rattle.sheet.specs.Blocks.{stateWords, Answer, answerBytes}
+use Rattle.replies.specs.Blocks.{Answer, answerBytes}
 use Rattle.sheet.specs.Tasks.{excessAnswer, saturationSheet, stabilitySheet, flashSheet, riceSheet, taskOf}
 
 -- the bytes of an answer
@@ -45,17 +43,6 @@ sheetWith book question room n =
 unfoldable pub finiteReduced : Verdict → Float → Verdict
 finiteReduced Passed v = cond (isFinite v) Passed (Refused 25)
 finiteReduced (Refused r) v = Refused r
-
--- words 3 and 4 to 13 of a phase split
-unfoldable pub riceNumber : RachfordRiceOutcome → ℕ
-riceNumber LiquidOnly = 1
-riceNumber VaporOnly = 2
-riceNumber (TwoPhase β residual count) = 3
-
-unfoldable pub riceState : RachfordRiceOutcome → List ℕ
-riceState LiquidOnly = stateWords 0f 0f 0f 0f 0 0f 0f 0f 0 0
-riceState VaporOnly = stateWords 0f 0f 0f 0f 0 0f 0f 0f 0 0
-riceState (TwoPhase β residual count) = stateWords 0f 0f 0f 0f count residual 0f β 0 0
 
 -- each task from its temperature t (K) or pressure p (Pa) on, for parameters tau and alpha
 module _ (book : List ℕ) (tau alpha : List Float) (n : ℕ) (q : Question) where

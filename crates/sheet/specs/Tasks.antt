@@ -16,8 +16,6 @@ use Rattle.thermo_models.specs.Domain.{temperatureInDomain, pureLiquidsOf}
 use Rattle.thermo_models.specs.Activity.{activityOf}
 use Rattle.thermo_models.specs.Validity.{validityOf}
 use Rattle.thermo_models.specs.declared.Assessment.{Assessment}
-use Rattle.thermo_models.specs.declared.ValidityStatus.{ValidityStatus}
-use Rattle.thermo_models.specs.declared.ValidityStatus.the-variants.{Unassessed, WithinDeclaredDomain, Extrapolated}
 use Rattle.rachford_rice.specs.Rachford.{constrained, negative}
 use Rattle.rachford_rice.specs.declared.RachfordRiceOutcome.{RachfordRiceOutcome}
 use Rattle.rachford_rice.specs.declared.RachfordRiceOutcome.the-variants.{LiquidOnly, VaporOnly, TwoPhase}
@@ -25,10 +23,9 @@ use Rattle.saturation.specs.Saturation.{Saturation, bubblePressure, dewPressure
 use Rattle.saturation_temperature.specs.Boiling.{bubbleTemperature, dewTemperature}
 use Rattle.liquid_stability.specs.Stability.{Trials, stabilityOf}
 use Rattle.tp_flash.specs.Tp.{Flash, tpFlash}
-use Rattle.tp_flash.specs.declared.FlashPhases.{FlashPhases}
-use Rattle.tp_flash.specs.declared.FlashPhases.the-variants.{Liquid, Vapor, Both}
 use Rattle.question.specs.declared.Question.{Question}
-use Rattle.sheet.specs.Blocks.{bit, stateWords, modelWords, stableWords, Answer}
+use Rattle.replies.specs.Numbers.{statusNumber, phaseNumber}
+use Rattle.replies.specs.Blocks.{bit, stateWords, modelWords, stableWords, Answer}
 
 -- ---- the book's parameters
 abbrev pub tauOf : List ℕ → ℕ → List Float
@@ -46,12 +43,6 @@ liquidsOf book n = pureLiquidsOf book n
 -- ---- the words that each answer fills
 abbrev pub sheet : ℕ → List ℕ → List Float → List Float → List ℕ → Answer
 sheet outcome state liquid vapor model = record { outcome = outcome; state = state; liquid = liquid; vapor = vapor; model = model; count = 0; trials = [] }
-
--- 0 unassessed, 1 within, 2 extrapolated
-unfoldable pub statusNumber : ValidityStatus → ℕ
-statusNumber Unassessed = 0
-statusNumber WithinDeclaredDomain = 1
-statusNumber Extrapolated = 2
 
 -- 1: ln γ and slopes in the places of liquid and vapor
 unfoldable pub excessAnswer : Float → Excess → Assessment → Answer
@@ -75,12 +66,7 @@ stabilitySheet s = record {
   trials = s .trials;
 }
 
--- 7: 1 liquid, 2 vapor, 3 both; a liquid that was tested is stable, else it was refused with 29
-unfoldable pub phaseNumber : FlashPhases → ℕ
-phaseNumber Liquid = 1
-phaseNumber Vapor = 2
-phaseNumber Both = 3
-
+-- 7: a liquid that was tested is stable, else it was refused with 29
 unfoldable pub flashSheet : Float → Float → Flash → Answer
 flashSheet t p f = record {
   outcome = phaseNumber (f .phases);
