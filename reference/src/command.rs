@@ -2,16 +2,13 @@
 
 use crate::stage::{Stage, STAGES};
 
-pub const USAGE: &str =
-    "numbers|fractions|book|pressure|excess|rice|sheet|all [--count N] [--seed S] [--task-6] [--counts]";
+pub const USAGE: &str = "numbers|fractions|book|pressure|excess|rice|sheet|all [--count N] [--seed S] [--counts]";
 
 pub struct Options {
     pub stages: Vec<Stage>,
     /// Cases of each stage; each has its own default.
     pub count: Option<usize>,
     pub seed: u64,
-    /// Task 6 is answered, not refused by 12.
-    pub task_6: bool,
     /// Only the counts of acceptances and refusals.
     pub counts: bool,
 }
@@ -19,13 +16,11 @@ pub struct Options {
 impl Options {
     /// `None` where a word is not understood.
     pub fn read(mut words: impl Iterator<Item = String>) -> Option<Self> {
-        let mut options =
-            Self { stages: Vec::new(), count: None, seed: 1, task_6: crate::sheet::DISPATCH_TASK_6, counts: false };
+        let mut options = Self { stages: Vec::new(), count: None, seed: 1, counts: false };
         while let Some(word) = words.next() {
             match word.as_str() {
                 "--count" => options.count = Some(words.next()?.parse().ok()?),
                 "--seed" => options.seed = words.next()?.parse().ok()?,
-                "--task-6" => options.task_6 = true,
                 "--counts" => options.counts = true,
                 name => options.stages.extend(Stage::named(name)?),
             }

@@ -90,8 +90,8 @@ fn has_absent(question: &[u64; 64], n: usize) -> bool {
 }
 
 /// Sheets counted by the reference alone.
-pub fn count_sheets(seed: u64, count: usize, dispatch_task_6: bool) -> SheetCounts {
-    let mut cases = Cases::new(Stage::Sheet, seed, false, dispatch_task_6);
+pub fn count_sheets(seed: u64, count: usize) -> SheetCounts {
+    let mut cases = Cases::new(Stage::Sheet, seed, false);
     let mut counts = SheetCounts::default();
     for _ in 0..count {
         let (kind, case) = cases.draw();
@@ -103,7 +103,7 @@ pub fn count_sheets(seed: u64, count: usize, dispatch_task_6: bool) -> SheetCoun
 /// Cases of any other stage counted by the reference alone.
 pub fn count_stage(stage: Stage, seed: u64, count: usize) -> Tally {
     let mut tally = Tally::default();
-    for case in Cases::new(stage, seed, false, false).take(count) {
+    for case in Cases::new(stage, seed, false).take(count) {
         tally.add(case.expected().refusal);
     }
     tally

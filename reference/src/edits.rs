@@ -71,7 +71,10 @@ mod tests {
     #[test]
     fn readme_holds_the_table() {
         let listed = include_str!("../../docs/DIFFERENCES.md");
-        assert!(listed.contains(super::table().trim()), "put the output of `cargo run --bin edits` into docs/DIFFERENCES.md");
+        assert!(
+            listed.contains(super::table().trim()),
+            "put the output of `cargo run --bin edits` into docs/DIFFERENCES.md"
+        );
     }
 
     #[test]

@@ -10,20 +10,12 @@ pub use book::{open_book, Book};
 use blocks::{bytes_of, seal, Words, BLOCK};
 use question::Question;
 
-/// Task 6 is answered by 12 until demand 3 is shipped with it.
-pub const DISPATCH_TASK_6: bool = false;
-
 /// One answer block and eight trials.
 pub const ANSWER_BYTES: usize = 9 * BLOCK;
 
 /// 0 and the blocks written to the front of `answer`, or the refusal number and `answer` untouched.
 pub fn answer(book: &[u8], question: &[u8], answer: &mut [u8]) -> u32 {
-    answer_with(book, question, answer, DISPATCH_TASK_6)
-}
-
-/// `answer` with task 6 answered or refused by 12.
-pub fn answer_with(book: &[u8], question: &[u8], answer: &mut [u8], dispatch_task_6: bool) -> u32 {
-    match blocks_of(book, question, answer.len(), dispatch_task_6) {
+    match blocks_of(book, question, answer.len()) {
         Ok(blocks) => {
             for (place, block) in answer.chunks_exact_mut(BLOCK).zip(&blocks) {
                 place.copy_from_slice(&bytes_of(block));
@@ -34,14 +26,14 @@ pub fn answer_with(book: &[u8], question: &[u8], answer: &mut [u8], dispatch_tas
     }
 }
 
-fn blocks_of(book: &[u8], question: &[u8], room: usize, dispatch_task_6: bool) -> Result<Vec<Words>, u32> {
+fn blocks_of(book: &[u8], question: &[u8], room: usize) -> Result<Vec<Words>, u32> {
     let book = open_book(book)?;
     if room < ANSWER_BYTES {
         return Err(10);
     }
     let question = Question::read(question)?;
     let task = question.task();
-    if !(1..=9).contains(&task) || (task == 6 && !dispatch_task_6) {
+    if !(1..=9).contains(&task) {
         return Err(12);
     }
     question.ask(book.solvents.len())?;
@@ -51,10 +43,10 @@ fn blocks_of(book: &[u8], question: &[u8], room: usize, dispatch_task_6: bool) -
 }
 
 /// What the program writes for the bytes of book.bin and of its standard input.
-pub fn program_output(book: &[u8], question: &[u8], dispatch_task_6: bool) -> Vec<u8> {
+pub fn program_output(book: &[u8], question: &[u8]) -> Vec<u8> {
     let book = &book[..book.len().min(38 * BLOCK)];
     let question = &question[..question.len().min(BLOCK + 1)];
-    let blocks = match blocks_of(book, question, ANSWER_BYTES, dispatch_task_6) {
+    let blocks = match blocks_of(book, question, ANSWER_BYTES) {
         Ok(blocks) => blocks,
         Err(number) => vec![refusal_block(question, number)],
     };

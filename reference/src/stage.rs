@@ -112,7 +112,6 @@ pub enum Case {
         book: Vec<u8>,
         question: Vec<u8>,
         room: usize,
-        dispatch_task_6: bool,
     },
 }
 
@@ -140,9 +139,9 @@ impl Case {
             Case::Pressure { book, i, t } => written(vapor_pressure(book, *i, *t), [UNTOUCHED; 4]),
             Case::Excess { book, t, x } => written(excess(book, *t, x), [UNTOUCHED; 23]),
             Case::Rice { negative, z, k, n, limit } => rice(*negative, &z[..*n], &k[..*n], *limit),
-            Case::Sheet { book, question, room, dispatch_task_6 } => {
+            Case::Sheet { book, question, room } => {
                 let mut answer = unwritten(*room);
-                let number = sheet::answer_with(book, question, &mut answer, *dispatch_task_6);
+                let number = sheet::answer(book, question, &mut answer);
                 refused_or(number, bytes_as_words(&answer))
             }
         }

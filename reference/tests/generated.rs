@@ -1,18 +1,18 @@
 //! What holds of every sheet.
 
 use reference::generate::cases::Cases;
-use reference::sheet::{answer_with, blocks};
+use reference::sheet::{self, blocks};
 use reference::stage::{Case, Stage};
 
 /// A refusal writes nothing; an answer writes its blocks, with right checks, and nothing behind them.
 #[test]
 fn bytes_written() {
     let (mut answered, mut refused) = (0, 0);
-    for case in Cases::new(Stage::Sheet, 11, false, true).take(4000) {
+    for case in Cases::new(Stage::Sheet, 11, false).take(4000) {
         let Case::Sheet { book, question, room, .. } = case else { panic!("a sheet") };
         let before: Vec<u8> = (0..room).map(|k| (k % 251) as u8).collect();
         let mut after = before.clone();
-        let number = answer_with(&book, &question, &mut after, true);
+        let number = sheet::answer(&book, &question, &mut after);
         assert!(number <= 30);
         let mut written = 0;
         if number == 0 {
@@ -33,8 +33,7 @@ fn bytes_written() {
 #[test]
 fn seeds() {
     for stage in reference::stage::STAGES {
-        let lines =
-            |seed| -> Vec<String> { Cases::new(stage, seed, true, true).take(20).map(|case| case.line()).collect() };
+        let lines = |seed| -> Vec<String> { Cases::new(stage, seed, true).take(20).map(|case| case.line()).collect() };
         assert_eq!(lines(3), lines(3));
         assert_ne!(lines(3), lines(4));
     }
@@ -44,7 +43,7 @@ fn seeds() {
 #[test]
 fn every_number_arises() {
     let mut seen = [false; 31];
-    for case in Cases::new(Stage::Sheet, 5, false, true).take(30_000) {
+    for case in Cases::new(Stage::Sheet, 5, false).take(30_000) {
         seen[case.expected().refusal as usize] = true;
     }
     assert!(seen.iter().all(|yes| *yes), "{seen:?}");

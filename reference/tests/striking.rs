@@ -5,7 +5,7 @@ mod common;
 use common::{bytes, sealed, Words};
 use reference::generate::cases::Cases;
 use reference::sheet::blocks::words_of;
-use reference::sheet::{answer_with, ANSWER_BYTES};
+use reference::sheet::{self, ANSWER_BYTES};
 use reference::stage::{Case, Stage};
 
 fn all_words(bytes: &[u8]) -> Vec<Words> {
@@ -54,7 +54,7 @@ fn shorter_question(question: &Words, kept: &[usize]) -> Words {
 
 fn answered(book: &[u8], question: &[u8]) -> Result<Vec<Words>, u32> {
     let mut room = [0; ANSWER_BYTES];
-    match answer_with(book, question, &mut room, true) {
+    match sheet::answer(book, question, &mut room) {
         0 => {
             let all = all_words(&room);
             Ok(all[..1 + all[0][12] as usize].to_vec())
@@ -80,7 +80,7 @@ fn assert_equal(long: &[Words], short: &[Words], kept: &[usize]) {
 #[test]
 fn absent_solvents_do_not_show() {
     let mut struck = [0; 10];
-    for case in Cases::new(Stage::Sheet, 23, false, true).take(12_000) {
+    for case in Cases::new(Stage::Sheet, 23, false).take(12_000) {
         let Case::Sheet { book, question, .. } = case else { panic!("a sheet") };
         let Ok(long) = answered(&book, &question) else { continue };
         let (book, question) = (all_words(&book), words_of(&question));

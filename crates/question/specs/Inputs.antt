@@ -7,9 +7,9 @@ use lib.Dec.{eqb, leb}
 abbrev pub within : ℕ → ℕ → ℕ → Bool
 within a b k = leb a k && leb k b
 
--- tasks: 1 to 9. Task 6 is refused until demand 3 is shipped with it
+-- tasks: 1 to 9
 unfoldable pub isTask : ℕ → Bool
-isTask k = within 1 5 k || within 7 9 k
+isTask k = within 1 9 k
 
 -- temperature: 1, 2, 3, 6, 7
 unfoldable pub needsTemperature : ℕ → Bool

@@ -9,7 +9,7 @@ use reference::generate::{books, feeds, questions, Rng};
 use reference::helpers;
 use reference::named::rachford_rice::rachford_rice_negative;
 use reference::rattle;
-use reference::sheet::{answer_with, open_book, ANSWER_BYTES};
+use reference::sheet::{answer, open_book, ANSWER_BYTES};
 use reference::stage::padded;
 
 const INPUTS: usize = 64;
@@ -194,7 +194,7 @@ fn bench_sheet() {
                 &format!("task {task}, n = {n}"),
                 &inputs,
                 |(book, question)| rattle::answer(book, question, &mut core_answer).map(drop_value),
-                |(book, question)| drop_value(answer_with(book, question, &mut own_answer, true)),
+                |(book, question)| drop_value(answer(book, question, &mut own_answer)),
             );
         }
     }
@@ -203,7 +203,7 @@ fn bench_sheet() {
         "a refused sheet",
         &refused,
         |(book, question)| rattle::answer(book, question, &mut [0; ANSWER_BYTES]).map(drop_value),
-        |(book, question)| drop_value(answer_with(book, question, &mut [0; ANSWER_BYTES], true)),
+        |(book, question)| drop_value(answer(book, question, &mut [0; ANSWER_BYTES])),
     );
 }
 
@@ -215,7 +215,7 @@ fn accepted(rng: &mut Rng, n: usize, task: u64) -> (Vec<u8>, Vec<u8>) {
         let question = questions::realistic(rng, &opened, task);
         let patient = question.words[reference::sheet::question::MAX_ITERATIONS] > 1000;
         let question = question.question();
-        if !patient && answer_with(&book, &question, &mut [0; ANSWER_BYTES], true) == 0 {
+        if !patient && answer(&book, &question, &mut [0; ANSWER_BYTES]) == 0 {
             return (book, question);
         }
     }

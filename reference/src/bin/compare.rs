@@ -1,6 +1,6 @@
 //! Holds the core against the reference, bit for bit.
 //!
-//! compare STAGE [--count N] [--seed S] [--task-6]
+//! compare STAGE [--count N] [--seed S]
 
 use std::process::ExitCode;
 
@@ -29,12 +29,12 @@ fn main() -> ExitCode {
 fn compare(stage: Stage, options: &Options) -> usize {
     if !stage.built_in() {
         if stage == Stage::Sheet {
-            count_sheets(options.seed, options.count_of(stage), options.task_6).print();
+            count_sheets(options.seed, options.count_of(stage)).print();
         }
         println!("{}: not built in", stage.name());
         return 0;
     }
-    let mut cases = Cases::new(stage, options.seed, false, options.task_6);
+    let mut cases = Cases::new(stage, options.seed, false);
     let mut tally = Tally::default();
     let mut tasks = SheetCounts::default();
     let mut differences = 0;

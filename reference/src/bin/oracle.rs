@@ -1,7 +1,7 @@
 //! Writes cases with the reference's results, one a line, or counts them.
 //!
-//! oracle STAGE [--count N] [--seed S] [--task-6]
-//! oracle --counts [STAGE] [--count N] [--seed S] [--task-6]
+//! oracle STAGE [--count N] [--seed S]
+//! oracle --counts [STAGE] [--count N] [--seed S]
 
 use std::io::{BufWriter, Write};
 use std::process::ExitCode;
@@ -32,7 +32,7 @@ fn main() -> ExitCode {
 fn count(stage: Stage, options: &Options) {
     let number = options.count_of(stage);
     if stage == Stage::Sheet {
-        count_sheets(options.seed, number, options.task_6).print();
+        count_sheets(options.seed, number).print();
     } else {
         let tally = count_stage(stage, options.seed, number);
         let share = tally.percent_accepted();
@@ -43,7 +43,7 @@ fn count(stage: Stage, options: &Options) {
 /// Name, inputs, `=`, outputs.
 fn write(stage: Stage, options: &Options) -> std::io::Result<()> {
     let mut out = BufWriter::new(std::io::stdout().lock());
-    for case in Cases::new(stage, options.seed, true, options.task_6).take(options.count.unwrap_or(LINES)) {
+    for case in Cases::new(stage, options.seed, true).take(options.count.unwrap_or(LINES)) {
         let mut results = String::new();
         let words = case.stored();
         hex(&mut results, &words[..1]);

@@ -25,17 +25,15 @@ pub struct Cases {
     stage: Stage,
     /// Small books only, for stored samples.
     compact: bool,
-    /// Whether task 6 is answered.
-    dispatch_task_6: bool,
     /// Cases that come before the random ones.
     first: std::vec::IntoIter<Case>,
 }
 
 impl Cases {
-    pub fn new(stage: Stage, seed: u64, compact: bool, dispatch_task_6: bool) -> Self {
+    pub fn new(stage: Stage, seed: u64, compact: bool) -> Self {
         let first = if stage == Stage::Numbers && !compact { edge_numbers() } else { Vec::new() };
         let rng = if compact { Rng::tidy(seed) } else { Rng::new(seed) };
-        Self { rng, stage, compact, dispatch_task_6, first: first.into_iter() }
+        Self { rng, stage, compact, first: first.into_iter() }
     }
 
     fn solvents(&mut self) -> usize {
@@ -69,7 +67,7 @@ impl Cases {
             87..=94 => Kind::DamagedQuestion,
             _ => Kind::DamagedBook,
         };
-        (kind, sheet(&mut self.rng, n, kind, self.dispatch_task_6))
+        (kind, sheet(&mut self.rng, n, kind))
     }
 }
 
@@ -182,7 +180,7 @@ fn split(rng: &mut Rng, n: usize) -> Case {
     Case::Rice { negative: rng.one_in(2), z, k, n, limit }
 }
 
-fn sheet(rng: &mut Rng, n: usize, kind: Kind, dispatch_task_6: bool) -> Case {
+fn sheet(rng: &mut Rng, n: usize, kind: Kind) -> Case {
     let mut draft = books::realistic(rng, n);
     let victim = rng.below(n);
     match kind {
@@ -194,7 +192,7 @@ fn sheet(rng: &mut Rng, n: usize, kind: Kind, dispatch_task_6: bool) -> Case {
     let right = draft.bytes();
     let Ok(opened) = open_book(&right) else {
         // A wild value that questions 1 to 9 refuse.
-        return Case::Sheet { book: right, question: Vec::new(), room: 0, dispatch_task_6 };
+        return Case::Sheet { book: right, question: Vec::new(), room: 0 };
     };
     let task = rng.between(1, 9) as u64;
     let mut question = match kind {
@@ -218,5 +216,5 @@ fn sheet(rng: &mut Rng, n: usize, kind: Kind, dispatch_task_6: bool) -> Case {
         }
         _ => {}
     }
-    Case::Sheet { book, question: question.question(), room: question.room, dispatch_task_6 }
+    Case::Sheet { book, question: question.question(), room: question.room }
 }

@@ -1,7 +1,7 @@
 //! Small books and questions, word by word.
 #![allow(dead_code)]
 
-use reference::sheet::{answer_with, ANSWER_BYTES};
+use reference::sheet::{self, ANSWER_BYTES};
 
 pub type Words = [u64; 64];
 
@@ -102,10 +102,10 @@ impl Ask {
     }
 }
 
-/// The blocks written, or the number; task 6 is answered.
+/// The blocks written, or the number.
 pub fn call(book: &[u8], ask: Ask) -> Result<Vec<Words>, u32> {
     let mut answer = vec![0xee; ANSWER_BYTES + 9];
-    let number = answer_with(book, &ask.bytes(), &mut answer, true);
+    let number = sheet::answer(book, &ask.bytes(), &mut answer);
     if number != 0 {
         assert!(answer.iter().all(|byte| *byte == 0xee));
         return Err(number);

@@ -7,23 +7,15 @@ use Rattle.question.proofs.is_task.Tie as tie
 
 returns : tie.Need-returns
 unfolding isTask
-returns c = let k = c .before .before .args .task in rw (inside 1 5 k (omega arith) (omega arith))
+returns c = let k = c .before .before .args .task in rw (inside 1 9 k (omega arith) (omega arith))
 
 returns-2 : tie.Need-returns-2
 unfolding isTask
-returns-2 c = let k = c .before .before .before .before .args .task in rw (above 1 5 k (omega arith), inside 7 9 k (omega arith) (omega arith))
+returns-2 c = let k = c .before .args .task in rw (below 1 9 k (omega arith))
 
 returns-3 : tie.Need-returns-3
 unfolding isTask
-returns-3 c = let k = c .before .args .task in rw (below 1 5 k (omega arith), below 7 9 k (omega arith))
-
-returns-4 : tie.Need-returns-4
-unfolding isTask
-returns-4 c = let k = c .before .before .before .args .task in rw (above 1 5 k (omega arith), below 7 9 k (omega arith))
-
-returns-5 : tie.Need-returns-5
-unfolding isTask
-returns-5 c = let k = c .before .before .before .before .args .task in rw (above 1 5 k (omega arith), above 7 9 k (omega arith))
+returns-3 c = let k = c .before .before .args .task in rw (above 1 9 k (omega arith))
 
 pub is-task-spec : {M : Type 1} → statement M
-is-task-spec = tie.close (tie.spec returns returns-2 returns-3 returns-4 returns-5)
+is-task-spec = tie.close (tie.spec returns returns-2 returns-3)
