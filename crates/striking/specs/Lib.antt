@@ -5,3 +5,5 @@ pub mod Related
 pub mod Results
 pub mod Books
 pub mod Words
+pub mod Questions
+pub mod Sheets
