@@ -26,6 +26,12 @@ acc-weaken R (no r) o' h f = acc-no o'
 acc-weaken R (ok a) (no r) h f = absurd (h .says)
 acc-weaken R (ok a) (ok b) h f = acc-ok (f a b (h .says))
 
+-- with the longer call's own equation beside the relation
+pub acc-known : {A B : Type 0} (R : A → B → Type 0) (o : Out A) (o' : Out B) → Acc R o o' → Acc (λ (a : A) (b : B). R a b × (o ≡ ok a)) o o'
+acc-known R (no r) o' h = acc-no o'
+acc-known R (ok a) (no r) h = absurd (h .says)
+acc-known R (ok a) (ok b) h = acc-ok (h .says, refl)
+
 -- where the longer call is accepted
 pub accepted : {A B : Type 0} {R : A → B → Type 0} {a : A} {o' : Out B} → Acc R (ok a) o' → (b : B) × (o' ≡ ok b) × R a b
 accepted {A} {B} {R} {a} {o'} h = go o' (h .says)

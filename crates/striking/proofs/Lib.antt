@@ -23,3 +23,4 @@ pub mod Tasks
 pub mod Books
 pub mod Some
 pub mod Questions
+pub mod Answers
