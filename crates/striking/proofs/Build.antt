@@ -235,3 +235,59 @@ module _ (keep : ℕ → Bool) (n : ℕ) (book : List ℕ) where
       where
         old : (i j : ℕ) → i < j → j < n → T (keep i) → T (keep j) → (k : ℕ) → words book (pairPlace n (keptAt keep n (cnt keep i)) (keptAt keep n (cnt keep j))) k ≡ words book (pairPlace n i j) k
         old i j l m p q k = rw (at-place keep n i (le-trans l (omega arith)) p, at-place keep n j m q)
+
+-- ---- the shorter question
+module _ (keep : ℕ → Bool) (n : ℕ) (f : ℕ) (w : ℕ → ℕ) where
+  moved-small : Small w → Small (moveUp keep n f w)
+  unfolding Small moveUp
+  moved-small h k = cond-small (leb f k && ltb k (f + 8)) _ _ (cond-small (ltb (k - f) (cnt keep n)) _ 0 (h (f + keptAt keep n (k - f))) (omega arith)) (h k)
+
+  moved-kept : n ≤ 8 → (i : ℕ) → i < n → T (keep i) → moveUp keep n f w (f + cnt keep i) ≡ w (f + i)
+  unfolding moveUp
+  moved-kept few i l t =
+      let m : cnt keep i < cnt keep n = cnt-lt keep i n t l in
+      let e : f + cnt keep i - f ≡ cnt keep i = omega arith in
+      rw (le-leb f (f + cnt keep i) (omega arith), lt-ltb (f + cnt keep i) (f + 8) (omega (arith, cnt-le keep n)), e, lt-ltb (cnt keep i) (cnt keep n) m, at-place keep n i l t)
+
+  moved-before : (k : ℕ) → k < f → moveUp keep n f w k ≡ w k
+  unfolding moveUp
+  moved-before k l = rw (lt-leb f k l)
+
+  moved-behind : (k : ℕ) → f + 8 ≤ k → moveUp keep n f w k ≡ w k
+  unfolding moveUp
+  moved-behind k l = rw (le-leb f k (omega arith), le-ltb k (f + 8) l)
+
+made-question : (keep : ℕ → Bool) (n : ℕ) (question : List ℕ) → n ≤ 8 → Bytes question → ShorterQuestion keep n question (shorterQuestion keep n question)
+unfolding shorterQuestion
+made-question keep n q few h =
+    let r = written-word (moveUp keep n 4 (moveUp keep n 19 (word q))) small in
+    record {
+      size = length-block-bytes (moveUp keep n 4 (moveUp keep n 19 (word q)));
+      check = written-check (moveUp keep n 4 (moveUp keep n 19 (word q))) small;
+      head = λ k l. sym (r k (omega arith) ∙ moved-before keep n 4 _ k l ∙ moved-before keep n 19 _ k (omega arith));
+      fraction = λ i l t. sym (r (4 + cnt keep i) (below i 4 l (omega arith)) ∙ moved-kept keep n 4 _ few i l t ∙ moved-before keep n 19 _ (4 + i) (omega arith));
+      options = λ k l m. sym (r k (omega arith) ∙ moved-behind keep n 4 _ k l ∙ moved-before keep n 19 _ k m);
+      ratio = λ i l t. sym (r (19 + cnt keep i) (below i 19 l (omega arith)) ∙ moved-behind keep n 4 _ (19 + cnt keep i) (omega arith) ∙ moved-kept keep n 19 _ few i l t);
+      unnamed = λ k l m. sym (r k m ∙ moved-behind keep n 4 _ k (omega arith) ∙ moved-behind keep n 19 _ k l);
+    }
+  where
+    small : Small (moveUp keep n 4 (moveUp keep n 19 (word q)))
+    small = moved-small keep n 4 _ (moved-small keep n 19 _ (question-small q h))
+
+    below : (i f : ℕ) → i < n → f ≤ 19 → f + cnt keep i < 63
+    below i f l m = omega (arith, cnt-le keep i)
+
+-- any book that says it has up to 8 solvents, and any question, have a shorter book and question
+pub builds : (book question : List ℕ) → solvents book ≤ 8 → Bytes book → Bytes question
+    → Shorter book question (shorterBook (keptIn question) (solvents book) book) (shorterQuestion (keptIn question) (solvents book) question)
+builds book question few b q = record {
+  of-book = made-book (keptIn question) (solvents book) book few b;
+  of-question = made-question (keptIn question) (solvents book) question few q;
+}
+
+-- every accepted book of n solvents, with any question
+pub accepted-builds : (book question : List ℕ) {n : ℕ} → bookOf book ≡ ok n → Bytes book → Bytes question
+    → Shorter book question (shorterBook (keptIn question) n book) (shorterQuestion (keptIn question) n question)
+accepted-builds book question e b q =
+    let a = accepted book e in
+    rw (a .count) at (builds book question (omega (arith, a .few, a .count)) b q)
