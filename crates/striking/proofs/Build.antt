@@ -15,7 +15,7 @@ use lib.Ieee.Bits.{is-true}
 use Rattle.floats.specs.Fold.{allTo}
 use Rattle.floats.specs.Outcome.{ok}
 use Rattle.blocks.specs.Words.{byte, wordFrom, word, block, checkSum, checkRight}
-use Rattle.blocks.specs.Bytes.{rowTo, blockBytes}
+use Rattle.blocks.specs.Bytes.{bytes, rowTo, blockBytes}
 use Rattle.blocks.proofs.Laws.{length-row, length-block-bytes, block-word, block-check}
 use Rattle.book.specs.Places.{words, blockCount, rowFrom, pairPlace}
 use Rattle.book.specs.Book.{bookOf}
@@ -291,3 +291,43 @@ pub accepted-builds : (book question : List ℕ) {n : ℕ} → bookOf book ≡ o
 accepted-builds book question e b q =
     let a = accepted book e in
     rw (a .count) at (builds book question (omega (arith, a .few, a .count)) b q)
+
+-- ---- what is made is of bytes
+none-bytes : Bytes []
+none-bytes = record { small = λ i. omega arith }
+
+cons-bytes : (x : ℕ) (s : List ℕ) → x < 256 → Bytes s → Bytes (x ∷ s)
+cons-bytes x s l h = record { small = go }
+  where
+    go : (i : ℕ) → byte (x ∷ s) i < 256
+    go zero = l
+    go (suc i) = h .small i
+
+append-bytes : (s t : List ℕ) → Bytes s → Bytes t → Bytes (s ++ t)
+append-bytes [] t h g = g
+append-bytes (x ∷ s) t h g = cons-bytes x (s ++ t) (h .small 0) (append-bytes s t (record { small = λ i. h .small (suc i) }) g)
+
+row-bytes : (f : ℕ → List ℕ) (n : ℕ) → ((k : ℕ) → Bytes (f k)) → Bytes (rowTo f n)
+unfolding rowTo
+row-bytes f zero h = none-bytes
+row-bytes f (suc n) h = append-bytes (rowTo f n) (f n) (row-bytes f n h) (h n)
+
+word-bytes : (w : ℕ) → Bytes (bytes w)
+unfolding bytes
+word-bytes w =
+    cons-bytes _ _ (omega arith) (cons-bytes _ _ (omega arith) (cons-bytes _ _ (omega arith) (cons-bytes _ _ (omega arith)
+    (cons-bytes _ _ (omega arith) (cons-bytes _ _ (omega arith) (cons-bytes _ _ (omega arith) (cons-bytes _ _ (omega arith) none-bytes)))))))
+
+block-bytes : (w : ℕ → ℕ) → Bytes (blockBytes w)
+unfolding blockBytes
+block-bytes w = append-bytes _ _ (row-bytes (λ k. bytes (w k)) 63 (λ k. word-bytes (w k))) (word-bytes (checkSum w 63))
+
+pub book-bytes : (keep : ℕ → Bool) (n : ℕ) (book : List ℕ) → Bytes (shorterBook keep n book)
+unfolding shorterBook pairRow
+book-bytes keep n book =
+    append-bytes _ _ (append-bytes _ _ (block-bytes (headWords keep n book)) (row-bytes _ (cnt keep n) (λ k. block-bytes (solventWords keep n book k))))
+    (row-bytes (pairRow keep n book) (cnt keep n) (λ i. row-bytes _ (cnt keep n - i - 1) (λ d. block-bytes (pairWords keep n book i (i + 1 + d)))))
+
+pub question-bytes : (keep : ℕ → Bool) (n : ℕ) (question : List ℕ) → Bytes (shorterQuestion keep n question)
+unfolding shorterQuestion
+question-bytes keep n question = block-bytes _
