@@ -22,4 +22,5 @@ pub mod Words
 pub mod Tasks
 pub mod Books
 pub mod Some
+pub mod Written
 pub mod Build
