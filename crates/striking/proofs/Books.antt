@@ -26,7 +26,7 @@ use Rattle.striking.proofs.Acc.{all-of}
 use Rattle.striking.proofs.Excess.{cnt-le}
 
 -- ---- tests that read only equal words
-so : {b : Bool} → b ≡ true → T b
+pub so : {b : Bool} → b ≡ true → T b
 so e = subst T (sym e) tt
 
 all-true : (p : ℕ → Bool) (n : ℕ) → ((k : ℕ) → k < n → p k ≡ true) → allTo p n ≡ true
@@ -104,14 +104,14 @@ pair-right w v i j i' j' a e x y h =
     rw (← a, ← b, ← c, eq-eqb (v 1) i' x, eq-eqb (v 2) j' y) (two-of (eqb (w 0) 3) (eqb (w 1) i) (eqb (w 2) j) (leb (w 15) 1) (leb (w 18) 1) h)
 
 -- ---- every block behind the solvents is that of a pair
-record PairOf (m b : ℕ) : Type 0 where
-  first : ℕ
-  second : ℕ
-  ordered : first < second
-  below : second < m
-  stands : b ≡ pairPlace m first second
+pub record PairOf (m b : ℕ) : Type 0 where
+  pub first : ℕ
+  pub second : ℕ
+  pub ordered : first < second
+  pub below : second < m
+  pub stands : b ≡ pairPlace m first second
 
-found : (m b i : ℕ) → i ≤ m → m < b → b < rowFrom m i → PairOf m b
+pub found : (m b i : ℕ) → i ≤ m → m < b → b < rowFrom m i → PairOf m b
 unfolding rowFrom pairPlace
 found m b zero h l u = absurd (omega arith)
 found m b (suc i) h l u = go (ltb b (rowFrom m i)) (ltb→lt b (rowFrom m i)) (nltb→le b (rowFrom m i)) (found m b i (omega arith) l)
@@ -126,7 +126,7 @@ found m b (suc i) h l u = go (ltb b (rowFrom m i)) (ltb→lt b (rowFrom m i)) (n
 ending : ℕ → Bool
 ending m = leb (blockCount m) (rowFrom m m)
 
-rows-end : (m : ℕ) → m ≤ 8 → blockCount m ≤ rowFrom m m
+pub rows-end : (m : ℕ) → m ≤ 8 → blockCount m ≤ rowFrom m m
 unfolding ending allTo rowFrom
 rows-end m h = leb-true (blockCount m) (rowFrom m m) (all-at ending 9 m (omega arith) refl)
 

@@ -24,3 +24,5 @@ pub mod Books
 pub mod Some
 pub mod Questions
 pub mod Answers
+pub mod Written
+pub mod Build

@@ -1,0 +1,47 @@
+-- The shorter book and question, made (document 01, "The shorter sheet"). Assumes nothing.
+use Prim.Native.Nat.{ℕ, zero, suc, _+_, _-_, _<_}
+use mathlib.Core.Bool.{Bool, cond, _&&_}
+use mathlib.Core.List.{List, _++_}
+use lib.Dec.{eqb, leb, ltb}
+use Rattle.blocks.specs.Words.{byte, word}
+use Rattle.blocks.specs.Bytes.{rowTo, blockBytes}
+use Rattle.book.specs.Places.{words, pairPlace}
+use Rattle.striking.specs.Places.{cnt}
+
+-- the elements are bytes, as those of every slice of u8 are
+pub record Bytes (s : List ℕ) : Type 0 where
+  pub small : (i : ℕ) → byte s i < 256
+
+-- the old index of place k: the kept index below n before which k are kept; 0 where there is none
+unfoldable pub keptAt : (ℕ → Bool) → ℕ → ℕ → ℕ
+keptAt keep zero k = 0
+keptAt keep (suc i) k = cond (eqb (cnt keep i) k && keep i) i (keptAt keep i k)
+
+-- words w, but x at index f
+unfoldable pub change : ℕ → ℕ → (ℕ → ℕ) → ℕ → ℕ
+change f x w k = cond (eqb k f) x (w k)
+
+-- the new words of block 0, of the solvent at place k, and of the pair at places i and j
+abbrev pub headWords : (ℕ → Bool) → ℕ → List ℕ → ℕ → ℕ
+headWords keep n book = change 2 (cnt keep n) (words book 0)
+
+abbrev pub solventWords : (ℕ → Bool) → ℕ → List ℕ → ℕ → ℕ → ℕ
+solventWords keep n book k = change 1 k (words book (keptAt keep n k + 1))
+
+abbrev pub pairWords : (ℕ → Bool) → ℕ → List ℕ → ℕ → ℕ → ℕ → ℕ
+pairWords keep n book i j = change 1 i (change 2 j (words book (pairPlace n (keptAt keep n i) (keptAt keep n j))))
+
+-- the pairs (i, i + 1), (i, i + 2) and on
+unfoldable pub pairRow : (ℕ → Bool) → ℕ → List ℕ → ℕ → List ℕ
+pairRow keep n book i = rowTo (λ d. blockBytes (pairWords keep n book i (i + 1 + d))) (cnt keep n - i - 1)
+
+unfoldable pub shorterBook : (ℕ → Bool) → ℕ → List ℕ → List ℕ
+shorterBook keep n book = blockBytes (headWords keep n book) ++ rowTo (λ k. blockBytes (solventWords keep n book k)) (cnt keep n) ++ rowTo (pairRow keep n book) (cnt keep n)
+
+-- words w, but of the eight from f on the kept ones first, then 0
+unfoldable pub moveUp : (ℕ → Bool) → ℕ → ℕ → (ℕ → ℕ) → ℕ → ℕ
+moveUp keep n f w k = cond (leb f k && ltb k (f + 8)) (cond (ltb (k - f) (cnt keep n)) (w (f + keptAt keep n (k - f))) 0) (w k)
+
+-- fractions from word 4 on, K from word 19 on
+unfoldable pub shorterQuestion : (ℕ → Bool) → ℕ → List ℕ → List ℕ
+shorterQuestion keep n question = blockBytes (moveUp keep n 4 (moveUp keep n 19 (word question)))
