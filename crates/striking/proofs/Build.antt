@@ -27,7 +27,8 @@ use Rattle.striking.proofs.Strike.{cnt-lt}
 use Rattle.striking.proofs.Acc.{all-of}
 use Rattle.striking.proofs.Excess.{cnt-le}
 use Rattle.striking.proofs.Books.{PairOf, found, rows-end}
-use Rattle.striking.proofs.Written.{Small, word-small, words-small, Stands, first-of, last-of, inside, in-row, written-word, written-check, read-word, read-check, append-bytes, row-bytes, block-bytes}
+use Rattle.striking.proofs.Written.{Small, word-small, words-small, Stands, first-of, last-of, inside, in-row, written-word, written-check, read-word, read-check}
+use Rattle.striking.proofs.Written.{append-bytes, row-bytes, block-bytes}
 
 cond-small : (b : Bool) (x y : ℕ) → x < 2 ^ 64 → y < 2 ^ 64 → cond b x y < 2 ^ 64
 cond-small true x y p q = p
@@ -40,8 +41,8 @@ at-place keep zero i l t = absurd (omega arith)
 at-place keep (suc n) i l t = elim (eq-or-lt-of-le l) [
   | inl e ↦ let d : n ≡ i = omega arith in rw (d, eq-eqb (cnt keep i) (cnt keep i) refl, is-true (keep i) t)
   | inr m ↦ let h : i < n = omega arith in
-    let q : cnt keep i < cnt keep n = cnt-lt keep i n t h in
-    rw (ne-eqb (cnt keep n) (cnt keep i) (λ (z : cnt keep n ≡ cnt keep i). omega arith)) (at-place keep n i h t)
+      let q : cnt keep i < cnt keep n = cnt-lt keep i n t h in
+      rw (ne-eqb (cnt keep n) (cnt keep i) (λ (z : cnt keep n ≡ cnt keep i). omega arith)) (at-place keep n i h t)
 ]
 
 -- ---- a change of one word
@@ -137,7 +138,8 @@ module _ (keep : ℕ → Bool) (n : ℕ) (book : List ℕ) where
 
     pair-check : (b : ℕ) → PairOf (cnt keep n) b → T (checkRight (words (shorterBook keep n book) b))
     pair-check b r =
-        rw (r .stands) (read-check (pairWords keep n book (r .first) (r .second)) (pair-small _ _ (r .ordered) (r .below)) _ (pairPlace (cnt keep n) (r .first) (r .second)) (pair-at _ _ (r .ordered) (r .below)))
+        rw (r .stands)
+        (read-check (pairWords keep n book (r .first) (r .second)) (pair-small _ _ (r .ordered) (r .below)) _ (pairPlace (cnt keep n) (r .first) (r .second)) (pair-at _ _ (r .ordered) (r .below)))
 
     each-check : (b : ℕ) → b < blockCount (cnt keep n) → T (checkRight (words (shorterBook keep n book) b))
     each-check zero l = read-check (headWords keep n book) head-small _ 0 head-at
