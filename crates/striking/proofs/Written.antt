@@ -75,6 +75,10 @@ unfolding checkSum
 sum-same w v zero e = refl
 sum-same w v (suc n) e = rw (sum-same w v n (λ k l. e k (omega arith)), e n (omega arith))
 
+pub block-is : (w : ℕ → ℕ) (s : List ℕ) (b : ℕ) → Stands s (512 * b) (blockBytes w) → block s b ≡ blockBytes w
+unfolding block
+block-is w s b at = rw (at .split, drop-at (at .front) (blockBytes w ++ at .rest) (512 * b) (at .long), take-at (blockBytes w) (at .rest) 512 (length-block-bytes w))
+
 module _ (w : ℕ → ℕ) (h : Small w) where
   pub written-word : (k : ℕ) → k < 63 → word (blockBytes w) k ≡ w k
   written-word k l = rw append-nil at (block-word w k [] l (h .fits k))
@@ -84,15 +88,11 @@ module _ (w : ℕ → ℕ) (h : Small w) where
   written-check = so (eq-eqb _ _ (sum-same (word (blockBytes w)) w 63 written-word ∙ sym (rw append-nil at (block-check w []))))
 
   module _ (s : List ℕ) (b : ℕ) (at : Stands s (512 * b) (blockBytes w)) where
-    block-is : block s b ≡ blockBytes w
-    unfolding block
-    block-is = rw (at .split, drop-at (at .front) (blockBytes w ++ at .rest) (512 * b) (at .long), take-at (blockBytes w) (at .rest) 512 (length-block-bytes w))
-
     pub read-word : (k : ℕ) → k < 63 → words s b k ≡ w k
-    read-word k l = rw block-is (written-word k l)
+    read-word k l = rw (block-is w s b at) (written-word k l)
 
     pub read-check : T (checkRight (words s b))
-    read-check = rw block-is written-check
+    read-check = rw (block-is w s b at) written-check
 
 -- ---- what is written is bytes
 none-bytes : Bytes []

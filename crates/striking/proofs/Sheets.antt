@@ -1,0 +1,151 @@
+-- Answers that are alike are written as sheets that are alike, whatever stands behind them. Assumes nothing.
+use mathlib.Core.Path.{_≡_, refl, sym, ap, _∙_, subst}
+use mathlib.Core.Logic.{_≢_, inl, inr}
+use Prim.Native.Nat.{ℕ, zero, suc, _+_, _*_, _^_, _≤_, _<_}
+use native.Mathlib.Nat.{le-trans}
+use native.Mathlib.Omega.{arith}
+use mathlib.Core.Bool.{Bool, true, false, not}
+use mathlib.Core.List.{List, [], _∷_, _++_, append-nil}
+use lib.ListN.{length, getD, set, replicate, length-replicate}
+use lib.Seq.{take-at, drop-at}
+use lib.Dec.{T, eqb, eqb→eq}
+use lib.Ieee.{Float}
+use Rattle.floats.specs.Small.{bitsOf}
+use Rattle.floats.specs.Vector.{at, fillFrom}
+use Rattle.floats.proofs.Fills.{fillFrom-length, fillFrom-at, fillFrom-before}
+use Rattle.blocks.specs.Words.{wordFrom, word, block}
+use Rattle.blocks.specs.Bytes.{bytes, wordAt, rowTo, blockBytes}
+use Rattle.blocks.proofs.Laws.{length-block-bytes, length-row, word-bytes}
+use Rattle.striking.proofs.Read.{block-read}
+use Rattle.book.specs.Places.{words}
+use Rattle.liquid_stability.specs.declared.LiquidStabilityTrial.{LiquidStabilityTrial}
+use Rattle.liquid_stability.specs.Stability.{noTrial}
+use Rattle.replies.specs.Blocks.{bit, Answer, answerWords, trialWords, trialBytes, answerBytes}
+use Rattle.zeros.specs.Same.{_≈_}
+use Rattle.striking.specs.Places.{cnt}
+use Rattle.striking.specs.Results.{SameTrial}
+use Rattle.striking.specs.Words.{ZeroWord, SameWord}
+use Rattle.striking.specs.Sheets.{SameEntries, SameHead, SameTrialBlock, SameSheet}
+use Rattle.striking.proofs.Strike.{cnt-lt}
+use Rattle.striking.proofs.Excess.{cnt-le}
+use Rattle.striking.proofs.Words.{same-word}
+use Rattle.striking.proofs.Written.{Stands, first-of, last-of, inside, in-row, block-is}
+use Rattle.striking.proofs.Answers.{word-same, SameAnswer}
+
+-- ---- a word as it is read again: modulo 2^64, so that zeros stay
+abbrev again : ℕ → ℕ
+again x = wordFrom (bytes x) 0
+
+zero-again : (x : ℕ) → ZeroWord x → ZeroWord (again x)
+unfolding wordFrom bytes
+zero-again x (inl e) = inl (ap again e)
+zero-again x (inr e) = inr (ap again e)
+
+same-again : {x y : ℕ} → SameWord x y → SameWord (again x) (again y)
+same-again {x} {y} h = elim (h .either) [
+  | inl e ↦ word-same (ap again e)
+  | inr z ↦ record { either = inr (zero-again x (z .0), zero-again y (z .1)) }
+]
+
+-- ---- word k of two rows filled alike at k
+set-same : (k i : ℕ) (l m : List ℕ) (x y : ℕ) → length l ≡ length m → (i ≡ k → SameWord x y) → SameWord (wordAt l k) (wordAt m k) → SameWord (wordAt (set l i x) k) (wordAt (set m i y) k)
+set-same k i [] [] x y e f h = h
+set-same k i [] (b ∷ m) x y e f h = absurd (omega arith)
+set-same k i (a ∷ l) [] x y e f h = absurd (omega arith)
+set-same zero zero (a ∷ l) (b ∷ m) x y e f h = f refl
+set-same (suc k) zero (a ∷ l) (b ∷ m) x y e f h = h
+set-same zero (suc i) (a ∷ l) (b ∷ m) x y e f h = h
+set-same (suc k) (suc i) (a ∷ l) (b ∷ m) x y e f h = set-same k i l m x y (omega arith) (λ q. f (ap suc q)) h
+
+fill-same : (k : ℕ) (f g : ℕ → ℕ) (b n : ℕ) (l m : List ℕ) → length l ≡ length m → ((j : ℕ) → j < n → b + j ≡ k → SameWord (f j) (g j)) → SameWord (wordAt l k) (wordAt m k)
+    → SameWord (wordAt (fillFrom f b n l) k) (wordAt (fillFrom g b n m) k)
+unfolding fillFrom
+fill-same k f g b zero l m e h r = r
+fill-same k f g b (suc n) l m e h r =
+    set-same k (b + n) (fillFrom f b n l) (fillFrom g b n m) (f n) (g n) (fillFrom-length f b n l ∙ e ∙ sym (fillFrom-length g b n m)) (h n (omega arith))
+    (fill-same k f g b n l m e (λ j i. h j (omega arith)) r)
+
+-- ---- the answer block
+module _ (task outcome : ℕ) (state : List ℕ) (liquid vapor : List Float) (model : List ℕ) where
+  base : List ℕ
+  base = 9 ∷ task ∷ 0 ∷ outcome ∷ replicate 60 0
+
+  with-state : List ℕ
+  with-state = fillFrom (wordAt state) 4 10 base
+
+  with-liquid : List ℕ
+  with-liquid = fillFrom (λ i. bitsOf (at liquid i)) 14 8 with-state
+
+  with-vapor : List ℕ
+  with-vapor = fillFrom (λ i. bitsOf (at vapor i)) 22 8 with-liquid
+
+  state-long : length with-state ≡ 64
+  unfolding with-state base
+  state-long = fillFrom-length (wordAt state) 4 10 base
+
+  liquid-long : length with-liquid ≡ 64
+  unfolding with-liquid
+  liquid-long = fillFrom-length (λ i. bitsOf (at liquid i)) 14 8 with-state ∙ state-long
+
+  vapor-long : length with-vapor ≡ 64
+  unfolding with-vapor
+  vapor-long = fillFrom-length (λ i. bitsOf (at vapor i)) 22 8 with-liquid ∙ liquid-long
+
+  answer-liquid : (i : ℕ) → i < 8 → wordAt (answerWords task outcome state liquid vapor model) (14 + i) ≡ bitsOf (at liquid i)
+  unfolding answerWords with-vapor with-liquid with-state base
+  answer-liquid i l =
+      fillFrom-before (wordAt model) 30 8 with-vapor 0 (14 + i) (omega arith)
+      ∙ fillFrom-before (λ i. bitsOf (at vapor i)) 22 8 with-liquid 0 (14 + i) (omega arith)
+      ∙ fillFrom-at (λ i. bitsOf (at liquid i)) 14 8 with-state 0 i (omega (arith, state-long)) l
+
+  answer-vapor : (i : ℕ) → i < 8 → wordAt (answerWords task outcome state liquid vapor model) (22 + i) ≡ bitsOf (at vapor i)
+  unfolding answerWords with-vapor with-liquid with-state base
+  answer-vapor i l =
+      fillFrom-before (wordAt model) 30 8 with-vapor 0 (22 + i) (omega arith)
+      ∙ fillFrom-at (λ i. bitsOf (at vapor i)) 22 8 with-liquid 0 i (omega (arith, liquid-long)) l
+
+  answer-state : (j : ℕ) → j < 10 → wordAt (answerWords task outcome state liquid vapor model) (4 + j) ≡ wordAt state j
+  unfolding answerWords with-vapor with-liquid with-state base
+  answer-state j l =
+      fillFrom-before (wordAt model) 30 8 with-vapor 0 (4 + j) (omega arith)
+      ∙ fillFrom-before (λ i. bitsOf (at vapor i)) 22 8 with-liquid 0 (4 + j) (omega arith)
+      ∙ fillFrom-before (λ i. bitsOf (at liquid i)) 14 8 with-state 0 (4 + j) (omega arith)
+      ∙ fillFrom-at (wordAt state) 4 10 base 0 j (omega arith) l
+
+-- the words of an answer
+abbrev head : ℕ → Answer → ℕ → ℕ
+head task a = wordAt (answerWords task (a .outcome) (a .state) (a .liquid) (a .vapor) (a .model))
+
+module _ (keep : ℕ → Bool) (n : ℕ) (small : n ≤ 8) where
+  under : (i : ℕ) → i < n → T (keep i) → cnt keep i < 8
+  under i l t = le-trans (cnt-lt keep i n t l) (le-trans (cnt-le keep n) small)
+
+  module _ (task : ℕ) (a b : Answer) (h : SameAnswer keep n a b) where
+    -- words 0 to 13 and 30 to 63
+    outside : (k : ℕ) → ((j : ℕ) → j < 8 → 14 + j ≡ k → ⊥) → ((j : ℕ) → j < 8 → 22 + j ≡ k → ⊥) → SameWord (head task a k) (head task b k)
+    unfolding answerWords with-vapor with-liquid with-state base
+    outside k p q =
+        fill-same k (wordAt (a .model)) (wordAt (b .model)) 30 8 _ _ (vapor-long task (a .outcome) (a .state) (a .liquid) (a .vapor) (a .model) ∙ sym (vapor-long task (b .outcome) (b .state) (b .liquid) (b .vapor) (b .model))) (λ j l e. h .model .entry j)
+        (fill-same k (λ i. bitsOf (at (a .vapor) i)) (λ i. bitsOf (at (b .vapor) i)) 22 8 _ _ (liquid-long task (a .outcome) (a .state) (a .liquid) (a .vapor) (a .model) ∙ sym (liquid-long task (b .outcome) (b .state) (b .liquid) (b .vapor) (b .model))) (λ j l e. absurd (q j l e))
+        (fill-same k (λ i. bitsOf (at (a .liquid) i)) (λ i. bitsOf (at (b .liquid) i)) 14 8 _ _ (state-long task (a .outcome) (a .state) (a .liquid) (a .vapor) (a .model) ∙ sym (state-long task (b .outcome) (b .state) (b .liquid) (b .vapor) (b .model))) (λ j l e. absurd (p j l e))
+        (fill-same k (wordAt (a .state)) (wordAt (b .state)) 4 10 _ _ refl (λ j l e. h .state .entry j)
+        (word-same (ap (λ (o : ℕ). wordAt (9 ∷ task ∷ 0 ∷ o ∷ replicate 60 0) k) (h .outcome))))))
+
+    head-same : (w w' : ℕ → ℕ) → ((k : ℕ) → k < 63 → w k ≡ again (head task a k)) → ((k : ℕ) → k < 63 → w' k ≡ again (head task b k)) → SameHead keep n w w'
+    head-same w w' e e' = record {
+      front = λ k l. reads k k (omega arith) (omega arith) (outside k (λ j m q. omega arith) (λ j m q. omega arith));
+      liquid = record {
+        entry = λ i l t. reads (14 + i) (14 + cnt keep i) (omega arith) (omega (arith, under i l t))
+            (subst (λ (x : ℕ). SameWord x (head task b (14 + cnt keep i))) (sym (answer-liquid task (a .outcome) (a .state) (a .liquid) (a .vapor) (a .model) i (omega arith)))
+            (subst (λ (x : ℕ). SameWord (bitsOf (at (a .liquid) i)) x) (sym (answer-liquid task (b .outcome) (b .state) (b .liquid) (b .vapor) (b .model) (cnt keep i) (under i l t))) (same-word (h .liquid i l t))));
+      };
+      vapor = record {
+        entry = λ i l t. reads (22 + i) (22 + cnt keep i) (omega arith) (omega (arith, under i l t))
+            (subst (λ (x : ℕ). SameWord x (head task b (22 + cnt keep i))) (sym (answer-vapor task (a .outcome) (a .state) (a .liquid) (a .vapor) (a .model) i (omega arith)))
+            (subst (λ (x : ℕ). SameWord (bitsOf (at (a .vapor) i)) x) (sym (answer-vapor task (b .outcome) (b .state) (b .liquid) (b .vapor) (b .model) (cnt keep i) (under i l t))) (same-word (h .vapor i l t))));
+      };
+      back = λ k l m. reads k k (omega arith) (omega arith) (outside k (λ j u q. omega arith) (λ j u q. omega arith));
+    }
+      where
+        reads : (k k' : ℕ) → k < 63 → k' < 63 → SameWord (head task a k) (head task b k') → SameWord (w k) (w' k')
+        reads k k' l l' s = subst (λ (x : ℕ). SameWord x (w' k')) (sym (e k l)) (subst (λ (x : ℕ). SameWord (again (head task a k)) x) (sym (e' k' l')) (same-again s))
