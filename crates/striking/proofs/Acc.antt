@@ -63,6 +63,12 @@ acc-need false b' r o o' f g = acc-no (need b' r o')
 acc-need true false r o o' f g = absurd (f tt)
 acc-need true true r o o' f g = g tt
 
+-- a test that the longer call makes alone
+pub acc-passed : {A A' : Type 0} {R : A → A' → Type 0} (b : Bool) (r : ℕ) (o : Out A) (o' : Out A') → Acc R o o' → Acc R (need b r o) o'
+unfolding need
+acc-passed true r o o' h = h
+acc-passed false r o o' h = acc-no o'
+
 -- a choice that both calls make alike
 pub acc-if : {A A' : Type 0} {R : A → A' → Type 0} (b b' : Bool) (o p : Out A) (o' p' : Out A') → b ≡ b' → (T b → Acc R o o') → (T (not b) → Acc R p p')
     → Acc R (choose b o p) (choose b' o' p')

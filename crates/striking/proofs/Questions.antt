@@ -173,11 +173,11 @@ module _ (keep : ℕ → Bool) (n : ℕ) (small : n ≤ 8) (q q' : List ℕ) (h 
   }
 
   -- questions 11 to 21; a feed that passes has a solvent that is kept
-  pub strike-question : Acc (λ (a b : Question). SameQuestion keep n a b × (0 < cnt keep n)) (questionOf q n) (questionOf q' (cnt keep n))
-  unfolding questionOf
+  pub strike-question : Acc (λ (a b : Question). SameQuestion keep n a b × (0 < cnt keep n) × (a .task ≡ word q 1)) (questionOf q n) (questionOf q' (cnt keep n))
+  unfolding questionOf questionFrom
   strike-question =
       acc-need _ _ 11 _ _ (λ t. subst T (sym (eq-eqb (length q') 512 (h .size))) tt) (λ size.
       acc-need _ _ 11 _ _ (λ t. h .check) (λ check.
       acc-need _ _ 11 _ _ (subst (λ (x : ℕ). T (eqb x 8)) (at-head 0 (omega arith))) (λ kind.
       acc-need _ _ 12 _ _ (subst T (by-task isTask)) (λ one.
-      strike-inputs _ _ (λ some. strike-limits _ _ (acc-ok (from-words, some)))))))
+      strike-inputs _ _ (λ some. strike-limits _ _ (acc-ok (from-words, some, refl)))))))

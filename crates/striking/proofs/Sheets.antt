@@ -3,6 +3,7 @@ use mathlib.Core.Path.{_≡_, refl, sym, ap, _∙_, subst}
 use mathlib.Core.Logic.{_≢_, inl, inr}
 use Prim.Native.Nat.{ℕ, zero, suc, _+_, _*_, _^_, _≤_, _<_}
 use native.Mathlib.Nat.{le-trans}
+use native.Mathlib.Numerals.{add-one}
 use native.Mathlib.Omega.{arith}
 use mathlib.Core.Bool.{Bool, true, false, not}
 use mathlib.Core.List.{List, [], _∷_, _++_, append-nil}
@@ -149,3 +150,102 @@ module _ (keep : ℕ → Bool) (n : ℕ) (small : n ≤ 8) where
       where
         reads : (k k' : ℕ) → k < 63 → k' < 63 → SameWord (head task a k) (head task b k') → SameWord (w k) (w' k')
         reads k k' l l' s = subst (λ (x : ℕ). SameWord x (w' k')) (sym (e k l)) (subst (λ (x : ℕ). SameWord (again (head task a k)) x) (sym (e' k' l')) (same-again s))
+
+-- ---- a trial block
+abbrev front : LiquidStabilityTrial → List ℕ
+front t = 10 ∷ t .component ∷ bitsOf (t .distance) ∷ t .iterations ∷ bit (t .trivial) ∷ replicate 59 0
+
+trial-fraction : (t : LiquidStabilityTrial) (i : ℕ) → i < 8 → wordAt (trialWords t) (5 + i) ≡ bitsOf (at (t .composition) i)
+unfolding trialWords
+trial-fraction t i l = fillFrom-at (λ i. bitsOf (at (t .composition) i)) 5 8 (front t) 0 i (omega arith) l
+
+trial-component : (t : LiquidStabilityTrial) → wordAt (trialWords t) 1 ≡ t .component
+unfolding trialWords
+trial-component t = fillFrom-before (λ i. bitsOf (at (t .composition) i)) 5 8 (front t) 0 1 (omega arith)
+
+module _ (keep : ℕ → Bool) (n : ℕ) (small : n ≤ 8) (t t' : LiquidStabilityTrial) (h : SameTrial keep n t t') where
+  front-same : (k : ℕ) → k ≢ 1 → SameWord (wordAt (front t) k) (wordAt (front t') k)
+  front-same zero d = word-same refl
+  front-same (suc zero) d = absurd (d refl)
+  front-same (suc (suc zero)) d = same-word (h .distance)
+  front-same (suc (suc (suc zero))) d = word-same (h .iterations)
+  front-same (suc (suc (suc (suc zero)))) d = word-same (ap bit (h .trivial))
+  front-same (suc (suc (suc (suc (suc k))))) d = word-same refl
+
+  -- words 0, 2 to 4, and 13 on
+  beside : (k : ℕ) → k ≢ 1 → ((j : ℕ) → j < 8 → 5 + j ≡ k → ⊥) → SameWord (wordAt (trialWords t) k) (wordAt (trialWords t') k)
+  unfolding trialWords
+  beside k d p = fill-same k (λ i. bitsOf (at (t .composition) i)) (λ i. bitsOf (at (t' .composition) i)) 5 8 (front t) (front t') refl (λ j l e. absurd (p j l e)) (front-same k d)
+
+  trial-same : (w w' : ℕ → ℕ) → ((k : ℕ) → k < 63 → w k ≡ again (wordAt (trialWords t) k)) → ((k : ℕ) → k < 63 → w' k ≡ again (wordAt (trialWords t') k)) → SameTrialBlock keep n w w'
+  trial-same w w' e e' = record {
+    kind = reads 0 0 (omega arith) (omega arith) (beside 0 (λ (z : 0 ≡ 1). omega arith) (λ j l q. omega arith));
+    below = subst (λ (x : ℕ). x < n) (sym old) (h .below);
+    kept = subst (λ (x : ℕ). T (keep x)) (sym old) (h .kept);
+    component = ap (cnt keep) old ∙ h .component ∙ sym new;
+    front = λ k l m. reads k k (omega arith) (omega arith) (beside k (λ (z : k ≡ 1). omega arith) (λ j u q. omega arith));
+    fractions = record {
+      entry = λ i l q. reads (5 + i) (5 + cnt keep i) (omega arith) (omega (arith, under keep n small i l q))
+          (subst (λ (x : ℕ). SameWord x (wordAt (trialWords t') (5 + cnt keep i))) (sym (trial-fraction t i (omega arith)))
+          (subst (λ (x : ℕ). SameWord (bitsOf (at (t .composition) i)) x) (sym (trial-fraction t' (cnt keep i) (under keep n small i l q))) (same-word (h .composition .fraction i l q))));
+    };
+    back = λ k l m. reads k k (omega arith) (omega arith) (beside k (λ (z : k ≡ 1). omega arith) (λ j u q. omega arith));
+  }
+    where
+      reads : (k k' : ℕ) → k < 63 → k' < 63 → SameWord (wordAt (trialWords t) k) (wordAt (trialWords t') k') → SameWord (w k) (w' k')
+      reads k k' l l' s = subst (λ (x : ℕ). SameWord x (w' k')) (sym (e k l)) (subst (λ (x : ℕ). SameWord (again (wordAt (trialWords t) k)) x) (sym (e' k' l')) (same-again s))
+
+      fewer : t' .component < 8
+      fewer = subst (λ (x : ℕ). x < 8) (h .component) (under keep n small (t .component) (h .below) (h .kept))
+
+      old : w 1 ≡ t .component
+      old = e 1 (omega arith) ∙ ap again (trial-component t) ∙ word-bytes (t .component) (omega (arith, h .below))
+
+      new : w' 1 ≡ t' .component
+      new = e' 1 (omega arith) ∙ ap again (trial-component t') ∙ word-bytes (t' .component) (omega (arith, fewer))
+
+-- ---- the blocks of an answer, and whatever stands behind them
+module _ (task : ℕ) (a : Answer) (r : List ℕ) where
+  whole : List ℕ
+  whole = answerBytes task a ++ r
+
+  head-at : Stands whole (512 * 0) (blockBytes (head task a))
+  unfolding whole answerBytes
+  head-at = inside (first-of _ r) (first-of (blockBytes (head task a)) _) (omega arith)
+
+  trial-at : (k : ℕ) → k < a .count → Stands whole (512 * (k + 1)) (blockBytes (wordAt (trialWords (getD (a .trials) k noTrial))))
+  unfolding whole answerBytes trialBytes
+  trial-at k l =
+      inside (first-of _ r) (inside (last-of (blockBytes (head task a)) (rowTo (trialBytes (a .trials)) (a .count))) (in-row (trialBytes (a .trials)) (a .count) k l) refl)
+      (omega (arith, length-block-bytes (head task a), length-row (trialBytes (a .trials)) 512 k (λ i. length-block-bytes (wordAt (trialWords (getD (a .trials) i noTrial))))))
+
+  read-at : (b : ℕ) (w : ℕ → ℕ) → Stands whole (512 * b) (blockBytes w) → (k : ℕ) → k < 63 → words whole b k ≡ again (w k)
+  read-at b w h k l = rw (block-is w whole b h) (rw append-nil at (block-read w k [] l))
+
+  head-read : (k : ℕ) → k < 63 → words whole 0 k ≡ again (head task a k)
+  head-read = read-at 0 (head task a) head-at
+
+  trial-read : (k : ℕ) → k < a .count → (f : ℕ) → f < 63 → words whole (k + 1) f ≡ again (wordAt (trialWords (getD (a .trials) k noTrial)) f)
+  trial-read k l = read-at (k + 1) (wordAt (trialWords (getD (a .trials) k noTrial))) (trial-at k l)
+
+  count-read : wordAt (a .state) 8 ≡ a .count → a .count ≤ 8 → words whole 0 12 ≡ a .count
+  count-read e l =
+      head-read 12 (omega arith) ∙ ap again (answer-state task (a .outcome) (a .state) (a .liquid) (a .vapor) (a .model) 8 (omega arith) ∙ e) ∙ word-bytes (a .count) (omega arith)
+
+pub sheet-same : (keep : ℕ → Bool) (n : ℕ) → n ≤ 8 → (task : ℕ) (a b : Answer) → SameAnswer keep n a b → (r r' : List ℕ) → SameSheet keep n (answerBytes task a ++ r) (answerBytes task b ++ r')
+unfolding whole
+sheet-same keep n small task a b h r r' = record {
+  answer = head-same keep n small task a b h _ _ (head-read task a r) (head-read task b r');
+  count = longer ∙ h .count ∙ sym (count-read task b r' (h .counted') (subst (λ (x : ℕ). x ≤ 8) (h .count) (le-trans (h .few) small)));
+  trials = trials;
+}
+  where
+    longer : words (answerBytes task a ++ r) 0 12 ≡ a .count
+    longer = count-read task a r (h .counted) (le-trans (h .few) small)
+
+    trials : (k : ℕ) → 1 ≤ k → k ≤ words (answerBytes task a ++ r) 0 12 → SameTrialBlock keep n (words (answerBytes task a ++ r) k) (words (answerBytes task b ++ r') k)
+    trials zero l m = absurd (omega arith)
+    trials (suc k) l m =
+        let u : k < a .count = omega (arith, longer) in
+        let v : k < b .count = omega (arith, h .count) in
+        rw add-one at (trial-same keep n small (getD (a .trials) k noTrial) (getD (b .trials) k noTrial) (h .trials k u) (words (answerBytes task a ++ r) (k + 1)) (words (answerBytes task b ++ r') (k + 1)) (trial-read task a r k u) (trial-read task b r' k v))

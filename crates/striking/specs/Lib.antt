@@ -8,3 +8,4 @@ pub mod Words
 pub mod Questions
 pub mod Sheets
 pub mod Build
+pub mod Theorem

@@ -1,0 +1,103 @@
+-- Demand 3, proved for the whole call. Assumes nothing.
+use Prim.Native.Nat.{ℕ, _+_, _≤_, _<_}
+use native.Mathlib.Nat.{le-refl}
+use native.Mathlib.Omega.{arith}
+use borrow.Author.Tests.{le-leb}
+use mathlib.Core.Path.{_≡_, refl, sym, ap, _∙_, subst}
+use mathlib.Core.Logic.{_≢_, inl, inr}
+use mathlib.Core.Bool.{Bool}
+use mathlib.Core.List.{List, _++_}
+use lib.ListN.{length, drop, replicate, length-replicate}
+use lib.Dec.{T, leb}
+use Rattle.floats.specs.Outcome.{Out, ok, no, bind, need}
+use Rattle.floats.proofs.Outcomes.{need-yes, bind-yes}
+use Rattle.blocks.specs.Words.{word}
+use Rattle.book.specs.Places.{words}
+use Rattle.book.specs.Book.{bookOf}
+use Rattle.book.proofs.Accepted as open-book
+use Rattle.question.specs.Asked.{questionOf}
+use Rattle.question.specs.declared.Question.{Question}
+use Rattle.replies.specs.Blocks.{Answer, answerBytes}
+use Rattle.sheet.specs.Tasks.{taskOf}
+use Rattle.sheet.specs.Sheet.{sheetOf, written}
+use Rattle.striking.specs.Places.{cnt}
+use Rattle.striking.specs.Accepted.{Acc}
+use Rattle.striking.specs.Books.{ShorterBook}
+use Rattle.striking.specs.Words.{SameWord}
+use Rattle.striking.specs.Questions.{keptIn, ShorterQuestion, solvents, Shorter}
+use Rattle.striking.specs.Sheets.{SameEntries, SameHead, SameTrialBlock, SameSheet}
+use Rattle.striking.specs.Theorem.{Accepted, after, Demand3, Meet, EqualAnswer, EqualTrial, EqualSheet, SameDrum}
+use Rattle.striking.proofs.Acc.{acc-ok, acc-no, acc-bind, acc-passed, accepted}
+use Rattle.striking.proofs.Books.{shorter-solvents, shorter-pairs, strike-book}
+use Rattle.striking.proofs.Questions.{absent-zero, withFeed, SameQuestion, strike-question}
+use Rattle.striking.proofs.Answers.{SameAnswer, strike-task}
+use Rattle.striking.proofs.Sheets.{sheet-same}
+
+-- the bytes of two answers, whatever stands behind them
+Alike : (ℕ → Bool) → ℕ → List ℕ → List ℕ → Type 0
+Alike keep n bs bs' = (r r' : List ℕ) → SameSheet keep n (bs ++ r) (bs' ++ r')
+
+-- the rest of a call once the book has n solvents and the question is read
+abbrev rest : List ℕ → ℕ → Question → Out (List ℕ)
+rest book n q = bind (taskOf book n q) (λ a. ok (answerBytes (q .task) a))
+
+module _ (book question book' question' : List ℕ) (n : ℕ) (opened : bookOf book ≡ ok n) (hb : ShorterBook (keptIn question) n book book') (hq : ShorterQuestion (keptIn question) n question question')
+    (other : word question 1 ≢ 5) (room' : ℕ) (enough : 4608 ≤ room') where
+  abbrev keep : ℕ → Bool
+  keep = keptIn question
+
+  few : n ≤ 8
+  few = open-book.accepted book opened .few
+
+  opened' : (q' : Question) → 0 < cnt keep n → questionOf question' (cnt keep n) ≡ ok q' → sheetOf book' question' room' ≡ rest book' (cnt keep n) q'
+  unfolding sheetOf
+  opened' q' some e =
+      bind-yes _ (strike-book (keptIn question) n book book' hb some opened) ∙ need-yes 10 _ (le-leb 4608 room' enough) ∙ bind-yes _ e
+
+  answers : (q q' : Question) → SameQuestion keep n q q' → q .task ≡ word question 1 → Acc (Alike keep n) (rest book n q) (rest book' (cnt keep n) q')
+  unfolding Alike withFeed
+  answers q q' s e =
+      acc-bind (SameAnswer keep n) (taskOf book n q) (taskOf book' (cnt keep n) q') _ _
+      (strike-task keep n few book book' (shorter-solvents keep n book book' hb) (shorter-pairs keep n book book' hb) q q' s (λ z. other (sym e ∙ z))) (λ a a' t.
+      acc-ok (λ r r'. subst (λ (k : ℕ). SameSheet keep n (answerBytes (q .task) a ++ r) (answerBytes k a' ++ r')) (same-task q q' s) (sheet-same keep n few (q .task) a a' t r r')))
+    where
+      same-task : (q q' : Question) → SameQuestion keep n q q' → q .task ≡ q' .task
+      same-task q q' s = sym (ap (λ (x : Question). x .task) (s .rest))
+
+  asked : Acc (Alike keep n) (bind (questionOf question n) (rest book n)) (sheetOf book' question' room')
+  unfolding bind
+  asked = go (questionOf question n) (strike-question (keptIn question) n few question question' hq (λ i l t. absent-zero question i t))
+    where
+      go : (o : Out Question) → Acc (λ (a b : Question). SameQuestion keep n a b × (0 < cnt keep n) × (a .task ≡ word question 1)) o (questionOf question' (cnt keep n)) → Acc (Alike keep n) (bind o (rest book n)) (sheetOf book' question' room')
+      go (no r) h = acc-no _
+      go (ok q) h =
+          let p = accepted h in
+          subst (λ (o : Out (List ℕ)). Acc (Alike keep n) (rest book n q) o) (sym (opened' (p .0) (p .2 .1) (p .1))) (answers q (p .0) (p .2 .0) (p .2 .2))
+
+-- the whole call, for any two answer slices
+strike-sheet : (book question book' question' : List ℕ) → Shorter book question book' question' → word question 1 ≢ 5 → (room room' : ℕ) → 4608 ≤ room'
+    → Acc (Alike (keptIn question) (solvents book)) (sheetOf book question room) (sheetOf book' question' room')
+unfolding sheetOf bind
+strike-sheet book question book' question' h other room room' enough = go (bookOf book) refl
+  where
+    go : (o : Out ℕ) → bookOf book ≡ o
+        → Acc (Alike (keptIn question) (solvents book)) (bind o (λ n. need (leb 4608 room) 10 (bind (questionOf question n) (rest book n)))) (sheetOf book' question' room')
+    go (no r) e = acc-no _
+    go (ok n) e =
+        let c : solvents book ≡ n = open-book.accepted book e .count in
+        subst (λ (m : ℕ). Acc (Alike (keptIn question) m) (need (leb 4608 room) 10 (bind (questionOf question n) (rest book n))) (sheetOf book' question' room')) (sym c)
+        (acc-passed (leb 4608 room) 10 _ _
+        (asked book question book' question' n e (subst (λ (m : ℕ). ShorterBook (keptIn question) m book book') c (h .of-book)) (subst (λ (m : ℕ). ShorterQuestion (keptIn question) m question question') c (h .of-question)) other room' enough))
+
+-- what was written to a slice stands before what stood there
+accepted-is : {A : Type 0} (o : Out A) → Accepted o → (a : A) × (o ≡ ok a)
+unfolding Accepted
+accepted-is (ok a) h = (a, refl)
+accepted-is (no r) h = absurd h
+
+pub striking : Demand3
+unfolding Alike Accepted written
+striking book question book' question' h other old old' enough took =
+    let p = accepted-is (sheetOf book question (length old)) took in
+    let q = accepted (subst (λ (o : Out (List ℕ)). Acc (Alike (keptIn question) (solvents book)) o (sheetOf book' question' (length old'))) (p .1) (strike-sheet book question book' question' h other (length old) (length old') enough)) in
+    rw (p .1, q .1) (tt, q .2 (drop (length (p .0)) old) (drop (length (q .0)) old'))
