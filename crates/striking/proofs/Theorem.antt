@@ -26,7 +26,7 @@ use Rattle.striking.specs.Books.{ShorterBook}
 use Rattle.striking.specs.Words.{SameWord}
 use Rattle.striking.specs.Questions.{keptIn, ShorterQuestion, solvents, Shorter}
 use Rattle.striking.specs.Sheets.{SameEntries, SameHead, SameTrialBlock, SameSheet}
-use Rattle.striking.specs.Theorem.{Accepted, after, Demand3, Meet, EqualAnswer, EqualTrial, EqualSheet, SameDrum}
+use Rattle.striking.specs.Theorem.{Accepted, after, Demand3, Meet, EqualAnswer, EqualTrial, EqualSheet, SameDrum, Demand3-4}
 use Rattle.striking.proofs.Acc.{acc-ok, acc-no, acc-bind, acc-passed, accepted}
 use Rattle.striking.proofs.Books.{shorter-solvents, shorter-pairs, strike-book}
 use Rattle.striking.proofs.Questions.{absent-zero, withFeed, SameQuestion, strike-question}
@@ -101,3 +101,72 @@ striking book question book' question' h other old old' enough took =
     let p = accepted-is (sheetOf book question (length old)) took in
     let q = accepted (subst (λ (o : Out (List ℕ)). Acc (Alike (keptIn question) (solvents book)) o (sheetOf book' question' (length old'))) (p .1) (strike-sheet book question book' question' h other (length old) (length old') enough)) in
     rw (p .1, q .1) (tt, q .2 (drop (length (p .0)) old) (drop (length (q .0)) old'))
+
+-- ---- the corollary: both calls against the shorter one
+word-sym : {a b : ℕ} → SameWord a b → SameWord b a
+word-sym h = elim (h .either) [
+  | inl e ↦ record { either = inl (sym e) }
+  | inr z ↦ record { either = inr (z .1, z .0) }
+]
+
+word-trans : {a b c : ℕ} → SameWord a b → SameWord b c → SameWord a c
+word-trans {a} {b} {c} h g = elim (h .either) [
+  | inl e ↦ subst (λ (x : ℕ). SameWord x c) (sym e) g
+  | inr z ↦ elim (g .either) [
+    | inl e ↦ subst (λ (x : ℕ). SameWord a x) e h
+    | inr y ↦ record { either = inr (z .0, y .1) }
+  ]
+]
+
+-- the answers s and s' of the two, u and u' of the shorter
+meets : {a b c : ℕ} → SameWord a c → SameWord b c → SameWord a b
+meets h g = word-trans h (word-sym g)
+
+module _ (keep : ℕ → Bool) (n : ℕ) (keep' : ℕ → Bool) (n' : ℕ) where
+  entries : {f : ℕ} {w w' v : ℕ → ℕ} → SameEntries keep n f w v → SameEntries keep' n' f w' v → (i j : ℕ) → Meet keep n keep' n' i j → SameWord (w (f + i)) (w' (f + j))
+  entries {f} {w} {w'} {v} h g i j m =
+      meets (h .entry i (m .below) (m .kept)) (subst (λ (k : ℕ). SameWord (w' (f + j)) (v (f + k))) (sym (m .place)) (g .entry j (m .below') (m .kept')))
+
+  equal-answer : {w w' v : ℕ → ℕ} → SameHead keep n w v → SameHead keep' n' w' v → EqualAnswer keep n keep' n' w w'
+  equal-answer h g = record {
+    front = λ k l. meets (h .front k l) (g .front k l);
+    liquid = entries (h .liquid) (g .liquid);
+    vapor = entries (h .vapor) (g .vapor);
+    back = λ k l m. meets (h .back k l m) (g .back k l m);
+  }
+
+  equal-trial : {w w' v : ℕ → ℕ} → SameTrialBlock keep n w v → SameTrialBlock keep' n' w' v → EqualTrial keep n keep' n' w w'
+  equal-trial h g = record {
+    kind = meets (h .kind) (g .kind);
+    component = record { below = h .below; kept = h .kept; below' = g .below; kept' = g .kept; place = h .component ∙ sym (g .component) };
+    front = λ k l m. meets (h .front k l m) (g .front k l m);
+    fractions = entries (h .fractions) (g .fractions);
+    back = λ k l m. meets (h .back k l m) (g .back k l m);
+  }
+
+  equal-sheet : {s s' u : List ℕ} → SameSheet keep n s u → SameSheet keep' n' s' u → EqualSheet keep n keep' n' s s'
+  equal-sheet h g = record {
+    answer = equal-answer (h .answer) (g .answer);
+    count = h .count ∙ sym (g .count);
+    trials = λ b l m. equal-trial (h .trials b l m) (g .trials b l (omega (arith, h .count, g .count)));
+  }
+
+-- an answer slice that passes question 10
+room : List ℕ
+room = replicate 4608 0
+
+enough : 4608 ≤ length room
+unfolding room
+enough = rw (length-replicate {A = ℕ} 4608 0) (le-refl 4608)
+
+pub same-drum : SameDrum
+same-drum book question book' question' short ask h g other old old' took took' =
+    let task : word question 1 ≡ word question' 1 = h .of-question .head 1 (omega arith) ∙ sym (g .of-question .head 1 (omega arith)) in
+    equal-sheet (keptIn question) (solvents book) (keptIn question') (solvents book')
+    (striking book question short ask h other old room enough took .1)
+    (striking book' question' short ask g (λ z. other (task ∙ z)) old' room enough took' .1)
+
+-- demand 3 as document 01 words it for bubble temperature: its premise isn't used
+pub striking-4 : Demand3-4
+striking-4 tried book question book' question' h four premise =
+    striking book question book' question' h (λ (z : word question 1 ≡ 5). let e : 4 ≡ 5 = sym four ∙ z in omega arith)

@@ -6,9 +6,14 @@ use mathlib.Core.Bool.{Bool}
 use mathlib.Core.List.{List}
 use lib.ListN.{length}
 use lib.Dec.{T}
+use lib.Ieee.{Float, isNan}
+use Rattle.floats.specs.Vector.{at, vec}
 use Rattle.floats.specs.Outcome.{Out, ok, no}
 use Rattle.blocks.specs.Words.{word}
 use Rattle.book.specs.Places.{words}
+use Rattle.thermo_models.specs.Model.{Activity}
+use Rattle.question.specs.Asked.{fraction}
+use Rattle.sheet.specs.Tasks.{modelOf}
 use Rattle.sheet.specs.Sheet.{sheetOf, written}
 use Rattle.striking.specs.Places.{cnt}
 use Rattle.striking.specs.Words.{SameWord}
@@ -40,7 +45,7 @@ pub record Meet (keep : ℕ → Bool) (n : ℕ) (keep' : ℕ → Bool) (n' : ℕ
   pub kept' : T (keep' j)
   pub place : cnt keep i ≡ cnt keep' j
 
--- words s and s' of two answer blocks (trial blocks) that are equal, with the entries and components of the solvents kept
+-- the words of two answer blocks, and of two trial blocks: equal, with the entries and the component of the solvents kept
 pub record EqualAnswer (keep : ℕ → Bool) (n : ℕ) (keep' : ℕ → Bool) (n' : ℕ) (w w' : ℕ → ℕ) : Type 0 where
   pub front : (k : ℕ) → k ≤ 13 → SameWord (w k) (w' k)
   pub liquid : (i j : ℕ) → Meet keep n keep' n' i j → SameWord (w (14 + i)) (w' (14 + j))
@@ -65,3 +70,19 @@ SameDrum =
     (book question book' question' short ask : List ℕ) → Shorter book question short ask → Shorter book' question' short ask → word question 1 ≢ 5
     → (old old' : List ℕ) → Accepted (sheetOf book question (length old)) → Accepted (sheetOf book' question' (length old'))
     → EqualSheet (keptIn question) (solvents book) (keptIn question') (solvents book') (after book question old) (after book' question' old')
+
+-- ---- document 01's premise for bubble temperature (4), for the temperatures that `tried` names: no slope of a kept solvent's ln γ is a NaN, unless it is one with
+-- the shorter book too. `striking` holds without it; `Demand3-4` is the worded form, for any `tried`
+abbrev pub feed : List ℕ → ℕ → List Float
+feed question n = vec (fraction (word question)) n
+
+pub record NoNewNan (tried : Float → Type 0) (book question book' question' : List ℕ) : Type 0 where
+  pub slope : (t : Float) → tried t → (a a' : Activity) → modelOf book (solvents book) t (feed question (solvents book)) ≡ ok a
+      → modelOf book' (solvents book') t (feed question' (solvents book')) ≡ ok a'
+      → (i : ℕ) → i < solvents book → T (keptIn question i) → T (isNan (at (a .slopes) i)) → T (isNan (at (a' .slopes) (cnt (keptIn question) i)))
+
+abbrev pub Demand3-4 : Type 1
+Demand3-4 =
+    (tried : Float → Type 0) (book question book' question' : List ℕ) → Shorter book question book' question' → word question 1 ≡ 4 → NoNewNan tried book question book' question'
+    → (old old' : List ℕ) → 4608 ≤ length old' → Accepted (sheetOf book question (length old))
+    → Accepted (sheetOf book' question' (length old')) × SameSheet (keptIn question) (solvents book) (after book question old) (after book' question' old')
