@@ -173,17 +173,16 @@ word-front : (w : ℕ) (r : List ℕ) → wordFrom (bytes w ++ r) 0 ≡ wordFrom
 unfolding wordFrom bytes
 word-front w r = refl
 
--- word k of words that were written one after the other
-pub row-word : (w : ℕ → ℕ) (n k : ℕ) (r : List ℕ) → k < n → w k < 2 ^ 64 → word (rowTo (λ i. bytes (w i)) n ++ r) k ≡ w k
+-- word k of words that were written one after the other, modulo 2^64
+pub row-read : (w : ℕ → ℕ) (n k : ℕ) (r : List ℕ) → k < n → word (rowTo (λ i. bytes (w i)) n ++ r) k ≡ wordFrom (bytes (w k)) 0
 unfolding rowTo word
-row-word w zero k r l h = absurd (omega arith)
-row-word w (suc n) k r l h =
+row-read w zero k r l = absurd (omega arith)
+row-read w (suc n) k r l =
     ⊎-elim
     (λ e. let m : n ≡ k = omega arith in
     let j : k * 8 ≡ 8 * k = omega arith in
-    rw (m, append-assoc) (word-behind (rowTo (λ i. bytes (w i)) k) (bytes (w k) ++ r) (8 * k) (length-row (λ i. bytes (w i)) 8 k (λ i. length-bytes (w i)) ∙ j)
-    ∙ word-front (w k) r ∙ word-bytes (w k) h))
-    (λ q. let m : k < n = omega arith in rw append-assoc (row-word w n k (bytes (w n) ++ r) m h))
+    rw (m, append-assoc) (word-behind (rowTo (λ i. bytes (w i)) k) (bytes (w k) ++ r) (8 * k) (length-row (λ i. bytes (w i)) 8 k (λ i. length-bytes (w i)) ∙ j) ∙ word-front (w k) r))
+    (λ q. let m : k < n = omega arith in rw append-assoc (row-read w n k (bytes (w n) ++ r) m))
     (eq-or-lt-of-le l)
 
 sum-small : (w : ℕ → ℕ) (n : ℕ) → checkSum w n < 2 ^ 64
@@ -192,9 +191,12 @@ sum-small w zero = omega arith
 sum-small w (suc n) = omega arith
 
 -- a block that was written has its words, and its check is right
-pub block-word : (w : ℕ → ℕ) (k : ℕ) (r : List ℕ) → k < 63 → w k < 2 ^ 64 → word (blockBytes w ++ r) k ≡ w k
+pub block-read : (w : ℕ → ℕ) (k : ℕ) (r : List ℕ) → k < 63 → word (blockBytes w ++ r) k ≡ wordFrom (bytes (w k)) 0
 unfolding blockBytes
-block-word w k r l h = rw append-assoc (row-word w 63 k (bytes (checkSum w 63) ++ r) l h)
+block-read w k r l = rw append-assoc (row-read w 63 k (bytes (checkSum w 63) ++ r) l)
+
+pub block-word : (w : ℕ → ℕ) (k : ℕ) (r : List ℕ) → k < 63 → w k < 2 ^ 64 → word (blockBytes w ++ r) k ≡ w k
+block-word w k r l h = block-read w k r l ∙ word-bytes (w k) h
 
 pub block-check : (w : ℕ → ℕ) (r : List ℕ) → word (blockBytes w ++ r) 63 ≡ checkSum w 63
 unfolding blockBytes word

@@ -10,7 +10,7 @@ use Rattle.floats.specs.Fold.{foldTo, active}
 use Rattle.zeros.specs.Same.{_≈_}
 use Rattle.zeros.proofs.Congruence.{≈refl, lt-≈}
 use Rattle.zeros.proofs.Zero.{Zero}
-use Rattle.zeros.proofs.Below.{_⊑_}
+use Rattle.zeros.specs.Below.{_⊑_}
 use Rattle.zeros.proofs.Numbers.{isNan-≈, pick-≈}
 use Rattle.striking.specs.Places.{cnt}
 use Rattle.striking.specs.Related.{Fractions}

@@ -23,7 +23,8 @@ use Rattle.nrtl.specs.State.{gasR, gibbsOf, enthalpyOf, heatCapacityOf, entropy
 use Rattle.zeros.specs.Same.{plus0, _≈_}
 use Rattle.zeros.proofs.Congruence.{≈refl, ≈sym, finite-≈, lt-≈}
 use Rattle.zeros.proofs.Zero.{Zero, finite-mul-r, num-finite, zero-of-≈}
-use Rattle.zeros.proofs.Below.{_⊑_, ⊑-refl, ⊑-add, ⊑-sub, ⊑-mul, ⊑-div, ⊑!-of, ⊑-finite}
+use Rattle.zeros.specs.Below.{_⊑_}
+use Rattle.zeros.proofs.Below.{⊑-refl, ⊑-add, ⊑-sub, ⊑-mul, ⊑-div, ⊑!-of, ⊑-finite}
 use Rattle.striking.specs.Accepted.{Acc}
 use Rattle.striking.specs.Places.{tick, cnt}
 use Rattle.striking.specs.Related.{Fractions, Params, SameExcess}

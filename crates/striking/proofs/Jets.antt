@@ -8,7 +8,8 @@ use Rattle.floats.specs.Arithmetic.{_⊕_, 0f, 2f}
 use Rattle.floats.specs.Fold.{foldTo, sumFrom}
 use Rattle.jet.specs.declared.Jet.{Jet}
 use Rattle.jet.specs.Jets.{constJ, addJ, subJ, mulJ, scaleJ, divJ, sumJetFrom, sumJetTo}
-use Rattle.zeros.proofs.Below.{_⊑_, _⊑!_, ⊑-refl, ⊑-weaken, ⊑-add, ⊑-sub, ⊑-mul, ⊑-div, gone-add, gone-sub, gone-mul-l, gone-mul-r, gone-div}
+use Rattle.zeros.specs.Below.{_⊑_, _⊑!_}
+use Rattle.zeros.proofs.Below.{⊑-refl, ⊑-weaken, ⊑-add, ⊑-sub, ⊑-mul, ⊑-div, gone-add, gone-sub, gone-mul-l, gone-mul-r, gone-div}
 use Rattle.striking.specs.Places.{cnt}
 use Rattle.striking.proofs.Strike.{sumFrom-fits, strike-from, strike-sum}
 

@@ -26,6 +26,5 @@ pub mod Questions
 pub mod Answers
 pub mod Written
 pub mod Build
-pub mod Read
 pub mod Sheets
 pub mod Theorem

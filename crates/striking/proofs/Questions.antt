@@ -163,8 +163,17 @@ module _ (keep : ℕ → Bool) (n : ℕ) (small : n ≤ 8) (q q' : List ℕ) (h 
   from-words : SameQuestion keep n (questionFrom w n) (questionFrom v (cnt keep n))
   unfolding questionFrom withFeed
   from-words = record {
-    rest = rw (← task, ← at-head 2 (omega arith), ← at-head 3 (omega arith), ← option 12 (omega arith) (omega arith), ← option 13 (omega arith) (omega arith), ← option 14 (omega arith) (omega arith),
-        ← option 16 (omega arith) (omega arith), ← option 17 (omega arith) (omega arith), ← option 18 (omega arith) (omega arith));
+    rest = rw (
+      ← task,
+      ← at-head 2 (omega arith),
+      ← at-head 3 (omega arith),
+      ← option 12 (omega arith) (omega arith),
+      ← option 13 (omega arith) (omega arith),
+      ← option 14 (omega arith) (omega arith),
+      ← option 16 (omega arith) (omega arith),
+      ← option 17 (omega arith) (omega arith),
+      ← option 18 (omega arith) (omega arith),
+    );
     fractions = λ i l t. at-vec (fraction w) n i small l ∙ ez i l t ∙ sym (at-vec (fraction v) (cnt keep n) (cnt keep i) few (cnt-lt keep i n t l));
     absent = λ i l t. subst Zero (sym (at-vec (fraction w) n i small l)) (absent i l t);
     fit = vec-fits (fraction w) (λ i. ofBits-fits binary64 (w (4 + i))) n;

@@ -16,8 +16,7 @@ use Rattle.floats.specs.Vector.{at, fillFrom}
 use Rattle.floats.proofs.Fills.{fillFrom-length, fillFrom-at, fillFrom-before}
 use Rattle.blocks.specs.Words.{wordFrom, word, block}
 use Rattle.blocks.specs.Bytes.{bytes, wordAt, rowTo, blockBytes}
-use Rattle.blocks.proofs.Laws.{length-block-bytes, length-row, word-bytes}
-use Rattle.striking.proofs.Read.{block-read}
+use Rattle.blocks.proofs.Laws.{length-block-bytes, length-row, word-bytes, block-read}
 use Rattle.book.specs.Places.{words}
 use Rattle.liquid_stability.specs.declared.LiquidStabilityTrial.{LiquidStabilityTrial}
 use Rattle.liquid_stability.specs.Stability.{noTrial}

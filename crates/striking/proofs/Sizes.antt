@@ -11,7 +11,7 @@ use Rattle.floats.specs.Arithmetic.{_⊖_, 0f}
 use Rattle.floats.specs.Small.{maxOf, absOf}
 use Rattle.zeros.proofs.Congruence.{≈refl, ≈trans, same, lt-≈}
 use Rattle.zeros.proofs.Zero.{Zero, zero-≈, zero-add≡, Clear, clear-add}
-use Rattle.zeros.proofs.Below.{_⊑_}
+use Rattle.zeros.specs.Below.{_⊑_}
 use Rattle.zeros.proofs.Numbers.{abs-≈}
 
 -- ---- |x| is not negative

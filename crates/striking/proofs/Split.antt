@@ -13,7 +13,8 @@ use Rattle.thermo_models.specs.Model.{Activity}
 use Rattle.tp_flash.specs.Split.{Split, Turn, riceLimit, kValues, phaseOf, splitGap, balanceOf, turnAt, splitTurn, splitFrom}
 use Rattle.zeros.specs.Same.{_≈_}
 use Rattle.zeros.proofs.Congruence.{≈refl, ≈trans, same, add-≈, sub-≈, mul-≈, lt-≈, le-≈}
-use Rattle.zeros.proofs.Below.{_⊑_, gone-mul-r, gone-add, gone-sub}
+use Rattle.zeros.specs.Below.{_⊑_}
+use Rattle.zeros.proofs.Below.{gone-mul-r, gone-add, gone-sub}
 use Rattle.zeros.proofs.Numbers.{pick-≈, abs-≈, exp-≈}
 use Rattle.striking.specs.Places.{cnt}
 use Rattle.striking.specs.Accepted.{Acc}

@@ -21,7 +21,8 @@ use Rattle.liquid_stability.specs.declared.LiquidStabilityTrial.{LiquidStabilit
 use Rattle.liquid_stability.specs.Stability.{presentCount, tangent, startOf, totalOf, trialComposition, distanceOf, nextOf, changeOf, apartOf, trivialAt, unstable, trialWith, noTrial, Trials, noTrials, withTrial, trialFrom, trialsTo, stabilityOf}
 use Rattle.zeros.specs.Same.{_≈_}
 use Rattle.zeros.proofs.Congruence.{≈refl, same, add-≈, sub-≈, mul-≈, div-≈, lt-≈, le-≈}
-use Rattle.zeros.proofs.Below.{_⊑_, gone}
+use Rattle.zeros.specs.Below.{_⊑_}
+use Rattle.zeros.proofs.Below.{gone}
 use Rattle.zeros.proofs.Numbers.{pick-≈, abs-≈, exp-≈, ln-≈}
 use Rattle.striking.specs.Places.{tick, cnt}
 use Rattle.striking.specs.Accepted.{Acc}

@@ -16,7 +16,8 @@ use Rattle.striking.specs.Places.{tick, cnt}
 use Rattle.zeros.specs.Same.{plus0, _≈_}
 use Rattle.zeros.proofs.Congruence.{same, add-≈}
 use Rattle.zeros.proofs.Zero.{Zero, Plain, plain-add, plain-≈, add-zero≡}
-use Rattle.zeros.proofs.Below.{_⊑_, _⊑!_, ⊑-refl, ⊑-add, ⊑-plain, gone-drop}
+use Rattle.zeros.specs.Below.{_⊑_, _⊑!_}
+use Rattle.zeros.proofs.Below.{⊑-refl, ⊑-add, ⊑-plain, gone-drop}
 
 up-one : {k n : ℕ} → k < n → k < suc n
 up-one h = omega arith

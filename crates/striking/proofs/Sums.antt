@@ -10,7 +10,8 @@ use Rattle.jet.specs.declared.Jet.{Jet}
 use Rattle.jet.specs.Jets.{subJ, mulJ, scaleJ, divJ}
 use Rattle.nrtl.specs.Columns.{colS, colC, ratio, termJ, lnFrom, gibbsFrom, lnGammaOf, reducedOf}
 use Rattle.zeros.specs.Same.{_≈_}
-use Rattle.zeros.proofs.Below.{_⊑_, ⊑-of}
+use Rattle.zeros.specs.Below.{_⊑_}
+use Rattle.zeros.proofs.Below.{⊑-of}
 use Rattle.striking.specs.Places.{cnt}
 use Rattle.striking.proofs.Jets.{_⊑J_, _⊑D_, J-same, J-of-D, J-sub, J-scale, J-mul, J-div, J-gone-scale, J-gone-div, J-gone-mul, FitsJ, sumJ-fits-v, strike-fromJ, strike-sumJ}
 

@@ -15,7 +15,8 @@ use Rattle.thermo_types.specs.Composition.{normalizeOf}
 use Rattle.zeros.specs.Same.{_≈_}
 use Rattle.zeros.proofs.Congruence.{≈refl, div-≈}
 use Rattle.zeros.proofs.Zero.{Zero}
-use Rattle.zeros.proofs.Below.{_⊑_, ⊑-refl, gone, gone-div}
+use Rattle.zeros.specs.Below.{_⊑_}
+use Rattle.zeros.proofs.Below.{⊑-refl, gone, gone-div}
 use Rattle.striking.specs.Places.{cnt}
 use Rattle.striking.specs.Related.{Fractions}
 use Rattle.striking.proofs.Strike.{cnt-lt, strike-sum≡}

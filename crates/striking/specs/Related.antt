@@ -8,7 +8,7 @@ use lib.Ieee.{Float, binary64, fits}
 use Rattle.floats.specs.Arithmetic.{0f}
 use Rattle.floats.specs.Vector.{at}
 use Rattle.zeros.specs.Same.{_≈_}
-use Rattle.zeros.proofs.Below.{_⊑_}
+use Rattle.zeros.specs.Below.{_⊑_}
 use Rattle.nrtl_tables.specs.Pair.{basisOf, tauJ, alphaJ}
 use Rattle.nrtl.specs.State.{Excess}
 use Rattle.striking.specs.Places.{cnt}

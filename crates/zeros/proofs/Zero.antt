@@ -17,14 +17,10 @@ use lib.Ieee.Nearest.{div-same, nearest-ge}
 use lib.Ieee.Scale.{round-same, finite}
 use lib.Ieee.Bits.{ofBits-toBits, is-true, is-false}
 use Rattle.zeros.specs.Same.{canon, plus0, _≈_}
+use Rattle.zeros.specs.Below.{Num}
 use Rattle.zeros.proofs.Congruence.{by, same, ≈refl, ≈sym, ≈trans, round-zero, again, add-zero-l, add-comm≡, mul-comm≡}
 
 -- ---- no NaN
-abbrev pub Num : Float → Type 0
-Num nan = ⊥
-Num (inf s) = Unit {0}
-Num (fin s m e) = Unit {0}
-
 pub num-add-l : (f : Format) (x y : Float) → Num (add f x y) → Num x
 unfolding add
 num-add-l f nan y h = h
