@@ -22,3 +22,4 @@ pub mod Words
 pub mod Tasks
 pub mod Books
 pub mod Some
+pub mod Leaks

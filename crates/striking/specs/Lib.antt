@@ -7,3 +7,4 @@ pub mod Books
 pub mod Words
 pub mod Questions
 pub mod Sheets
+pub mod Leaks
