@@ -122,7 +122,7 @@ fn sum_short(s: &[u8]) -> u64
 }
 
 // The sum of words 0 to 62 of a block, modulo 2^64. A whole block has a loop of its own: with `word`'s test in it the sum takes four times as long.
-pub fn block_sum(s: &[u8]) -> u64
+fn block_sum(s: &[u8]) -> u64
     ensures { λ r. ⌜ r ≡ checkSum (word (now (s .entry))) 63 ⌝ }
 {
     if 504 <= s.len() {

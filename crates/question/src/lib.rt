@@ -38,7 +38,7 @@ pub struct Asked {
 }
 
 // Tasks 1 to 9.
-pub fn is_task(task: u64) -> bool
+fn is_task(task: u64) -> bool
     ensures { λ r. ⌜ r ≡ isTask task ⌝ }
 {
     match task {
@@ -47,7 +47,7 @@ pub fn is_task(task: u64) -> bool
     }
 }
 
-pub fn needs_temperature(task: u64) -> bool
+fn needs_temperature(task: u64) -> bool
     ensures { λ r. ⌜ r ≡ needsTemperature task ⌝ }
 {
     match task {
@@ -56,7 +56,7 @@ pub fn needs_temperature(task: u64) -> bool
     }
 }
 
-pub fn needs_pressure(task: u64) -> bool
+fn needs_pressure(task: u64) -> bool
     ensures { λ r. ⌜ r ≡ needsPressure task ⌝ }
 {
     match task {
@@ -66,7 +66,7 @@ pub fn needs_pressure(task: u64) -> bool
 }
 
 // The options and both limits.
-pub fn needs_options(task: u64) -> bool
+fn needs_options(task: u64) -> bool
     ensures { λ r. ⌜ r ≡ needsOptions task ⌝ }
 {
     match task {
@@ -76,7 +76,7 @@ pub fn needs_options(task: u64) -> bool
 }
 
 // The K values, and of the limits M alone.
-pub fn needs_ratios(task: u64) -> bool
+fn needs_ratios(task: u64) -> bool
     ensures { λ r. ⌜ r ≡ needsRatios task ⌝ }
 {
     match task {

@@ -408,13 +408,6 @@ fn classify(z: &[f64; 8], k: &[f64; 8], n: usize, limit: u64) -> RachfordRice
 
 // ---- what other crates call
 
-// g(β) = Σ z_i (K_i - 1) / (1 + β (K_i - 1)), over the positive of the first n feed fractions.
-pub fn rachford_rice_residual(z: &[f64; 8], k: &[f64; 8], n: usize, vapor_fraction: f64) -> f64
-    ensures { λ r. ⌜ r ≡ residualOf (at (now (z .entry))) (at (now (k .entry))) (places n) «vapor_fraction» ⌝ }
-{
-    residual(z, k, floats::places(n), vapor_fraction)
-}
-
 // g(β) = 0 between the poles, so that β may lie outside [0, 1]: 15 to 18, 25, 27, 28, or two phases.
 pub fn rachford_rice_negative(
     z: &[f64; 8],

@@ -28,3 +28,4 @@ pub mod Written
 pub mod Build
 pub mod Sheets
 pub mod Theorem
+pub mod Leaks

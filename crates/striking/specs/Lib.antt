@@ -9,3 +9,4 @@ pub mod Questions
 pub mod Sheets
 pub mod Build
 pub mod Theorem
+pub mod Leaks

@@ -51,7 +51,7 @@ impl Temperature {
     pub fn value(self) -> f64
         ensures { λ r. ⌜ r ≡ self .0 ⌝ }
     {
-        self.0
+        self.0 // K
     }
 }
 
@@ -72,7 +72,7 @@ impl Pressure {
     pub fn value(self) -> f64
         ensures { λ r. ⌜ r ≡ self .0 ⌝ }
     {
-        self.0
+        self.0 // Pa
     }
 }
 

@@ -1,0 +1,198 @@
+-- The laws of striking refute the leaky definitions of crates/striking/specs/Leaks.antt. Each law is stated of any definition in the place of the core's; the core's has it, by
+-- the theorem cited, and the leaky one has it not, by one computed sheet: solvents 1 and 2 in halves, 0 and 3 absent. Assumes nothing.
+use mathlib.Core.Path.{_≡_, refl, subst}
+use Prim.Native.Nat.{ℕ, zero, suc, _≤_, _<_}
+use native.Mathlib.Omega.{arith}
+use mathlib.Core.Bool.{Bool, not, _||_}
+use mathlib.Core.List.{List, [], _∷_}
+use lib.Dec.{T, eqb}
+use lib.Ieee.{Float, binary64, fits, ofBits, add, sub, mul, div, neg, lt, le, eq, isNan, ofInt, toSigned, size}
+use Rattle.floats.specs.Arithmetic.{0f, ½, 1f, 2f}
+use Rattle.floats.specs.Small.{isFinite}
+use Rattle.floats.specs.Fold.{foldTo, allTo}
+use Rattle.floats.specs.Vector.{at, fill, zeros8}
+use Rattle.floats.specs.Outcome.{Out, ok, bind, need, choose}
+use Rattle.numerics.specs.Numerics.{expOf, lnOf}
+use Rattle.thermo_types.specs.Composition.{sumsToOne, normalizeOf}
+use Rattle.thermo_models.specs.Model.{Activity}
+use Rattle.rachford_rice.specs.Rachford.{Solution, residualOf, slopeOf, kMax, kMin, validate, turnOf, liquidPart, vaporPart, solutionAt, iterate, between, negative}
+use Rattle.saturation.specs.Saturation.{Bubble, bubbleFrom}
+use Rattle.liquid_stability.specs.Stability.{Trials, noTrials, noTrial, withTrial, trialWith, presentCount, tangent, startOf, totalOf, trialComposition, distanceOf, changeOf, apartOf, unstable, trialFrom, stabilityOf}
+use Rattle.tp_flash.specs.Split.{Split, kValues, phaseOf, splitGap, turnAt, splitTurn, splitFrom}
+use Rattle.zeros.specs.Same.{_≈_}
+use Rattle.zeros.proofs.Congruence.{≈refl}
+use Rattle.zeros.proofs.Below.{_⊑_, ⊑-refl}
+use Rattle.striking.specs.Places.{cnt}
+use Rattle.striking.specs.Accepted.{Acc}
+use Rattle.striking.specs.Related.{Fractions}
+use Rattle.striking.specs.Results.{SameActivity, SameSolution, SameTrials}
+use Rattle.striking.specs.Leaks.{leakyPartial, leakyBubble, leakyMax, leakyMin, leakyNegative, leakyChange, leakySplit, leakyTrials, leakyStability}
+use Rattle.striking.proofs.Acc.{acc-ok}
+use Rattle.striking.proofs.Rice.{strike-negative}
+use Rattle.striking.proofs.Saturation.{SameBubble, strike-bubbleFrom}
+use Rattle.striking.proofs.Stability.{strike-stability}
+use Rattle.striking.proofs.Split.{SameSplit, strike-split}
+
+-- ---- the sheet: of four solvents, 1 and 2 are kept
+abbrev keep : ℕ → Bool
+keep k = eqb k 1 || eqb k 2
+
+-- what holds of each of the four
+four : (P : ℕ → Type 0) → P 0 → P 1 → P 2 → P 3 → (k : ℕ) → k < 4 → P k
+four P a b c d zero l = a
+four P a b c d (suc zero) l = b
+four P a b c d (suc (suc zero)) l = c
+four P a b c d (suc (suc (suc zero))) l = d
+four P a b c d (suc (suc (suc (suc k)))) l = absurd (above k l)
+  where
+    above : (k : ℕ) → suc (suc (suc (suc k))) < 4 → ⊥
+    above k l = omega arith
+
+-- what holds of the two kept
+two : (P : ℕ → Type 0) → P 1 → P 2 → (k : ℕ) → k < 4 → T (keep k) → P k
+two P b c = four (λ k. T (keep k) → P k) (λ q. absurd q) (λ q. b) (λ q. c) (λ q. absurd q)
+
+abbrev feed : List Float
+feed = 0f ∷ ½ ∷ ½ ∷ 0f ∷ []
+
+abbrev feed' : List Float
+feed' = ½ ∷ ½ ∷ []
+
+fit : (k : ℕ) → T (fits binary64 (at feed k))
+unfolding ofBits fits
+fit zero = tt
+fit (suc zero) = tt
+fit (suc (suc zero)) = tt
+fit (suc (suc (suc zero))) = tt
+fit (suc (suc (suc (suc k)))) = tt
+
+fit' : (k : ℕ) → T (fits binary64 (at feed' k))
+unfolding ofBits fits
+fit' zero = tt
+fit' (suc zero) = tt
+fit' (suc (suc k)) = tt
+
+fractions : Fractions keep 4 (at feed) (at feed')
+unfolding cnt
+fractions = record {
+  absent = four (λ k. T (not (keep k)) → at feed k ⊑ 0f) (λ q. ⊑-refl 0f) (λ q. absurd q) (λ q. absurd q) (λ q. ⊑-refl 0f);
+  fraction = two (λ k. at feed k ≈ at feed' (cnt keep k)) (≈refl ½) (≈refl ½);
+  fit = fit;
+  fit' = fit';
+}
+
+ln-zero : (i : ℕ) → i < 4 → T (keep i) → at zeros8 i ≈ at zeros8 (cnt keep i)
+unfolding cnt
+ln-zero = two (λ i. at zeros8 i ≈ at zeros8 (cnt keep i)) (≈refl 0f) (≈refl 0f)
+
+-- ---- 1. the bubble pressure's sum
+abbrev pub BubbleLaw : (List Float → List Float → List Float → ℕ → Out Bubble) → Type 0
+BubbleLaw bubble =
+    (keep : ℕ → Bool) (n : ℕ) → n ≤ 8 → (ps ps' : List Float) → ((i : ℕ) → i < n → T (keep i) → at ps i ≡ at ps' (cnt keep i))
+    → (x x' : List Float) → Fractions keep n (at x) (at x') → (lg lg' : List Float) → ((i : ℕ) → i < n → T (keep i) → at lg i ≈ at lg' (cnt keep i))
+    → Acc (SameBubble keep n) (bubble x lg ps n) (bubble x' lg' ps' (cnt keep n))
+
+pub bubble-law : BubbleLaw bubbleFrom
+bubble-law = strike-bubbleFrom
+
+abbrev ones : List Float
+ones = 1f ∷ 1f ∷ 1f ∷ 1f ∷ []
+
+abbrev ones' : List Float
+ones' = 1f ∷ 1f ∷ []
+
+same-ones : (i : ℕ) → i < 4 → T (keep i) → at ones i ≡ at ones' (cnt keep i)
+unfolding cnt
+same-ones = two (λ i. at ones i ≡ at ones' (cnt keep i)) refl refl
+
+-- 3 Pa with the longer book, 1 Pa with the shorter
+pub bubble-leaks : BubbleLaw leakyBubble → ⊥
+unfolding cnt leakyBubble leakyPartial expOf ofBits add sub mul div neg lt le eq isNan ofInt toSigned size isFinite foldTo need
+bubble-leaks law = subst (λ (p : Float). T (lt 1f p)) (law keep 4 (omega arith) ones ones' same-ones feed feed' fractions zeros8 zeros8 ln-zero .says .pressure) tt
+
+-- ---- 2. K bounds
+abbrev pub RiceLaw : ((ℕ → Float) → (ℕ → Float) → ℕ → ℕ → Out Solution) → Type 0
+RiceLaw split =
+    (keep : ℕ → Bool) (n : ℕ) → n ≤ 8 → (z z' k k' : ℕ → Float) → Fractions keep n z z'
+    → ((i : ℕ) → i < n → T (keep i) → z i ≡ z' (cnt keep i)) → ((i : ℕ) → i < n → T (keep i) → k i ≡ k' (cnt keep i))
+    → (limit : ℕ) → Acc (SameSolution keep n) (split z k n limit) (split z' k' (cnt keep n) limit)
+
+pub rice-law : RiceLaw negative
+rice-law = strike-negative
+
+same-feed : (i : ℕ) → i < 4 → T (keep i) → at feed i ≡ at feed' (cnt keep i)
+unfolding cnt
+same-feed = two (λ i. at feed i ≡ at feed' (cnt keep i)) refl refl
+
+-- K = 1 at both kept solvents, 2 and 0.5 at the absent ones
+abbrev ratios : List Float
+ratios = 2f ∷ 1f ∷ 1f ∷ ½ ∷ []
+
+same-ratios : (i : ℕ) → i < 4 → T (keep i) → at ratios i ≡ at ones' (cnt keep i)
+unfolding cnt
+same-ratios = two (λ i. at ratios i ≡ at ones' (cnt keep i)) refl refl
+
+-- accepted with the longer book, 28 with the shorter
+pub rice-leaks : RiceLaw leakyNegative → ⊥
+unfolding cnt leakyMax leakyMin leakyNegative ofBits add sub mul div neg lt le eq isNan size isFinite foldTo allTo need choose sumsToOne residualOf slopeOf validate turnOf iterate
+rice-leaks law = law keep 4 (omega arith) (at feed) (at feed') (at ratios) (at ones') fractions same-feed same-ratios 1 .says
+
+-- ---- 3. the flash's convergence test
+abbrev pub SplitLaw : ((List Float → Out Activity) → List Float → ℕ → Float → List Float → Float → ℕ → ℕ → List Float → Out Split) → Type 0
+SplitLaw split =
+    (keep : ℕ → Bool) (n : ℕ) → n ≤ 8 → (E E' : List Float → Out Activity) → ((x x' : List Float) → Fractions keep n (at x) (at x') → Acc (SameActivity keep n) (E x) (E' x'))
+    → (ps ps' : List Float) → ((i : ℕ) → i < n → T (keep i) → at ps i ≡ at ps' (cnt keep i)) → (p : Float)
+    → (z z' : List Float) → Fractions keep n (at z) (at z') → ((i : ℕ) → i < n → T (keep i) → at z i ≡ at z' (cnt keep i))
+    → (tolerance : Float) (left done : ℕ) (lg lg' : List Float) → ((i : ℕ) → i < n → T (keep i) → at lg i ≈ at lg' (cnt keep i))
+    → Acc (SameSplit keep n) (split E ps n p z tolerance left done lg) (split E' ps' (cnt keep n) p z' tolerance left done lg')
+
+pub split-law : SplitLaw splitFrom
+split-law = strike-split
+
+-- an ideal liquid, and one in which the absent solvent 0 alone has ln γ = 2
+ideal : List Float → Out Activity
+ideal x = ok (record { lnGamma = zeros8; slopes = zeros8 })
+
+dilute : List Float → Out Activity
+dilute x = ok (record { lnGamma = 2f ∷ 0f ∷ 0f ∷ 0f ∷ []; slopes = zeros8 })
+
+same-model : (x x' : List Float) → Fractions keep 4 (at x) (at x') → Acc (SameActivity keep 4) (dilute x) (ideal x')
+unfolding cnt dilute ideal
+same-model x x' hx = acc-ok (record {
+  lnGamma = two (λ i. at (2f ∷ 0f ∷ 0f ∷ 0f ∷ []) i ≈ at zeros8 (cnt keep i)) (≈refl 0f) (≈refl 0f);
+  slopes = ln-zero;
+})
+
+abbrev pressures : List Float
+pressures = 1f ∷ 2f ∷ ½ ∷ 1f ∷ []
+
+abbrev pressures' : List Float
+pressures' = 2f ∷ ½ ∷ []
+
+same-pressures : (i : ℕ) → i < 4 → T (keep i) → at pressures i ≡ at pressures' (cnt keep i)
+unfolding cnt
+same-pressures = two (λ i. at pressures i ≡ at pressures' (cnt keep i)) refl refl
+
+-- two turns with the longer book, one with the shorter
+pub split-leaks : SplitLaw leakySplit → ⊥
+unfolding cnt leakySplit leakyChange ideal dilute kValues phaseOf splitGap turnAt splitTurn expOf lnOf ofBits add sub mul div neg lt le eq isNan ofInt toSigned size isFinite
+    foldTo allTo fill bind need choose sumsToOne normalizeOf residualOf slopeOf kMax kMin validate turnOf liquidPart vaporPart solutionAt iterate between negative
+split-leaks law =
+    subst (λ (c : ℕ). T (eqb c 2))
+    (law keep 4 (omega arith) dilute ideal same-model pressures pressures' same-pressures 1f feed feed' fractions same-feed 1f 2 0 zeros8 zeros8 ln-zero .says .iterations) tt
+
+-- ---- 4. the component of a trial
+abbrev pub StabilityLaw : ((List Float → Out Activity) → Float → ℕ → List Float → ℕ → Out Trials) → Type 0
+StabilityLaw stability =
+    (keep : ℕ → Bool) (n : ℕ) → n ≤ 8 → (E E' : List Float → Out Activity) → ((x x' : List Float) → Fractions keep n (at x) (at x') → Acc (SameActivity keep n) (E x) (E' x'))
+    → (threshold : Float) (x x' : List Float) → Fractions keep n (at x) (at x') → (limit : ℕ)
+    → Acc (SameTrials keep n) (stability E threshold n x limit) (stability E' threshold (cnt keep n) x' limit)
+
+pub stability-law : StabilityLaw stabilityOf
+stability-law = strike-stability
+
+-- the first trial, of solvent 1, is numbered 0, which is absent
+pub stability-leaks : StabilityLaw leakyStability → ⊥
+unfolding cnt leakyTrials leakyStability ideal dilute noTrials noTrial withTrial trialWith presentCount tangent startOf totalOf trialComposition distanceOf changeOf apartOf
+    unstable trialFrom expOf lnOf ofBits add sub mul div neg lt le eq isNan ofInt toSigned size isFinite foldTo fill bind need choose
+stability-leaks law = law keep 4 (omega arith) dilute ideal same-model 2f feed feed' fractions 1 .says .trials 0 (omega arith) .kept

@@ -1,0 +1,81 @@
+-- Four ways in which an absent solvent could show, each a definition of the core with one line changed. None is used: crates/striking/proofs/Leaks.antt refutes the law of
+-- striking for each of them. Assumes nothing.
+use Prim.Native.Nat.{ℕ, zero, suc}
+use mathlib.Core.Bool.{not, cond}
+use mathlib.Core.List.{List}
+use lib.Dec.{ltb}
+use lib.Ieee.{Float, lt, le}
+use Rattle.floats.specs.Arithmetic.{_⊖_, _⊗_, _⊘_, 0f, ½, 1f, ∞, -∞}
+use Rattle.floats.specs.Small.{isFinite, maxOf, minOf, absOf}
+use Rattle.floats.specs.Fold.{foldTo, sumTo}
+use Rattle.floats.specs.Vector.{at, vec}
+use Rattle.floats.specs.Outcome.{Out, ok, no, bind, need, choose}
+use Rattle.numerics.specs.Numerics.{expOf}
+use Rattle.thermo_models.specs.Model.{Activity}
+use Rattle.rachford_rice.specs.Rachford.{Solution, validate, iterate}
+use Rattle.saturation.specs.Saturation.{Bubble}
+use Rattle.liquid_stability.specs.Stability.{Trials, noTrials, withTrial, presentCount, tangent, startOf, trialFrom}
+use Rattle.tp_flash.specs.Split.{Split, splitTurn}
+
+-- ---- 1. an absent solvent's vapor pressure in the bubble pressure's sum
+-- `partialOf` of Saturation.antt, which has 0 in place of the last p_i^sat
+unfoldable pub leakyPartial : List Float → List Float → List Float → ℕ → Float
+leakyPartial x lg ps i = cond (lt 0f (at x i)) (at x i ⊗ expOf (at lg i) ⊗ at ps i) (at ps i)
+
+-- `bubbleFrom` over it
+unfoldable pub leakyBubble : List Float → List Float → List Float → ℕ → Out Bubble
+leakyBubble x lg ps n =
+    need (isFinite (sumTo (leakyPartial x lg ps) n)) 25
+    (need (not (le (sumTo (leakyPartial x lg ps) n) 0f)) 25
+    (ok (record { pressure = sumTo (leakyPartial x lg ps) n; vapor = vec (λ i. leakyPartial x lg ps i ⊘ sumTo (leakyPartial x lg ps) n) n })))
+
+-- ---- 2. K bounds over all solvents
+module _ (z k : ℕ → Float) (n : ℕ) where
+  -- `kMax` and `kMin` of Rachford.antt, which step at `active z` alone
+  unfoldable pub leakyMax : Float
+  leakyMax = foldTo (λ i s. maxOf s (k i)) -∞ n
+
+  unfoldable pub leakyMin : Float
+  leakyMin = foldTo (λ i s. minOf s (k i)) ∞ n
+
+  -- `negative` with `between` over them
+  unfoldable pub leakyNegative : ℕ → Out Solution
+  leakyNegative limit =
+      validate z k n
+      (need (not (le leakyMax 1f)) 28
+      (need (not (le 1f leakyMin)) 28
+      (iterate z k n limit 0 (1f ⊘ (1f ⊖ leakyMax)) (1f ⊘ (1f ⊖ leakyMin)) ½)))
+
+-- ---- 3. the flash's convergence test over all solvents
+-- the change of ln γ, which at a solvent present is the gap of ln fugacities; the gap itself is ln 0 - ln 0 at an absent one, a NaN, which the largest passes over
+unfoldable pub leakyChange : List Float → List Float → ℕ → Float
+leakyChange new old n = foldTo (λ i r. maxOf r (absOf (at new i ⊖ at old i))) 0f n
+
+module _ (E : List Float → Out Activity) (ps : List Float) (n : ℕ) (p : Float) (z : List Float) where
+  -- `splitFrom` of Split.antt, which tests `turn .split .residual`, over positive z
+  unfoldable pub leakySplit : Float → ℕ → ℕ → List Float → Out Split
+  leakySplit tolerance zero done lg = no 27
+  leakySplit tolerance (suc left) done lg =
+      bind (splitTurn E ps n p z lg (suc done)) (λ turn.
+      choose (le (leakyChange (turn .activity .lnGamma) lg n) tolerance)
+      (ok (turn .split))
+      (leakySplit tolerance left (suc done) (turn .activity .lnGamma)))
+
+-- ---- 4. a trial numbered by its place among the solvents present
+module _ (E : List Float → Out Activity) (threshold : Float) (n : ℕ) where
+  -- `trialsTo` of Stability.antt, which has the solvent's index k in place of the count of trials before it
+  unfoldable pub leakyTrials : List Float → List Float → ℕ → ℕ → Out Trials
+  leakyTrials x d limit zero = ok noTrials
+  leakyTrials x d limit (suc k) =
+      bind (leakyTrials x d limit k) (λ s.
+      choose (lt 0f (at x k))
+      (bind (trialFrom E threshold n x d (s .count) limit 0 (startOf x n k)) (λ r. ok (withTrial threshold s r)))
+      (ok s))
+
+  -- `stabilityOf` over it
+  unfoldable pub leakyStability : List Float → ℕ → Out Trials
+  leakyStability x limit =
+      bind (E x) (λ a.
+      choose (ltb (presentCount x n) 2)
+      (ok noTrials)
+      (leakyTrials x (tangent x (a .lnGamma) n) limit n))
