@@ -1,2 +1,3 @@
 -- Document 01's sample sheets. Assumes nothing.
+pub mod Sheets
 pub mod Samples
