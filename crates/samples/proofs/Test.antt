@@ -11,7 +11,6 @@ use Rattle.numerics.specs.Numerics.{expOf, lnOf}
 use Rattle.thermo_types.specs.Composition.{sumsToOne, withFractions}
 use Rattle.thermo_types.specs.Quantities.{positiveOf}
 use Rattle.book.specs.Places.{rowFrom, pairPlace}
-use Rattle.book.specs.Book.{floatsFinite, headRight, solventRight, rangeRight, recordRight, recordsRight, casNew, pairRight, rowRight, boundsFinite, pairFinite, alphasEqual, pairsOf, solventsOf, headOf, bookOf}
 use Rattle.records.specs.Records.{rangeOf, regressionOf}
 use Rattle.records.specs.Tables.{tauWord, alphaWord, tableRow, tableRows}
 use Rattle.liquid.specs.Vapor.{inRange}
@@ -28,51 +27,31 @@ use Rattle.question.specs.Asked.{positive, toleranceRight, optionsRight, questi
 use Rattle.replies.specs.Blocks.{bit, stateWords, modelWords, answerWords, answerBytes}
 use Rattle.replies.specs.Numbers.{statusNumber}
 use Rattle.sheet.specs.Tasks.{excessAnswer, riceSheet, task1, task2, task8, task9, taskOf}
-use Rattle.sheet.specs.Sheet.{sheetOf}
+use Rattle.sheet.specs.Steps.{sheetWith}
+use Rattle.samples.specs.Sheets.{book1, book2}
 use Rattle.samples.specs.Samples.{Samples}
+use Rattle.samples.proofs.Books.{answered, solvents1, solvents2}
 
 pub samples : Samples
-unfolding ofBits toBits add sub mul div neg lt le eq isNan ofInt toSigned size
-    wordFrom word block checkSum checkRight
-    bytes rowTo blockBytes
-    isFinite
-    foldTo allTo
-    fillFrom fill
-    bind need choose
-    expOf lnOf
-    sumsToOne withFractions
-    positiveOf
-    rowFrom pairPlace
-    floatsFinite headRight solventRight rangeRight recordRight recordsRight casNew pairRight rowRight boundsFinite pairFinite alphasEqual pairsOf solventsOf headOf bookOf
-    rangeOf regressionOf
-    tauWord alphaWord tableRow tableRows
-    inRange
-    constJ addJ subJ negJ mulJ scaleJ divJ expWith
-    basisOf tauJ alphaJ exponentJ tauIJ gIJ alphaRight allRight
-    colS colC termJ lnFrom gibbsFrom
-    gibbsOf enthalpyOf heatCapacityOf entropyOf stateFrom excessOf
-    solventCovers temperatureInDomain pureLiquidsOf
-    unseen noted visited rowSeen allSeen statusOf validityOf
-    turnOf residualOf slopeOf kMax kMin validate liquidPart vaporPart solutionAt iterate between negative twoPhase onePhase constrained
-    bubblePressure
-    isTask needsTemperature needsPressure needsOptions needsRatios
-    positive toleranceRight optionsRight questionFrom inputsRight limitsRight questionOf
-    bit stateWords modelWords answerWords answerBytes
-    statusNumber
-    excessAnswer riceSheet task1 task2 task8 task9 taskOf
-    sheetOf
+unfolding ofBits toBits add sub mul div neg lt le eq isNan ofInt toSigned size wordFrom word block checkSum checkRight bytes rowTo blockBytes isFinite foldTo allTo fillFrom
+    fill bind need choose expOf lnOf sumsToOne withFractions positiveOf rowFrom pairPlace rangeOf regressionOf tauWord alphaWord tableRow tableRows inRange constJ addJ subJ
+    negJ mulJ scaleJ divJ expWith basisOf tauJ alphaJ exponentJ tauIJ gIJ alphaRight allRight colS colC termJ lnFrom gibbsFrom gibbsOf enthalpyOf heatCapacityOf entropyOf
+    stateFrom excessOf solventCovers temperatureInDomain pureLiquidsOf unseen noted visited rowSeen allSeen statusOf validityOf turnOf residualOf slopeOf kMax kMin validate
+    liquidPart vaporPart solutionAt iterate between negative twoPhase onePhase constrained bubblePressure isTask needsTemperature needsPressure needsOptions needsRatios
+    positive toleranceRight optionsRight questionFrom inputsRight limitsRight questionOf bit stateWords modelWords answerWords answerBytes statusNumber excessAnswer riceSheet
+    task1 task2 task8 task9 taskOf sheetWith
 samples = record {
   a = refl;
   b = refl;
   c = refl;
-  d = refl;
-  e = refl;
-  f = refl;
-  g = refl;
-  h = refl;
-  i = refl;
-  j = refl;
-  k = refl;
-  l = refl;
-  m = refl;
+  d = answered book2 _ solvents2 refl;
+  e = answered book2 _ solvents2 refl;
+  f = answered book2 _ solvents2 refl;
+  g = answered book2 _ solvents2 refl;
+  h = answered book2 _ solvents2 refl;
+  i = answered book1 _ solvents1 refl;
+  j = answered book2 _ solvents2 refl;
+  k = answered book2 _ solvents2 refl;
+  l = answered book2 _ solvents2 refl;
+  m = answered book2 _ solvents2 refl;
 }

@@ -5,7 +5,7 @@ use mathlib.Core.Path.{_≡_}
 use mathlib.Core.List.{List, [], _∷_, _++_}
 use Rattle.floats.specs.Outcome.{ok}
 use Rattle.sheet.specs.Sheet.{sheetOf}
-use Rattle.samples.specs.Sheets.{350K, 100kPa, 1MPa, 4MPa, head, solvent, pair, question, answer, trial}
+use Rattle.samples.specs.Sheets.{350K, 100kPa, 1MPa, 4MPa, head, solvent, pair, book2, question, answer, trial}
 
 -- 0.25, 0.75, 1000 and 1e300
 abbrev pub ¼ : ℕ
@@ -20,15 +20,12 @@ abbrev pub 1e3 : ℕ
 abbrev pub 1e300 : ℕ
 1e300 = 0x7e37e43c8800759c
 
--- solvent 0: a reducing pressure of 1e300 Pa; τ_0j = 1e300, so that G_0j is 0; τ_j0 = 1000, so that γ_0 = exp 1000 is infinite. The others mix ideally
-abbrev pub longBook : List ℕ
-longBook =
+-- solvent 0: a reducing pressure of 1e300 Pa; τ_0j = 1e300, so that G_0j is 0; τ_j0 = 1000, so that γ_0 = exp 1000 is infinite. The others are those of book2
+abbrev pub book3 : List ℕ
+book3 =
     head 3
     ++ solvent 0 67561 1e300 ++ solvent 1 64175 4MPa ++ solvent 2 7732185 1MPa
     ++ pair 0 1 1e300 1e3 ++ pair 0 2 1e300 1e3 ++ pair 1 2 0 0
-
-abbrev pub shortBook : List ℕ
-shortBook = head 2 ++ solvent 0 64175 4MPa ++ solvent 1 7732185 1MPa ++ pair 0 1 0 0
 
 -- the flash of a feed
 abbrev pub flash : List ℕ → List ℕ
@@ -44,7 +41,7 @@ abbrev pub back : ℕ → List ℕ → List ℕ
 back component z = trial component 0 2 1 z
 
 pub record Absent : Type 0 where
-  pub long : sheetOf longBook (flash (0 ∷ ¼ ∷ ¾ ∷ [])) 4608
+  pub long : sheetOf book3 (flash (0 ∷ ¼ ∷ ¾ ∷ [])) 4608
       ≡ ok (liquid (0 ∷ ¼ ∷ ¾ ∷ []) ++ back 1 (0 ∷ ¼ ∷ ¾ ∷ []) ++ back 2 (0 ∷ ¼ ∷ ¾ ∷ []))
-  pub short : sheetOf shortBook (flash (¼ ∷ ¾ ∷ [])) 4608
+  pub short : sheetOf book2 (flash (¼ ∷ ¾ ∷ [])) 4608
       ≡ ok (liquid (¼ ∷ ¾ ∷ []) ++ back 0 (¼ ∷ ¾ ∷ []) ++ back 1 (¼ ∷ ¾ ∷ []))
