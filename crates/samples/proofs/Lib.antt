@@ -1,1 +1,4 @@
+-- What is proved of the sample sheets. Assumes nothing.
+pub mod Books
 pub mod Test
+pub mod Absent

@@ -1,42 +1,25 @@
--- Document 01's samples as one list: each is an equation on the definitions. Assumes nothing.
+-- Document 01's samples (a) to (m) as one list: (a) to (c) on the helper numbers, (d) to (m) on the whole call, from the bytes of book and question to every byte of
+-- the answer, in a slice of 4,608 bytes. Assumes nothing.
+use Prim.Native.Nat.{ℕ}
 use mathlib.Core.Path.{_≡_}
 use mathlib.Core.List.{List, [], _∷_}
-use lib.ListN.{replicate, set}
-use lib.Ieee.{Float}
-use Rattle.floats.specs.Arithmetic.{#, 0f, ½, 1f, 2f, ∞}
-use Rattle.floats.specs.Vector.{at, zeros8}
-use Rattle.floats.specs.Outcome.{ok}
+use Rattle.floats.specs.Arithmetic.{#, 0f, 1f, ∞}
+use Rattle.floats.specs.Outcome.{Out, ok, no}
 use Rattle.numerics.specs.Numerics.{expOf, lnOf}
-use Rattle.thermo_types.specs.declared.Verdict.the-variants.{Passed}
-use Rattle.rachford_rice.specs.declared.RachfordRice.{RachfordRice}
-use Rattle.rachford_rice.specs.declared.RachfordRiceOutcome.the-variants.{LiquidOnly, VaporOnly, TwoPhase}
-use Rattle.rachford_rice.specs.Rachford.{negative, onePhase, refusedWith, splitOf, answerOf, constrained}
-use Rattle.nrtl.specs.State.{Excess, excessOf}
+use Rattle.sheet.specs.Sheet.{sheetOf}
+use Rattle.samples.specs.Sheets.{⅓, ½, ⅔, one, two, -zero, 300K, 350K, 100kPa, book1, book2, question, answer}
 
--- an array of eight with two solvents
-abbrev pub two : Float → Float → List Float
-two a b = a ∷ b ∷ 0f ∷ 0f ∷ 0f ∷ 0f ∷ 0f ∷ 0f ∷ []
+-- tasks 8 and 9 with two solvents and M = 200: fractions and K
+abbrev pub split : ℕ → List ℕ → List ℕ → Out (List ℕ)
+split task x k = sheetOf book2 (question task 0 0 x 200 k) 4608
 
--- tasks 8 and 9 with two solvents and M = 200
-abbrev pub task8 : List Float → List Float → RachfordRice
-task8 z k = answerOf (constrained (at z) (at k) 2 200)
+-- a single phase: word 3 alone
+abbrev pub onePhase : ℕ → Out (List ℕ)
+onePhase outcome = ok (answer 8 outcome [] [] [] [])
 
-abbrev pub task9 : List Float → List Float → RachfordRice
-task9 z k = splitOf (negative (at z) (at k) 2 200)
-
--- 300 K; α = 0.3 for both orders of two solvents
-abbrev pub t300 : Float
-t300 = # 0x4072c00000000000
-
-abbrev pub alpha03 : List Float
-alpha03 = set (set (replicate 128 0f) 2 (# 0x3fd3333333333333)) 16 (# 0x3fd3333333333333)
-
--- ln γ 0 everywhere; the energies are zeros with the sign that they come with
-abbrev pub -0f : Float
--0f = # 0x8000000000000000
-
-abbrev pub ideal : Excess
-ideal = record { lnGamma = zeros8; slopes = zeros8; reduced = 0f; gibbs = 0f; enthalpy = -0f; entropy = -0f; heatCapacity = -0f }
+-- task 1 at 300 K with ln γ 0: slopes and energies are 0 too, three of them -0
+abbrev pub ideal : Out (List ℕ)
+ideal = ok (answer 1 0 (300K ∷ 0 ∷ 0 ∷ 0 ∷ 0 ∷ 0 ∷ 0 ∷ 0 ∷ 0 ∷ 0 ∷ []) (0 ∷ 0 ∷ []) (0 ∷ 0 ∷ []) (0 ∷ 0 ∷ -zero ∷ -zero ∷ -zero ∷ 0 ∷ 0 ∷ 0 ∷ []))
 
 pub record Samples : Type 0 where
   -- (a) exp 0 = 1
@@ -45,24 +28,23 @@ pub record Samples : Type 0 where
   pub b : expOf (# 0x4086300000000000) ≡ ∞
   -- (c) ln 1 = 0
   pub c : lnOf 1f ≡ 0f
-  -- (d) z 0.5 0.5, K 2 0.5: both, β 0.5, residual 0, 1 iteration, liquid a third and two thirds, vapor the reverse
-  pub d : task8 (two ½ ½) (two 2f ½) ≡ record {
-    verdict = Passed;
-    outcome = TwoPhase ½ 0f 1;
-    liquid = two (# 0x3fd5555555555555) (# 0x3fe5555555555555);
-    vapor = two (# 0x3fe5555555555555) (# 0x3fd5555555555555);
-  }
+  -- (d) task 8, z 0.5 0.5, K 2 0.5: both, 1 iteration, residual 0, β 0.5, liquid a third and two thirds, vapor the reverse
+  pub d : split 8 (½ ∷ ½ ∷ []) (two ∷ ½ ∷ []) ≡ ok (answer 8 3 (0 ∷ 0 ∷ 0 ∷ 0 ∷ 1 ∷ 0 ∷ 0 ∷ ½ ∷ 0 ∷ 0 ∷ []) (⅓ ∷ ⅔ ∷ []) (⅔ ∷ ⅓ ∷ []) [])
   -- (e) K 0.5 0.5: liquid
-  pub e : task8 (two ½ ½) (two ½ ½) ≡ onePhase LiquidOnly
+  pub e : split 8 (½ ∷ ½ ∷ []) (½ ∷ ½ ∷ []) ≡ onePhase 1
   -- (f) K 1 1: liquid
-  pub f : task8 (two ½ ½) (two 1f 1f) ≡ onePhase LiquidOnly
+  pub f : split 8 (½ ∷ ½ ∷ []) (one ∷ one ∷ []) ≡ onePhase 1
   -- (g) K 2 2: vapor
-  pub g : task8 (two ½ ½) (two 2f 2f) ≡ onePhase VaporOnly
+  pub g : split 8 (½ ∷ ½ ∷ []) (two ∷ two ∷ []) ≡ onePhase 2
   -- (h) task 9, K 2 2: 28
-  pub h : task9 (two ½ ½) (two 2f 2f) ≡ refusedWith 28
-  -- (i) task 1, one solvent, fraction 1, 300 K, whatever the parameters: ln γ 0
-  pub i : (tau alpha : List Float) → excessOf tau alpha 1 t300 (λ k. 1f) ≡ ok ideal
+  pub h : split 9 (½ ∷ ½ ∷ []) (two ∷ two ∷ []) ≡ no 28
+  -- (i) task 1, one solvent, fraction 1, 300 K: ln γ 0
+  pub i : sheetOf book1 (question 1 300K 0 (one ∷ []) 200 []) 4608 ≡ ideal
   -- (j) task 1, 300 K, τ 0, α 0.3, x 0.5 0.5: both ln γ 0
-  pub j : excessOf (replicate 256 0f) alpha03 2 t300 (λ k. ½) ≡ ok ideal
+  pub j : sheetOf book2 (question 1 300K 0 (½ ∷ ½ ∷ []) 200 []) 4608 ≡ ideal
   -- (k) as (d) with fractions 0.5 and 0.5000000002: 18
-  pub k : task8 (two ½ (# 0x3fe00000001b7ce0)) (two 2f ½) ≡ refusedWith 18
+  pub k : split 8 (½ ∷ 0x3fe00000001b7ce0 ∷ []) (two ∷ ½ ∷ []) ≡ no 18
+  -- (l) task 7, M 0, all before it right: 20
+  pub l : sheetOf book2 (question 7 350K 100kPa (½ ∷ ½ ∷ []) 0 []) 4608 ≡ no 20
+  -- (m) task 2, 273.15 K, all before it right: 22
+  pub m : sheetOf book2 (question 2 0x4071126666666666 0 (½ ∷ ½ ∷ []) 200 []) 4608 ≡ no 22

@@ -21,7 +21,8 @@ use Rattle.liquid_stability.specs.Stability.{Trials, noTrials, noTrial, withTri
 use Rattle.tp_flash.specs.Split.{Split, kValues, phaseOf, splitGap, turnAt, splitTurn, splitFrom}
 use Rattle.zeros.specs.Same.{_≈_}
 use Rattle.zeros.proofs.Congruence.{≈refl}
-use Rattle.zeros.proofs.Below.{_⊑_, ⊑-refl}
+use Rattle.zeros.specs.Below.{_⊑_}
+use Rattle.zeros.proofs.Below.{⊑-refl}
 use Rattle.striking.specs.Places.{cnt}
 use Rattle.striking.specs.Accepted.{Acc}
 use Rattle.striking.specs.Related.{Fractions}
