@@ -1,14 +1,14 @@
 -- The laws of striking refute the leaky definitions of crates/striking/specs/Leaks.antt. Each law is stated of any definition in the place of the core's; the core's has it, by
 -- the theorem cited, and the leaky one has it not, by one computed sheet: solvents 1 and 2 in halves, 0 and 3 absent. Assumes nothing.
-use mathlib.Core.Path.{_≡_, refl, subst}
+use mathlib.Core.Path.{_≡_, refl, sym, ap, _∙_, subst}
 use Prim.Native.Nat.{ℕ, zero, suc, _≤_, _<_}
 use native.Mathlib.Omega.{arith}
-use mathlib.Core.Bool.{Bool, not, _||_}
+use mathlib.Core.Bool.{Bool, true, false, not, _||_}
 use mathlib.Core.List.{List, [], _∷_}
 use lib.Dec.{T, eqb}
-use lib.Ieee.{Float, binary64, fits, ofBits, add, sub, mul, div, neg, lt, le, eq, isNan, ofInt, toSigned, size}
-use Rattle.floats.specs.Arithmetic.{0f, ½, 1f, 2f}
-use Rattle.floats.specs.Small.{isFinite}
+use lib.Ieee.{Float, nan, inf, fin, binary64, fits, ofBits, add, sub, mul, div, neg, lt, le, eq, isNan, ofInt, toSigned, size}
+use Rattle.floats.specs.Arithmetic.{_⊕_, _⊖_, 0f, ½, 1f, 2f}
+use Rattle.floats.specs.Small.{isFinite, maxOf, absOf}
 use Rattle.floats.specs.Fold.{foldTo, allTo}
 use Rattle.floats.specs.Vector.{at, fill, zeros8}
 use Rattle.floats.specs.Outcome.{Out, ok, bind, need, choose}
@@ -16,21 +16,24 @@ use Rattle.numerics.specs.Numerics.{expOf, lnOf}
 use Rattle.thermo_types.specs.Composition.{sumsToOne, normalizeOf}
 use Rattle.thermo_models.specs.Model.{Activity}
 use Rattle.rachford_rice.specs.Rachford.{Solution, residualOf, slopeOf, kMax, kMin, validate, turnOf, liquidPart, vaporPart, solutionAt, iterate, between, negative}
-use Rattle.saturation.specs.Saturation.{Bubble, bubbleFrom}
+use Rattle.saturation.specs.Saturation.{Bubble, bubbleFrom, gapAt}
 use Rattle.liquid_stability.specs.Stability.{Trials, noTrials, noTrial, withTrial, trialWith, presentCount, tangent, startOf, totalOf, trialComposition, distanceOf, changeOf, apartOf, unstable, trialFrom, stabilityOf}
 use Rattle.tp_flash.specs.Split.{Split, kValues, phaseOf, splitGap, turnAt, splitTurn, splitFrom}
 use Rattle.zeros.specs.Same.{_≈_}
-use Rattle.zeros.proofs.Congruence.{≈refl}
 use Rattle.zeros.specs.Below.{_⊑_}
+use Rattle.zeros.proofs.Congruence.{≈refl, ≈trans, same}
 use Rattle.zeros.proofs.Below.{⊑-refl}
+use Rattle.zeros.proofs.Numbers.{ln-≈}
 use Rattle.striking.specs.Places.{cnt}
 use Rattle.striking.specs.Accepted.{Acc}
 use Rattle.striking.specs.Related.{Fractions}
 use Rattle.striking.specs.Results.{SameActivity, SameSolution, SameTrials}
 use Rattle.striking.specs.Leaks.{leakyPartial, leakyBubble, leakyMax, leakyMin, leakyNegative, leakyChange, leakySplit, leakyTrials, leakyStability}
+use Rattle.striking.proofs.Strike.{strike-fold}
 use Rattle.striking.proofs.Acc.{acc-ok}
+use Rattle.striking.proofs.Active.{max-≈}
 use Rattle.striking.proofs.Rice.{strike-negative}
-use Rattle.striking.proofs.Saturation.{SameBubble, strike-bubbleFrom}
+use Rattle.striking.proofs.Saturation.{SameBubble, same-gapAt, strike-bubbleFrom}
 use Rattle.striking.proofs.Stability.{strike-stability}
 use Rattle.striking.proofs.Split.{SameSplit, strike-split}
 
@@ -181,6 +184,48 @@ unfolding cnt leakySplit leakyChange ideal dilute kValues phaseOf splitGap turnA
 split-leaks law =
     subst (λ (c : ℕ). T (eqb c 2))
     (law keep 4 (omega arith) dilute ideal same-model pressures pressures' same-pressures 1f feed feed' fractions same-feed 1f 2 0 zeros8 zeros8 ln-zero .says .iterations) tt
+
+-- The gap itself may be taken over all solvents: at an absent one ln y - ln x is a NaN, which the largest passes over
+-- a NaN or -infinity
+abbrev Low : Float → Type 0
+Low nan = Unit {0}
+Low (inf s) = T s
+Low (fin s m e) = ⊥
+
+ln-low : (u : Float) → u ⊑ 0f → Low (lnOf u)
+unfolding lnOf lt le eq isNan ofBits
+ln-low nan h = tt
+ln-low (inf s) h = subst Low (sym (ln-≈ (inf s) 0f (h .at tt))) tt
+ln-low (fin s m e) h = subst Low (sym (ln-≈ (fin s m e) 0f (h .at tt))) tt
+
+low-less : (a b c : Float) → Low a → Low b → a ⊕ c ⊖ b ≡ nan
+unfolding add sub neg
+low-less nan b c l m = refl
+low-less (inf true) b nan l m = refl
+low-less (inf true) b (inf false) l m = refl
+low-less (inf true) nan (inf true) l m = refl
+low-less (inf true) (inf true) (inf true) l m = refl
+low-less (inf true) nan (fin s k e) l m = refl
+low-less (inf true) (inf true) (fin s k e) l m = refl
+
+max-nan : (a : Float) → maxOf a nan ≡ a
+unfolding isNan lt
+max-nan nan = refl
+max-nan (inf s) = refl
+max-nan (fin s m e) = refl
+
+gap-nan : (u g q : Float) → u ≡ nan → absOf (u ⊖ g ⊖ q) ≡ nan
+unfolding add sub le
+gap-nan u g q e = ap (λ (v : Float). absOf (v ⊖ g ⊖ q)) e
+
+pub gap-of-all : (keep : ℕ → Bool) (n : ℕ) → n ≤ 8 → (ps ps' : List Float) → ((i : ℕ) → i < n → T (keep i) → at ps i ≡ at ps' (cnt keep i))
+    → (lg lg' : List Float) → ((i : ℕ) → i < n → T (keep i) → at lg i ≈ at lg' (cnt keep i)) → (p : Float)
+    → (x x' y y' : List Float) → Fractions keep n (at x) (at x') → Fractions keep n (at y) (at y')
+    → foldTo (λ i r. maxOf r (gapAt lg ps p x y i)) 0f n ≈ foldTo (λ i r. maxOf r (gapAt lg' ps' p x' y' i)) 0f (cnt keep n)
+gap-of-all keep n small ps ps' hps lg lg' hl p x x' y y' hx hy =
+    strike-fold keep _≈_ _ _ 0f 0f n (≈refl 0f)
+    (λ i l q a b h. max-≈ h (same-gapAt keep n small ps ps' hps lg lg' hl p p refl x x' y y' hx hy i l q))
+    (λ i l q a b h. ≈trans (same (ap (maxOf a) (gap-nan _ _ _ (low-less _ _ _ (ln-low _ (hy .absent i l q)) (ln-low _ (hx .absent i l q)))) ∙ max-nan a)) h)
 
 -- ---- 4. the component of a trial
 abbrev pub StabilityLaw : ((List Float → Out Activity) → Float → ℕ → List Float → ℕ → Out Trials) → Type 0

@@ -47,7 +47,7 @@ module _ (z k : ℕ → Float) (n : ℕ) where
       (iterate z k n limit 0 (1f ⊘ (1f ⊖ leakyMax)) (1f ⊘ (1f ⊖ leakyMin)) ½)))
 
 -- ---- 3. the flash's convergence test over all solvents
--- the change of ln γ, which at a solvent present is the gap of ln fugacities; the gap itself is ln 0 - ln 0 at an absent one, a NaN, which the largest passes over
+-- the change of ln γ, which at a solvent present is the gap of ln fugacities before rounding. The gap itself leaks nothing (`gap-of-all` in proofs/Leaks.antt)
 unfoldable pub leakyChange : List Float → List Float → ℕ → Float
 leakyChange new old n = foldTo (λ i r. maxOf r (absOf (at new i ⊖ at old i))) 0f n
 
