@@ -25,7 +25,7 @@ abbrev pub 1e300 : ℕ
 abbrev pub book3 : List ℕ
 book3 =
     head 3
-    ++ solvent 0 67561 1e300 ++ solvent 1 64175 4MPa ++ solvent 2 7732185 1MPa
+    ++ solvent 0 103 1e300 ++ solvent 1 101 4MPa ++ solvent 2 102 1MPa
     ++ pair 0 1 1e300 1e3 ++ pair 0 2 1e300 1e3 ++ pair 1 2 0 0
 
 -- the longer feed and question, and the shorter
