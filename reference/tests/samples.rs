@@ -263,3 +263,21 @@ fn refusal_blocks() {
     long.resize(600 * 512, 0);
     assert_eq!(words(&long, &halves(2).bytes()), [9, 0, 3]);
 }
+
+/// The sheets of crates/samples/specs/Absent.antt: solvent 0 is absent, with extreme data.
+#[test]
+fn an_absent_solvent_before_the_kept() {
+    let kept = blocks(&[4e6, 1e6], [0.0, 0.0]);
+    let mut long = blocks(&[1e300, 4e6, 1e6], [1e300, 1000.0]);
+    long[6][3..11].copy_from_slice(&[0; 8]);
+    for (book, feed, shift) in [(long, vec![0.0, 0.25, 0.75], 1), (kept, vec![0.25, 0.75], 0)] {
+        let all = call(&bytes(&book), Ask::new(7, &feed)).expect("an answer");
+        assert_eq!(all[0][..4], [9, 7, 0, 1]);
+        assert_eq!(all[0][6..14], [0x40c7_07b4_20b7_2ebc, 0x40c0_326d_cddd_aab7, 0, 0, 0, 0, 2, 1]);
+        assert_eq!(floats(&all[0], 14, feed.len()), feed);
+        for (place, trial) in all[1..].iter().enumerate() {
+            assert_eq!(trial[..5], [10, place as u64 + shift, 0, 2, 1]);
+            assert_eq!(floats(trial, 5, feed.len()), feed);
+        }
+    }
+}

@@ -34,7 +34,8 @@ use Rattle.saturation.specs.Saturation as dew
 use Rattle.liquid_stability.specs.Stability as trials
 use Rattle.samples.specs.Sheets.{book2}
 use Rattle.samples.specs.Absent.{book3, Absent}
-use Rattle.samples.proofs.Books.{answered, solvents2, solvents3}
+use Rattle.samples.proofs.Books.{answered, opened}
+use Rattle.samples.proofs.Shorter.{shorter}
 
 pub absent : Absent
 unfolding ofBits toBits add sub mul div neg lt le eq isNan ofInt toSigned size wordFrom word block checkSum checkRight bytes rowTo blockBytes isFinite foldTo allTo fillFrom
@@ -46,6 +47,7 @@ unfolding ofBits toBits add sub mul div neg lt le eq isNan ofInt toSigned size w
     betweenOf fromDew phasesOf tpFlash isTask needsTemperature needsPressure needsOptions needsRatios positive toleranceRight optionsRight questionFrom inputsRight limitsRight
     questionOf bit stateWords modelWords answerWords trialWords trialBytes answerBytes phaseNumber flashSheet task7 taskOf sheetWith dew.changeOf trials.changeOf
 absent = record {
-  long = answered book3 _ solvents3 refl;
-  short = answered book2 _ solvents2 refl;
+  shorter = shorter;
+  long = answered book3 _ (opened .solvents3) refl;
+  short = answered book2 _ (opened .solvents2) refl;
 }

@@ -19,17 +19,12 @@ pub answered : (book question : List ℕ) {n : ℕ} {o : Out (List ℕ)} → boo
 unfolding sheetOf sheetWith bind
 answered book question e h = rw e h
 
-pub solvents1 : bookOf book1 ≡ ok 1
-unfolding ofBits lt le eq size wordFrom word block checkSum checkRight bytes rowTo blockBytes isFinite allTo need rowFrom floatsFinite headRight solventRight rangeRight
-    recordRight recordsRight casNew pairRight rowRight boundsFinite pairFinite alphasEqual pairsOf solventsOf headOf bookOf
-solvents1 = refl
+pub record Opened : Type 0 where
+  pub solvents1 : bookOf book1 ≡ ok 1
+  pub solvents2 : bookOf book2 ≡ ok 2
+  pub solvents3 : bookOf book3 ≡ ok 3
 
-pub solvents2 : bookOf book2 ≡ ok 2
+pub opened : Opened
 unfolding ofBits lt le eq size wordFrom word block checkSum checkRight bytes rowTo blockBytes isFinite allTo need rowFrom floatsFinite headRight solventRight rangeRight
     recordRight recordsRight casNew pairRight rowRight boundsFinite pairFinite alphasEqual pairsOf solventsOf headOf bookOf
-solvents2 = refl
-
-pub solvents3 : bookOf book3 ≡ ok 3
-unfolding ofBits lt le eq size wordFrom word block checkSum checkRight bytes rowTo blockBytes isFinite allTo need rowFrom floatsFinite headRight solventRight rangeRight
-    recordRight recordsRight casNew pairRight rowRight boundsFinite pairFinite alphasEqual pairsOf solventsOf headOf bookOf
-solvents3 = refl
+opened = record { solvents1 = refl; solvents2 = refl; solvents3 = refl }

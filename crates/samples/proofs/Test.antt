@@ -30,7 +30,7 @@ use Rattle.sheet.specs.Tasks.{excessAnswer, riceSheet, task1, task2, task8, tas
 use Rattle.sheet.specs.Steps.{sheetWith}
 use Rattle.samples.specs.Sheets.{book1, book2}
 use Rattle.samples.specs.Samples.{Samples}
-use Rattle.samples.proofs.Books.{answered, solvents1, solvents2}
+use Rattle.samples.proofs.Books.{answered, opened}
 
 pub samples : Samples
 unfolding ofBits toBits add sub mul div neg lt le eq isNan ofInt toSigned size wordFrom word block checkSum checkRight bytes rowTo blockBytes isFinite foldTo allTo fillFrom
@@ -44,14 +44,14 @@ samples = record {
   a = refl;
   b = refl;
   c = refl;
-  d = answered book2 _ solvents2 refl;
-  e = answered book2 _ solvents2 refl;
-  f = answered book2 _ solvents2 refl;
-  g = answered book2 _ solvents2 refl;
-  h = answered book2 _ solvents2 refl;
-  i = answered book1 _ solvents1 refl;
-  j = answered book2 _ solvents2 refl;
-  k = answered book2 _ solvents2 refl;
-  l = answered book2 _ solvents2 refl;
-  m = answered book2 _ solvents2 refl;
+  d = answered book2 _ (opened .solvents2) refl;
+  e = answered book2 _ (opened .solvents2) refl;
+  f = answered book2 _ (opened .solvents2) refl;
+  g = answered book2 _ (opened .solvents2) refl;
+  h = answered book2 _ (opened .solvents2) refl;
+  i = answered book1 _ (opened .solvents1) refl;
+  j = answered book2 _ (opened .solvents2) refl;
+  k = answered book2 _ (opened .solvents2) refl;
+  l = answered book2 _ (opened .solvents2) refl;
+  m = answered book2 _ (opened .solvents2) refl;
 }

@@ -5,6 +5,7 @@ use mathlib.Core.Path.{_≡_}
 use mathlib.Core.List.{List, [], _∷_, _++_}
 use Rattle.floats.specs.Outcome.{ok}
 use Rattle.sheet.specs.Sheet.{sheetOf}
+use Rattle.striking.specs.Questions.{Shorter}
 use Rattle.samples.specs.Sheets.{350K, 100kPa, 1MPa, 4MPa, head, solvent, pair, book2, question, answer, trial}
 
 -- 0.25, 0.75, 1000 and 1e300
@@ -24,12 +25,21 @@ abbrev pub 1e300 : ℕ
 abbrev pub book3 : List ℕ
 book3 =
     head 3
-    ++ solvent 0 67561 1e300 ++ solvent 1 64175 4MPa ++ solvent 2 7732185 1MPa
+    ++ solvent 0 103 1e300 ++ solvent 1 101 4MPa ++ solvent 2 102 1MPa
     ++ pair 0 1 1e300 1e3 ++ pair 0 2 1e300 1e3 ++ pair 1 2 0 0
 
--- the flash of a feed
-abbrev pub flash : List ℕ → List ℕ
-flash z = question 7 350K 100kPa z 200 []
+-- the longer feed and question, and the shorter
+abbrev pub feed3 : List ℕ
+feed3 = 0 ∷ ¼ ∷ ¾ ∷ []
+
+abbrev pub feed2 : List ℕ
+feed2 = ¼ ∷ ¾ ∷ []
+
+abbrev pub question3 : List ℕ
+question3 = question 7 350K 100kPa feed3 200 []
+
+abbrev pub question2 : List ℕ
+question2 = question 7 350K 100kPa feed2 200 []
 
 -- liquid: bubble pressure 11791.4 Pa, dew pressure 8292.9 Pa, two trials, A7-GAMMA-PHI; stable
 abbrev pub liquid : List ℕ → List ℕ
@@ -41,7 +51,6 @@ abbrev pub back : ℕ → List ℕ → List ℕ
 back component z = trial component 0 2 1 z
 
 pub record Absent : Type 0 where
-  pub long : sheetOf book3 (flash (0 ∷ ¼ ∷ ¾ ∷ [])) 4608
-      ≡ ok (liquid (0 ∷ ¼ ∷ ¾ ∷ []) ++ back 1 (0 ∷ ¼ ∷ ¾ ∷ []) ++ back 2 (0 ∷ ¼ ∷ ¾ ∷ []))
-  pub short : sheetOf book2 (flash (¼ ∷ ¾ ∷ [])) 4608
-      ≡ ok (liquid (¼ ∷ ¾ ∷ []) ++ back 0 (¼ ∷ ¾ ∷ []) ++ back 1 (¼ ∷ ¾ ∷ []))
+  pub shorter : Shorter book3 question3 book2 question2
+  pub long : sheetOf book3 question3 4608 ≡ ok (liquid feed3 ++ back 1 feed3 ++ back 2 feed3)
+  pub short : sheetOf book2 question2 4608 ≡ ok (liquid feed2 ++ back 0 feed2 ++ back 1 feed2)

@@ -80,10 +80,10 @@ pair i j τij τji = blockOf (3 ∷ i ∷ j ∷ τij ∷ 0 ∷ 0 ∷ 0 ∷ τji 
 
 -- one solvent; two that mix ideally
 abbrev pub book1 : List ℕ
-book1 = head 1 ++ solvent 0 64175 4MPa
+book1 = head 1 ++ solvent 0 101 4MPa
 
 abbrev pub book2 : List ℕ
-book2 = head 2 ++ solvent 0 64175 4MPa ++ solvent 1 7732185 1MPa ++ pair 0 1 0 0
+book2 = head 2 ++ solvent 0 101 4MPa ++ solvent 1 102 1MPa ++ pair 0 1 0 0
 
 -- ---- a question: task, T, p, fractions, M, K; 200 outer iterations, tolerances 1e-10, threshold -1e-8, the whole bracket
 abbrev pub question : ℕ → ℕ → ℕ → List ℕ → ℕ → List ℕ → List ℕ
