@@ -252,7 +252,8 @@ impl fmt::Display for Malformed {
 impl std::error::Error for Malformed {}
 
 impl Answer {
-    /// Reads an answer slice, or what the program `still` wrote, for a book of `solvents` solvents. Bytes behind the blocks are not read.
+    /// Reads an answer slice, or what the program `still` wrote, for a book of `solvents` solvents. Bytes behind the
+    /// blocks are not read.
     ///
     /// ```
     /// use zektonk::{Answer, Phases};

@@ -1,4 +1,5 @@
-//! Blocks of 512 bytes: 64 little-endian words of 64 bits, a float as its bits; word 63 is the sum of words 0 to 62 modulo 2^64.
+//! Blocks of 512 bytes: 64 little-endian words of 64 bits, a float as its bits; word 63 is the sum of words 0 to 62
+//! modulo 2^64.
 
 /// Bytes of a block.
 pub const BLOCK: usize = 512;

@@ -81,7 +81,8 @@ impl From<(f64, f64)> for Term {
     }
 }
 
-/// A correlation over temperature, of vapor pressure or of liquid density. The core calculates with the vapor pressure; of the density it uses the range.
+/// A correlation over temperature, of vapor pressure or of liquid density. The core calculates with the vapor pressure;
+/// of the density it uses the range.
 #[derive(Debug, Clone, Copy, PartialEq)]
 pub struct Correlation {
     /// Reducing temperature, K.
@@ -173,8 +174,9 @@ impl Pair {
 /// ```
 /// use zektonk::{Book, Correlation, Incomplete, Pair, Solvent};
 ///
-/// let constant = Correlation { t_r: 600.0, reducing_value: 1e6, range: [250.0, 500.0], terms: [(-7.0, 1.0).into()].into() };
-/// let solvent = |cas| Solvent { cas, vapor_pressure: constant, density: constant };
+/// let terms = [(-7.0, 1.0).into()].into();
+/// let record = Correlation { t_r: 600.0, reducing_value: 1e6, range: [250.0, 500.0], terms };
+/// let solvent = |cas| Solvent { cas, vapor_pressure: record, density: record };
 /// let pair = Pair { tau_ij: [0.0; 4], tau_ji: [0.0; 4], alpha: [0.3, 0.0], interval: None };
 ///
 /// let book = Book::builder().solvent(solvent(64_175)).solvent(solvent(7_732_185)).pair(0, 1, pair).build()?;

@@ -13,11 +13,11 @@ extern "C" {
     ) -> u64;
 }
 
-/// Answers `question` from `book`: the answer's block, and as many trial blocks as its word 12 says, at the front of `answer`, whose other bytes stay.
-/// With a refusal every byte stays.
+/// Answers `question` from `book`: the answer's block, and as many trial blocks as its word 12 says, at the front of
+/// `answer`, whose other bytes stay. With a refusal every byte stays.
 ///
-/// Any slices may be given, empty ones too. `answer` needs [`ANSWER_ROOM`](crate::ANSWER_ROOM) bytes, otherwise the number is 10. The call allocates nothing
-/// and keeps nothing, so threads may call at one time.
+/// Any slices may be given, empty ones too. `answer` needs [`ANSWER_ROOM`](crate::ANSWER_ROOM) bytes, otherwise the
+/// number is 10. The call allocates nothing and keeps nothing, so threads may call at one time.
 ///
 /// ```
 /// use zektonk::{answer_bytes, Refusal, ANSWER_ROOM};
@@ -33,8 +33,8 @@ extern "C" {
 /// # Ok::<(), Refusal>(())
 /// ```
 pub fn answer_bytes(book: &[u8], question: &[u8], answer: &mut [u8]) -> Result<(), Refusal> {
-    // SAFETY: each pointer and length are those of a slice that lives through the call, `answer` is borrowed alone, and the core
-    // reads and writes inside the slices only.
+    // SAFETY: each pointer and length are those of a slice that lives through the call, `answer` is borrowed alone, and
+    // the core reads and writes inside the slices only.
     #[allow(unsafe_code)]
     let number = unsafe {
         zektonk_answer(book.as_ptr(), book.len(), question.as_ptr(), question.len(), answer.as_mut_ptr(), answer.len())

@@ -1,8 +1,9 @@
-//! The proved phase-equilibrium core, called from Rust: activity coefficients, bubble and dew points, liquid trials, flashes and splits of up to eight
-//! solvents (NRTL with an ideal-gas vapor).
+//! The proved phase-equilibrium core, called from Rust: activity coefficients, bubble and dew points, liquid trials,
+//! flashes and splits of up to eight solvents (NRTL with an ideal-gas vapor).
 //!
-//! A [`Book`] holds the solvents and their pairs, a [`Question`] is a [`Task`] put to a feed, and [`answer`] gives an [`Answer`] or a [`Refusal`].
-//! Nothing is tested on this side: what a question says goes to the core as it is, and the core answers it or refuses with one of 30 numbers.
+//! A [`Book`] holds the solvents and their pairs, a [`Question`] is a [`Task`] put to a feed, and [`answer`] gives an
+//! [`Answer`] or a [`Refusal`]. Nothing is tested on this side: what a question says goes to the core as it is, and the
+//! core answers it or refuses with one of 30 numbers.
 //!
 //! ```
 //! use zektonk::{answer, Answer, Book, Kelvin, Options, Pascal, Phases, Question, Task};

@@ -138,7 +138,8 @@ impl Task {
     }
 }
 
-/// A task and the feed's mole fractions, one for each solvent of the book in its order; those that are missing are 0, those past the book's are not read.
+/// A task and the feed's mole fractions, one for each solvent of the book in its order; those that are missing are 0,
+/// those past the book's are not read.
 #[derive(Debug, Clone, Copy, PartialEq)]
 pub struct Question {
     /// What is asked.

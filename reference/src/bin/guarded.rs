@@ -1,9 +1,10 @@
-//! Calls the core with book, question and answer slices that end, or begin, at a page that can't be touched, and compares every byte with the reference.
+//! Calls the core with book, question and answer slices that end, or begin, at a page that can't be touched, and
+//! compares every byte with the reference.
 //!
 //! guarded [--count N] [--seed S]
 //!
-//! Each slice lies in pages of its own between two pages without access. Book and question can't be written during the call; of the answer's pages every
-//! byte is compared, those outside the slice too.
+//! Each slice lies in pages of its own between two pages without access. Book and question can't be written during the
+//! call; of the answer's pages every byte is compared, those outside the slice too.
 
 use std::ffi::{c_int, c_void};
 use std::process::ExitCode;
@@ -55,7 +56,7 @@ impl Area {
     /// At least `most` bytes.
     fn new(most: usize) -> Self {
         let length = most.div_ceil(PAGE) * PAGE;
-        // SAFETY: a new mapping at an address of the system's choice touches no other memory, and it is never taken away.
+        // SAFETY: a new mapping where the system puts it touches no other memory; it is never taken away.
         let all = unsafe { mmap(ptr::null_mut(), length + 2 * PAGE, NO_ACCESS, PRIVATE_ANONYMOUS, -1, 0) };
         assert!(all as isize != -1, "no pages to be had");
         let area = Self { start: all.cast::<u8>().wrapping_add(PAGE), length };
@@ -143,7 +144,8 @@ impl Pages {
         self.book.allow(READ);
         self.question.allow(READ);
         let lent = |at: *mut u8, length: usize| if call.null && length == 0 { ptr::null_mut() } else { at };
-        // SAFETY: each pointer and length lie in pages of their own, apart from each other, that can be read or written as the core's header asks.
+        // SAFETY: each pointer and length lie in pages of their own, apart from each other, that can be read or written
+        // as the core's header asks.
         let number = unsafe {
             zektonk_answer(
                 lent(self.book.at(book), call.book.len()),
@@ -179,7 +181,7 @@ fn call(rng: &mut Rng, book: Vec<u8>, question: Vec<u8>) -> Call {
     Call { book, question, room: room(rng), at_end, null: rng.one_in(4) }
 }
 
-/// Six calls made from one sheet: as it is at two places, changed thrice, and with a question, and mostly a book, of no meaning.
+/// Six calls made from one sheet: as it is at two places, changed thrice, and with noise for the question.
 fn calls(rng: &mut Rng, book: &[u8], question: &[u8]) -> Vec<Call> {
     let (book, question) = (&book[..book.len().min(BOOK)], &question[..question.len().min(QUESTION)]);
     let mut all = Vec::with_capacity(6);
@@ -192,9 +194,9 @@ fn calls(rng: &mut Rng, book: &[u8], question: &[u8]) -> Vec<Call> {
         let question = if of_question { mutated(rng, question, QUESTION, sealed) } else { question.to_vec() };
         all.push(call(rng, book, if sealed { quick(question) } else { question }));
     }
-    let meaningless = if rng.one_in(3) { book.to_vec() } else { noise(rng, BOOK / 16) };
-    let asked = noise(rng, QUESTION);
-    all.push(call(rng, meaningless, asked));
+    let book = if rng.one_in(3) { book.to_vec() } else { noise(rng, BOOK / 16) };
+    let question = noise(rng, QUESTION);
+    all.push(call(rng, book, question));
     all
 }
 

@@ -2,8 +2,8 @@
 //!
 //! still [--count N] [--seed S] [PROGRAM]
 //!
-//! N generated sheets as files; then the cases that only a program has: books that are missing, folders, unreadable, too long or pipes; questions short, long,
-//! slow or closed; standard output closed, full or without a reader. Every run has to end by itself, with status 0, in its time.
+//! N generated sheets as files, then what only a program meets: kinds of book.bin, of standard input and of standard
+//! output (README.md). Every run has to end by itself, in its time.
 
 use std::fs::{self, File, Permissions};
 use std::io::{Read, Write};
@@ -11,7 +11,6 @@ use std::os::unix::fs::{symlink, PermissionsExt};
 use std::os::unix::process::{CommandExt, ExitStatusExt};
 use std::path::{Path, PathBuf};
 use std::process::{Child, Command, ExitCode, ExitStatus, Stdio};
-use std::sync::mpsc;
 use std::thread;
 use std::time::{Duration, Instant};
 
@@ -107,6 +106,7 @@ impl Drop for Folder {
 }
 
 /// How the question comes in.
+#[derive(Clone, Copy)]
 enum Feed {
     /// Whole, then the end.
     Whole,
@@ -122,26 +122,27 @@ struct Run {
     status: Option<ExitStatus>,
 }
 
-fn run(mut command: Command, question: &[u8], feed: &Feed) -> Run {
+fn run(mut command: Command, question: &[u8], feed: Feed) -> Run {
     let mut child = command.stdin(Stdio::piped()).stdout(Stdio::piped()).spawn().expect("the program starts");
     let mut stdin = child.stdin.take().expect("it is piped");
     let mut stdout = child.stdout.take().expect("it is piped");
-    let (sender, written) = mpsc::channel();
-    thread::spawn(move || {
-        let mut bytes = Vec::new();
-        let _ = stdout.read_to_end(&mut bytes);
-        let _ = sender.send(bytes);
-    });
+    let question = question.to_vec();
     // A program that has read enough may end before all is written.
-    let _ = match feed {
-        Feed::Whole | Feed::Held => stdin.write_all(question),
-        Feed::Slow => write_slowly(&mut stdin, question),
-    };
-    let held = matches!(feed, Feed::Held).then_some(stdin);
-    let written = written.recv_timeout(LIMIT);
+    let writer = thread::spawn(move || {
+        let _ = match feed {
+            Feed::Whole | Feed::Held => stdin.write_all(&question),
+            Feed::Slow => write_slowly(&mut stdin, &question),
+        };
+        matches!(feed, Feed::Held).then_some(stdin)
+    });
+    let reader = thread::spawn(move || {
+        let mut written = Vec::new();
+        let _ = stdout.read_to_end(&mut written);
+        written
+    });
     let status = ended(&mut child);
-    drop(held);
-    Run { written: written.unwrap_or_default(), status }
+    drop(writer.join());
+    Run { written: reader.join().unwrap_or_default(), status }
 }
 
 /// `None`, and the program stopped, where it doesn't end in time.
@@ -222,7 +223,7 @@ fn main() -> ExitCode {
     for _ in 0..options.count {
         let (book, question) = draw();
         folder.write_book(&book);
-        report.compare("files", &book, &question, &run(folder.program(), &question, &Feed::Whole));
+        report.compare("files", &book, &question, &run(folder.program(), &question, Feed::Whole));
     }
     // The rest is slower or has its own files, and is put to a tenth as many sheets, with answers among them.
     let mut closed = 0;
@@ -259,7 +260,7 @@ fn accepted(draw: &mut impl FnMut() -> (Vec<u8>, Vec<u8>)) -> (Vec<u8>, Vec<u8>)
 /// Kinds of book.bin.
 fn books(report: &mut Report, folder: &Folder, book: &[u8], question: &[u8]) {
     let mut put = |what: &str, read: &[u8], command: Command| {
-        report.compare(what, read, question, &run(command, question, &Feed::Whole));
+        report.compare(what, read, question, &run(command, question, Feed::Whole));
     };
     folder.clear();
     put("no book", &[], folder.program());
@@ -276,7 +277,7 @@ fn books(report: &mut Report, folder: &Folder, book: &[u8], question: &[u8]) {
         put("a long book", &long, folder.program());
     }
     folder.write_book(book);
-    fs::set_permissions(folder.book(), Permissions::from_mode(0)).expect("the file is ours");
+    fs::set_permissions(folder.book(), Permissions::from_mode(0o000)).expect("the file is ours");
     if let Some(command) = barred(folder) {
         put("an unreadable book", &[], command);
     }
@@ -301,7 +302,7 @@ fn barred(folder: &Folder) -> Option<Command> {
     Some(command)
 }
 
-/// A byte, a block, and more than what is read, behind a book; whole blocks with right checks up to and past what is read.
+/// Books with a byte or blocks too many, up to what is read and past it; the checks are right, or wrong past it alone.
 fn too_long(book: &[u8]) -> Vec<Vec<u8>> {
     let mut empty = [0; 64];
     seal(&mut empty);
@@ -333,7 +334,9 @@ fn slow_book(report: &mut Report, folder: &Folder, book: &[u8], question: &[u8])
         let mut pipe = fs::OpenOptions::new().write(true).open(path)?;
         write_slowly(&mut pipe, &bytes)
     });
-    report.compare("a slow book", book, question, &run(folder.program(), question, &Feed::Whole));
+    report.compare("a slow book", book, question, &run(folder.program(), question, Feed::Whole));
+    // A program that never opened the pipe would leave its writer waiting.
+    let _other_end = fs::OpenOptions::new().read(true).write(true).open(folder.book());
     let _ = writer.join();
     folder.clear();
 }
@@ -342,7 +345,7 @@ fn slow_book(report: &mut Report, folder: &Folder, book: &[u8], question: &[u8])
 fn questions(report: &mut Report, folder: &Folder, book: &[u8], question: &[u8]) {
     folder.write_book(book);
     let mut put = |what: &str, asked: &[u8], feed: Feed| {
-        report.compare(what, book, asked, &run(folder.program(), asked, &feed));
+        report.compare(what, book, asked, &run(folder.program(), asked, feed));
     };
     let longer = |more: usize| [question, &vec![7; more]].concat();
     put("an empty question", &[], Feed::Whole);
@@ -355,11 +358,11 @@ fn questions(report: &mut Report, folder: &Folder, book: &[u8], question: &[u8])
     put("a long question", &longer(100_000), Feed::Whole);
     put("a slow question", question, Feed::Slow);
     put("a slow long question", &longer(1), Feed::Slow);
-    let closed = run(folder.shell("exec ./still <&-"), &[], &Feed::Whole);
+    let closed = run(folder.shell("exec ./still <&-"), &[], Feed::Whole);
     report.compare("standard input closed", book, &[], &closed);
-    let folded = run(folder.shell("exec ./still <."), &[], &Feed::Whole);
+    let folded = run(folder.shell("exec ./still <."), &[], Feed::Whole);
     report.compare("a folder for a question", book, &[], &folded);
-    let endless = run(folder.shell("exec ./still </dev/zero"), &[], &Feed::Whole);
+    let endless = run(folder.shell("exec ./still </dev/zero"), &[], Feed::Whole);
     report.compare("an endless question", book, &vec![0; BLOCK + 1], &endless);
 }
 
@@ -368,7 +371,7 @@ fn outputs(report: &mut Report, folder: &Folder, book: &[u8], question: &[u8]) -
     folder.write_book(book);
     let lines = ["exec ./still >&-", "exec ./still <&- >&-", "exec ./still >/dev/full"];
     for line in lines {
-        let found = run(folder.shell(line), question, &Feed::Whole);
+        let found = run(folder.shell(line), question, Feed::Whole);
         if !clean(found.status) || !found.written.is_empty() {
             report.differs(line, book, question, &found);
         }
