@@ -57,7 +57,7 @@ enum zektonk_note {
 /* Validity, word 35 of an answer to task 1: T against the regression intervals of the pairs that are present. */
 enum zektonk_validity { ZEKTONK_UNASSESSED = 0, ZEKTONK_WITHIN = 1, ZEKTONK_EXTRAPOLATED = 2 };
 
-/* The first question, in this order, that was answered no; 23 and on come where the calculation puts them. */
+/* The first question that was answered no: 1 to 21 in this order, the others, and 15 to 18 once more, where the calculation puts them. */
 enum zektonk_refusal {
     ZEKTONK_ANSWERED = 0,
     ZEKTONK_BOOK_LENGTH = 1,              /* no whole blocks, or none */
