@@ -81,14 +81,14 @@ pub struct Energies {
     pub heat_capacity: f64,
 }
 
-/// Where the temperature lies.
+/// Where the temperature lies, by the pairs that are present.
 #[derive(Debug, Clone, Copy, PartialEq, Eq)]
 pub enum Validity {
-    /// No interval to tell by.
+    /// Outside no interval, but a pair has none, or there is no pair.
     Unassessed,
-    /// Within every interval.
+    /// Within the interval of every pair.
     Within,
-    /// Outside one.
+    /// Outside the interval of a pair.
     Extrapolated,
 }
 
@@ -112,7 +112,7 @@ pub struct Saturation {
 /// Tangent-plane trials of a liquid.
 #[derive(Debug, Clone, PartialEq)]
 pub struct Stability {
-    /// Whether no trial found a lower tangent plane.
+    /// Whether no trial but a trivial one ended below the threshold.
     pub stable: bool,
     /// One from each present solvent; none where fewer than two are present.
     pub trials: Vec<Trial>,
@@ -127,7 +127,7 @@ pub struct Trial {
     pub distance: f64,
     /// How many it took.
     pub iterations: u64,
-    /// Whether it came back to the liquid under test.
+    /// Whether it ended at the liquid under test.
     pub trivial: bool,
     /// Mole fractions where it ended.
     pub fractions: UpToEight<f64>,

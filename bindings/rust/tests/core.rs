@@ -52,6 +52,15 @@ fn excess_of_two_solvents_and_of_one() {
     };
     assert_eq!(pure.ln_gamma[0], 0.0);
     assert_eq!(pure.validity, Validity::Unassessed, "no pair is present");
+    let validity = |book: &Book<'_>, t| match answer(
+        book,
+        &Question::new(Task::ExcessAt { temperature: Kelvin(t) }, [0.5, 0.5]),
+    ) {
+        Ok(Answer::Excess(found)) => found.validity,
+        other => panic!("task 1: {other:?}"),
+    };
+    assert_eq!(validity(&ethanol_water().unwrap(), 400.0), Validity::Extrapolated);
+    assert_eq!(validity(&immiscible(), 400.0), Validity::Unassessed, "the pair has no interval");
 }
 
 #[test]
