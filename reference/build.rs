@@ -15,8 +15,12 @@ fn main() {
     let here = PathBuf::from(env::var("CARGO_MANIFEST_DIR").expect("cargo sets it"));
     let out = PathBuf::from(env::var("OUT_DIR").expect("cargo sets it"));
     assemble_all(&folder(&here, "ZEKTONK_RUST", "../../shared/docs/src"), &out);
-    if STAGES.iter().any(|stage| env::var(format!("CARGO_FEATURE_{stage}")).is_ok()) {
-        link(&folder(&here, "ZEKTONK_LIB", "../target/staticlib"));
+    let asked = |feature: &str| env::var(format!("CARGO_FEATURE_{feature}")).is_ok();
+    let libraries = folder(&here, "ZEKTONK_LIB", "../target/staticlib");
+    if STAGES.iter().any(|stage| asked(stage)) {
+        link(&libraries, "exports");
+    } else if asked("DESK") {
+        link(&libraries, "sheet");
     }
 }
 
@@ -36,13 +40,13 @@ fn assemble_all(rust: &Path, out: &Path) {
     }
 }
 
-fn link(folder: &Path) {
-    let library = folder.join("libexports.a");
+fn link(folder: &Path, name: &str) {
+    let library = folder.join(format!("lib{name}.a"));
     println!("cargo:rerun-if-changed={}", library.display());
     if !library.exists() {
         panic!("the core's library is not at {}; set ZEKTONK_LIB", library.display());
     }
     println!("cargo:rustc-link-search=native={}", folder.display());
-    println!("cargo:rustc-link-lib=static=exports");
+    println!("cargo:rustc-link-lib=static={name}");
     println!("cargo:rustc-link-lib=m");
 }

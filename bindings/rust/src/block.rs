@@ -1,0 +1,135 @@
+//! Blocks of 512 bytes: 64 little-endian words of 64 bits, a float as its bits; word 63 is the sum of words 0 to 62
+//! modulo 2^64.
+
+/// Bytes of a block.
+pub const BLOCK: usize = 512;
+
+/// Words of a block, the check among them.
+const WORDS: usize = BLOCK / 8;
+
+/// A block of somebody's bytes, read where it lies.
+///
+/// ```
+/// use zektonk::{Block, Words};
+///
+/// let bytes = Words::new(8).word(1, 2).float(2, 350.0).seal();
+/// let block = Block::new(&bytes);
+/// assert_eq!((block.word(1), block.float(2)), (2, 350.0));
+/// assert!(block.check_is_right());
+/// let mut damaged = bytes;
+/// damaged[8] ^= 1;
+/// assert!(!Block::new(&damaged).check_is_right());
+/// ```
+#[derive(Debug, Clone, Copy)]
+pub struct Block<'a>(&'a [u8; BLOCK]);
+
+impl<'a> Block<'a> {
+    /// The block of these bytes.
+    pub fn new(bytes: &'a [u8; BLOCK]) -> Self {
+        Self(bytes)
+    }
+
+    /// Block `at` of a row of blocks, if it is there whole.
+    pub fn of(bytes: &'a [u8], at: usize) -> Option<Self> {
+        let from = at.checked_mul(BLOCK)?;
+        bytes.get(from..)?.first_chunk().map(Self)
+    }
+
+    /// Its bytes.
+    pub fn bytes(self) -> &'a [u8; BLOCK] {
+        self.0
+    }
+
+    /// A word by its place, 0 to 63; panics past that.
+    pub fn word(self, at: usize) -> u64 {
+        let bytes = self.0[8 * at..].first_chunk().expect("a block has 64 words");
+        u64::from_le_bytes(*bytes)
+    }
+
+    /// The float whose bits a word holds.
+    pub fn float(self, at: usize) -> f64 {
+        f64::from_bits(self.word(at))
+    }
+
+    /// Sum of words 0 to 62 modulo 2^64.
+    pub fn sum(self) -> u64 {
+        (0..WORDS - 1).fold(0, |sum, at| sum.wrapping_add(self.word(at)))
+    }
+
+    /// Whether word 63 is that sum.
+    pub fn check_is_right(self) -> bool {
+        self.word(WORDS - 1) == self.sum()
+    }
+}
+
+/// The words of a block in the making; those not set are 0.
+#[derive(Debug, Clone)]
+pub struct Words([u8; BLOCK]);
+
+impl Words {
+    /// Word 0 is the kind.
+    pub fn new(kind: u64) -> Self {
+        Self([0; BLOCK]).word(0, kind)
+    }
+
+    /// Sets a word by its place, 0 to 62; panics past that.
+    pub fn word(mut self, at: usize, value: u64) -> Self {
+        assert!(at < WORDS - 1, "word 63 is the check");
+        self.0[8 * at..8 * at + 8].copy_from_slice(&value.to_le_bytes());
+        self
+    }
+
+    /// Sets a word to a float's bits.
+    pub fn float(self, at: usize, value: f64) -> Self {
+        self.word(at, value.to_bits())
+    }
+
+    /// Sets words in a row.
+    pub fn floats(self, at: usize, values: &[f64]) -> Self {
+        values.iter().zip(at..).fold(self, |words, (value, at)| words.float(at, *value))
+    }
+
+    /// The block's bytes with its check.
+    pub fn seal(mut self) -> [u8; BLOCK] {
+        let sum = Block::new(&self.0).sum();
+        self.0[BLOCK - 8..].copy_from_slice(&sum.to_le_bytes());
+        self.0
+    }
+}
+
+#[cfg(test)]
+mod tests {
+    use super::*;
+
+    #[test]
+    fn sum_wraps() {
+        let bytes = Words::new(u64::MAX).word(1, 3).word(62, 1).seal();
+        assert_eq!(Block::new(&bytes).word(63), 3);
+        assert!(Block::new(&bytes).check_is_right());
+    }
+
+    #[test]
+    fn floats_keep_their_bits() {
+        for value in [-0.0, f64::from_bits(1), f64::NEG_INFINITY, f64::from_bits(0x7ff8_0000_dead_beef)] {
+            let bytes = Words::new(8).float(5, value).seal();
+            assert_eq!(Block::new(&bytes).word(5), value.to_bits());
+        }
+    }
+
+    #[test]
+    fn blocks_of_a_row() {
+        let row = [Words::new(1).seal(), Words::new(2).seal()].concat();
+        assert_eq!(Block::of(&row, 1).map(|block| block.word(0)), Some(2));
+        assert!(Block::of(&row, 2).is_none());
+        assert!(Block::of(&row[..1023], 1).is_none());
+        assert!(Block::of(&row, usize::MAX).is_none());
+        // The caller's own bytes.
+        assert!(std::ptr::eq(Block::of(&row, 1).unwrap().bytes().as_ptr(), &row[512]));
+    }
+
+    #[test]
+    #[should_panic(expected = "word 63 is the check")]
+    fn the_check_is_not_set_by_hand() {
+        let _ = Words::new(1).word(63, 0);
+    }
+}

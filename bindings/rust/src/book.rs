@@ -1,0 +1,349 @@
+//! Books: the solvents and their pairs.
+
+use std::borrow::Cow;
+use std::fmt;
+
+use crate::block::{Block, Words, BLOCK};
+use crate::UpToEight;
+
+/// Bytes of the largest book: eight solvents and their 28 pairs.
+pub const BOOK_LARGEST: usize = 37 * BLOCK;
+
+/// One block more than any book has: who reads a book up to here sees that it is too long.
+pub const BOOK_MOST: usize = 38 * BLOCK;
+
+/// First word of a solvent's two records.
+const VAPOR_PRESSURE: usize = 3;
+const DENSITY: usize = 24;
+
+/// The bytes of a book, borrowed or owned. They are not tested here: [`answer`](crate::answer) does that.
+///
+/// ```
+/// use zektonk::Book;
+///
+/// let bytes = include_bytes!("../../../crates/still/data/book.bin");
+/// let book = Book::from(&bytes[..]);
+/// assert_eq!(book.solvents(), Some(2));
+/// assert_eq!(book.block(2).map(|water| water.word(2)), Some(7_732_185));
+/// ```
+#[derive(Debug, Clone, PartialEq, Eq)]
+pub struct Book<'a> {
+    bytes: Cow<'a, [u8]>,
+}
+
+impl<'a> From<&'a [u8]> for Book<'a> {
+    fn from(bytes: &'a [u8]) -> Self {
+        Self { bytes: Cow::Borrowed(bytes) }
+    }
+}
+
+impl From<Vec<u8>> for Book<'_> {
+    fn from(bytes: Vec<u8>) -> Self {
+        Self { bytes: Cow::Owned(bytes) }
+    }
+}
+
+impl Book<'_> {
+    /// Puts a book together from solvents and pairs.
+    pub fn builder() -> Builder {
+        Builder::default()
+    }
+
+    /// All bytes.
+    pub fn bytes(&self) -> &[u8] {
+        &self.bytes
+    }
+
+    /// A block by its place: block 0, the solvents, the pairs.
+    pub fn block(&self, at: usize) -> Option<Block<'_>> {
+        Block::of(&self.bytes, at)
+    }
+
+    /// How many solvents block 0 says there are, if that is 1 to 8.
+    pub fn solvents(&self) -> Option<usize> {
+        let n = self.block(0)?.word(2);
+        (1..=8).contains(&n).then_some(n as usize)
+    }
+}
+
+/// A term n θ^t of a correlation, θ = 1 − T/t_r.
+#[derive(Debug, Clone, Copy, PartialEq, Default)]
+pub struct Term {
+    /// Coefficient.
+    pub n: f64,
+    /// Exponent.
+    pub exponent: f64,
+}
+
+impl From<(f64, f64)> for Term {
+    fn from((n, exponent): (f64, f64)) -> Self {
+        Self { n, exponent }
+    }
+}
+
+/// A correlation over temperature, of vapor pressure or of liquid density. The core calculates with the vapor pressure;
+/// of the density it uses the range.
+#[derive(Debug, Clone, Copy, PartialEq)]
+pub struct Correlation {
+    /// Reducing temperature, K.
+    pub t_r: f64,
+    /// Reducing pressure (Pa) or density.
+    pub reducing_value: f64,
+    /// Lowest and highest temperature, K.
+    pub range: [f64; 2],
+    /// One to eight terms.
+    pub terms: UpToEight<Term>,
+}
+
+impl Correlation {
+    /// 21 words from `at`.
+    fn put(&self, words: Words, at: usize) -> Words {
+        let columns = self.terms.iter().enumerate();
+        let words = words
+            .float(at, self.t_r)
+            .float(at + 1, self.reducing_value)
+            .floats(at + 2, &self.range)
+            .word(at + 4, self.terms.len() as u64);
+        columns.fold(words, |words, (k, term)| words.float(at + 5 + k, term.n).float(at + 13 + k, term.exponent))
+    }
+}
+
+/// A solvent's records.
+#[derive(Debug, Clone, Copy, PartialEq)]
+pub struct Solvent {
+    /// CAS number without hyphens; not 0, and no other solvent's.
+    pub cas: u64,
+    /// ln(p/p_r) = (t_r/T) Σ n θ^t, p in Pa.
+    pub vapor_pressure: Correlation,
+    /// Liquid density.
+    pub density: Correlation,
+}
+
+impl Solvent {
+    fn encode(&self, index: usize) -> [u8; BLOCK] {
+        let words = Words::new(2).word(1, index as u64).word(2, self.cas);
+        self.density.put(self.vapor_pressure.put(words, VAPOR_PRESSURE), DENSITY).seal()
+    }
+}
+
+/// Where a pair's parameters were regressed.
+#[derive(Debug, Clone, Copy, PartialEq)]
+pub struct Interval {
+    /// Lowest temperature, K.
+    pub low: f64,
+    /// Highest temperature, K.
+    pub high: f64,
+    /// Whether the bounds were inferred, not stated.
+    pub inferred: bool,
+}
+
+/// NRTL parameters of two solvents i < j; T in K.
+#[derive(Debug, Clone, Copy, PartialEq)]
+pub struct Pair {
+    /// τ_ij = t0 + t1/T + t2 ln T + t3 T.
+    pub tau_ij: [f64; 4],
+    /// τ_ji likewise.
+    pub tau_ji: [f64; 4],
+    /// α = a0 + a1 T, one for both directions.
+    pub alpha: [f64; 2],
+    /// The regression interval, if there is one.
+    pub interval: Option<Interval>,
+}
+
+impl Pair {
+    fn encode(&self, i: usize, j: usize) -> [u8; BLOCK] {
+        let words = Words::new(3)
+            .word(1, i as u64)
+            .word(2, j as u64)
+            .floats(3, &self.tau_ij)
+            .floats(7, &self.tau_ji)
+            .floats(11, &self.alpha)
+            .floats(13, &self.alpha);
+        let words = match self.interval {
+            None => words,
+            Some(Interval { low, high, inferred }) => {
+                words.word(15, 1).floats(16, &[low, high]).word(18, inferred.into())
+            }
+        };
+        words.seal()
+    }
+}
+
+/// A book in the making.
+///
+/// ```
+/// use zektonk::{Book, Correlation, Incomplete, Pair, Solvent};
+///
+/// let terms = [(-7.0, 1.0).into()].into();
+/// let record = Correlation { t_r: 600.0, reducing_value: 1e6, range: [250.0, 500.0], terms };
+/// let solvent = |cas| Solvent { cas, vapor_pressure: record, density: record };
+/// let pair = Pair { tau_ij: [0.0; 4], tau_ji: [0.0; 4], alpha: [0.3, 0.0], interval: None };
+///
+/// let book = Book::builder().solvent(solvent(64_175)).solvent(solvent(7_732_185)).pair(0, 1, pair).build()?;
+/// assert_eq!(book.bytes().len(), 4 * zektonk::BLOCK);
+///
+/// let lacking = Book::builder().solvent(solvent(64_175)).solvent(solvent(7_732_185)).build();
+/// assert_eq!(lacking, Err(Incomplete::PairMissing(0, 1)));
+/// # Ok::<(), Incomplete>(())
+/// ```
+#[derive(Debug, Clone, Default)]
+pub struct Builder {
+    solvents: Vec<Solvent>,
+    pairs: Vec<(usize, usize, Pair)>,
+}
+
+/// Why there is no book yet. What its numbers are worth is for the core to say.
+#[derive(Debug, Clone, Copy, PartialEq, Eq)]
+pub enum Incomplete {
+    /// Not 1 to 8 solvents; how many.
+    Solvents(usize),
+    /// Not i < j of two solvents.
+    PairPlaces(usize, usize),
+    /// A pair given twice.
+    PairTwice(usize, usize),
+    /// A pair not given.
+    PairMissing(usize, usize),
+}
+
+impl fmt::Display for Incomplete {
+    fn fmt(&self, f: &mut fmt::Formatter<'_>) -> fmt::Result {
+        match self {
+            Self::Solvents(count) => write!(f, "{count} solvents where 1 to 8 go into a book"),
+            Self::PairPlaces(i, j) => write!(f, "pair ({i}, {j}) is not of two solvents in order"),
+            Self::PairTwice(i, j) => write!(f, "pair ({i}, {j}) is given twice"),
+            Self::PairMissing(i, j) => write!(f, "pair ({i}, {j}) is missing"),
+        }
+    }
+}
+
+impl std::error::Error for Incomplete {}
+
+impl Builder {
+    /// The next solvent; the first has index 0.
+    pub fn solvent(mut self, solvent: Solvent) -> Self {
+        self.solvents.push(solvent);
+        self
+    }
+
+    /// The pair of solvents i < j. Pairs may come in any order.
+    pub fn pair(mut self, i: usize, j: usize, pair: Pair) -> Self {
+        self.pairs.push((i, j, pair));
+        self
+    }
+
+    /// The book, if each pair of its solvents is there once.
+    pub fn build(&self) -> Result<Book<'static>, Incomplete> {
+        let n = self.solvents.len();
+        if !(1..=8).contains(&n) {
+            return Err(Incomplete::Solvents(n));
+        }
+        if let Some((i, j, _)) = self.pairs.iter().find(|(i, j, _)| i >= j || *j >= n) {
+            return Err(Incomplete::PairPlaces(*i, *j));
+        }
+        let mut bytes = Vec::with_capacity((1 + n + n * (n - 1) / 2) * BLOCK);
+        bytes.extend_from_slice(&Words::new(1).word(1, 1).word(2, n as u64).seal());
+        for (index, solvent) in self.solvents.iter().enumerate() {
+            bytes.extend_from_slice(&solvent.encode(index));
+        }
+        for (i, j) in (0..n).flat_map(|i| (i + 1..n).map(move |j| (i, j))) {
+            bytes.extend_from_slice(&self.due(i, j)?.encode(i, j));
+        }
+        Ok(Book::from(bytes))
+    }
+
+    fn due(&self, i: usize, j: usize) -> Result<&Pair, Incomplete> {
+        let mut found = self.pairs.iter().filter(|(a, b, _)| (*a, *b) == (i, j));
+        match (found.next(), found.next()) {
+            (None, _) => Err(Incomplete::PairMissing(i, j)),
+            (Some(_), Some(_)) => Err(Incomplete::PairTwice(i, j)),
+            (Some((_, _, pair)), None) => Ok(pair),
+        }
+    }
+}
+
+#[cfg(test)]
+mod tests {
+    use super::*;
+
+    fn solvent(cas: u64) -> Solvent {
+        let record = |first: f64| Correlation {
+            t_r: first,
+            reducing_value: first + 1.0,
+            range: [first + 2.0, first + 3.0],
+            terms: [(first + 4.0, first + 5.0).into(), (first + 6.0, first + 7.0).into()].into(),
+        };
+        Solvent { cas, vapor_pressure: record(10.0), density: record(20.0) }
+    }
+
+    fn pair(first: f64) -> Pair {
+        Pair { tau_ij: [first; 4], tau_ji: [first + 0.5; 4], alpha: [0.3, 0.1], interval: None }
+    }
+
+    #[test]
+    fn words_of_a_solvent() {
+        let bytes = solvent(77).encode(3);
+        let block = Block::new(&bytes);
+        assert_eq!([0, 1, 2, 7, 28].map(|at| block.word(at)), [2, 3, 77, 2, 2]);
+        assert_eq!(
+            [3, 4, 5, 6, 8, 9, 16, 17].map(|at| block.float(at)),
+            [10.0, 11.0, 12.0, 13.0, 14.0, 16.0, 15.0, 17.0]
+        );
+        assert_eq!(
+            [24, 25, 26, 27, 29, 30, 37, 38].map(|at| block.float(at)),
+            [20.0, 21.0, 22.0, 23.0, 24.0, 26.0, 25.0, 27.0]
+        );
+        assert!([10, 15, 18, 23, 31, 36, 39, 44, 62].iter().all(|at| block.word(*at) == 0));
+    }
+
+    #[test]
+    fn words_of_a_pair() {
+        let interval = Some(Interval { low: 300.0, high: 350.0, inferred: true });
+        let with = Pair { tau_ij: [1.0, 2.0, 3.0, 4.0], tau_ji: [5.0, 6.0, 7.0, 8.0], alpha: [9.0, 10.0], interval };
+        let bytes = with.encode(2, 5);
+        let block = Block::new(&bytes);
+        assert_eq!([0, 1, 2, 15, 18].map(|at| block.word(at)), [3, 2, 5, 1, 1]);
+        let floats: Vec<f64> = (3..15).chain(16..18).map(|at| block.float(at)).collect();
+        assert_eq!(floats, [1.0, 2.0, 3.0, 4.0, 5.0, 6.0, 7.0, 8.0, 9.0, 10.0, 9.0, 10.0, 300.0, 350.0]);
+        let bytes = Pair { interval: None, ..with }.encode(2, 5);
+        assert!((15..63).all(|at| Block::new(&bytes).word(at) == 0));
+    }
+
+    #[test]
+    fn pairs_come_out_in_their_order() {
+        let three = Book::builder().solvent(solvent(1)).solvent(solvent(2)).solvent(solvent(3));
+        let book = three.pair(1, 2, pair(12.0)).pair(0, 1, pair(1.0)).pair(0, 2, pair(2.0)).build().unwrap();
+        let taus: Vec<f64> = (4..7).map(|at| book.block(at).unwrap().float(3)).collect();
+        assert_eq!(taus, [1.0, 2.0, 12.0]);
+        assert!((0..7).all(|at| book.block(at).unwrap().check_is_right()));
+        assert!(book.block(7).is_none());
+        assert_eq!(book.solvents(), Some(3));
+    }
+
+    #[test]
+    fn what_is_incomplete() {
+        assert_eq!(Book::builder().build(), Err(Incomplete::Solvents(0)));
+        let nine = (1..=9).fold(Book::builder(), |book, cas| book.solvent(solvent(cas)));
+        assert_eq!(nine.build(), Err(Incomplete::Solvents(9)));
+        let two = Book::builder().solvent(solvent(1)).solvent(solvent(2));
+        assert_eq!(two.build(), Err(Incomplete::PairMissing(0, 1)));
+        assert_eq!(two.clone().pair(1, 0, pair(1.0)).build(), Err(Incomplete::PairPlaces(1, 0)));
+        assert_eq!(two.clone().pair(0, 2, pair(1.0)).build(), Err(Incomplete::PairPlaces(0, 2)));
+        assert_eq!(two.pair(0, 1, pair(1.0)).pair(0, 1, pair(1.0)).build(), Err(Incomplete::PairTwice(0, 1)));
+    }
+
+    #[test]
+    fn eight_solvents_make_the_largest_book() {
+        let mut eight = (1..=8).fold(Book::builder(), |book, cas| book.solvent(solvent(cas)));
+        for (i, j) in (0..8).flat_map(|i| (i + 1..8).map(move |j| (i, j))) {
+            eight = eight.pair(i, j, pair(0.0));
+        }
+        assert_eq!(eight.build().unwrap().bytes().len(), BOOK_LARGEST);
+    }
+
+    #[test]
+    fn borrowed_bytes_stay_where_they_are() {
+        let bytes = [1, 2, 3];
+        assert!(std::ptr::eq(Book::from(&bytes[..]).bytes().as_ptr(), bytes.as_ptr()));
+        assert_eq!(Book::from(&bytes[..]).solvents(), None);
+    }
+}

@@ -1,0 +1,232 @@
+//! Questions: a task with the inputs that it reads, put to a feed.
+
+use crate::block::{Words, BLOCK};
+use crate::UpToEight;
+
+/// Places of the question's words.
+const TASK: usize = 1;
+const TEMPERATURE: usize = 2;
+const PRESSURE: usize = 3;
+const FRACTIONS: usize = 4;
+const MAX_ITERATIONS: usize = 12;
+const TOLERANCE: usize = 13;
+const MAX_TEMPERATURE_ITERATIONS: usize = 14;
+const ENERGY_TOLERANCE: usize = 15;
+const TM_THRESHOLD: usize = 16;
+const BRACKET: usize = 17;
+const K_VALUES: usize = 19;
+
+/// A temperature in kelvin; any float, tested by the core.
+#[derive(Debug, Clone, Copy, PartialEq, PartialOrd, Default)]
+pub struct Kelvin(pub f64);
+
+/// A pressure in pascals; any float, tested by the core.
+#[derive(Debug, Clone, Copy, PartialEq, PartialOrd, Default)]
+pub struct Pascal(pub f64);
+
+/// How the solvers iterate. All of it is tested for every task that takes options, what the task doesn't use too.
+#[derive(Debug, Clone, Copy, PartialEq)]
+pub struct Options {
+    /// Limit of a dew point, a trial or a flash; 1 to 1,000,000.
+    pub max_iterations: u64,
+    /// Above 0, up to 1e-6.
+    pub tolerance: f64,
+    /// Limit of a bubble or dew temperature; 1 to 1,000,000.
+    pub max_temperature_iterations: u64,
+    /// Above 0, up to 1e-6; used by no task.
+    pub energy_tolerance: f64,
+    /// Tangent-plane distance below which a trial finds the liquid unstable; negative.
+    pub tm_threshold: f64,
+    /// Where a bubble or dew temperature is looked for: low and high, within 273.16 to 450 K.
+    pub bracket: [Kelvin; 2],
+}
+
+impl Default for Options {
+    /// 500 and 200 iterations, tolerances 1e-13 and 1e-10, threshold -1e-8, 273.16 to 450 K.
+    fn default() -> Self {
+        Self {
+            max_iterations: 500,
+            tolerance: 1e-13,
+            max_temperature_iterations: 200,
+            energy_tolerance: 1e-10,
+            tm_threshold: -1e-8,
+            bracket: [Kelvin(273.16), Kelvin(450.0)],
+        }
+    }
+}
+
+/// What is asked of a feed, with the inputs that are read.
+#[derive(Debug, Clone, Copy, PartialEq)]
+pub enum Task {
+    /// 1: activity coefficients and excess properties.
+    ExcessAt {
+        /// Of the liquid.
+        temperature: Kelvin,
+    },
+    /// 2: the pressure where the feed, a liquid, begins to boil.
+    BubblePressure {
+        /// Of the liquid.
+        temperature: Kelvin,
+    },
+    /// 3: the pressure where the feed, a vapor, begins to condense.
+    DewPressure {
+        /// Of the vapor.
+        temperature: Kelvin,
+        /// Limit and tolerance.
+        options: Options,
+    },
+    /// 4: the temperature where the feed, a liquid, begins to boil.
+    BubbleTemperature {
+        /// Of the liquid.
+        pressure: Pascal,
+        /// Limit, tolerance and bracket.
+        options: Options,
+    },
+    /// 5: the temperature where the feed, a vapor, begins to condense.
+    DewTemperature {
+        /// Of the vapor.
+        pressure: Pascal,
+        /// Limits, tolerance and bracket.
+        options: Options,
+    },
+    /// 6: tangent-plane trials of the feed as a liquid.
+    LiquidStability {
+        /// Of the liquid.
+        temperature: Kelvin,
+        /// Limit and threshold.
+        options: Options,
+    },
+    /// 7: the phases of the feed.
+    TpFlash {
+        /// Of all phases.
+        temperature: Kelvin,
+        /// Of all phases.
+        pressure: Pascal,
+        /// Limit, tolerance and threshold.
+        options: Options,
+    },
+    /// 8: the split for given K values.
+    RachfordRice {
+        /// Vapor over liquid, one for each solvent.
+        k: UpToEight<f64>,
+        /// At most 1,000,000.
+        max_iterations: u64,
+    },
+    /// 9: the same with the vapor fraction outside 0 to 1 allowed.
+    RachfordRiceNegative {
+        /// Vapor over liquid, one for each solvent.
+        k: UpToEight<f64>,
+        /// At most 1,000,000.
+        max_iterations: u64,
+    },
+}
+
+impl Task {
+    /// The task's number, 1 to 9.
+    pub fn number(&self) -> u64 {
+        match self {
+            Self::ExcessAt { .. } => 1,
+            Self::BubblePressure { .. } => 2,
+            Self::DewPressure { .. } => 3,
+            Self::BubbleTemperature { .. } => 4,
+            Self::DewTemperature { .. } => 5,
+            Self::LiquidStability { .. } => 6,
+            Self::TpFlash { .. } => 7,
+            Self::RachfordRice { .. } => 8,
+            Self::RachfordRiceNegative { .. } => 9,
+        }
+    }
+}
+
+/// A task and the feed's mole fractions, one for each solvent of the book in its order; those that are missing are 0,
+/// those past the book's are not read.
+#[derive(Debug, Clone, Copy, PartialEq)]
+pub struct Question {
+    /// What is asked.
+    pub task: Task,
+    /// Mole fractions.
+    pub feed: UpToEight<f64>,
+}
+
+impl Question {
+    /// A task put to a feed.
+    pub fn new(task: Task, feed: impl Into<UpToEight<f64>>) -> Self {
+        Self { task, feed: feed.into() }
+    }
+
+    /// The question's block. Words that the task doesn't read are 0.
+    pub fn encode(&self) -> [u8; BLOCK] {
+        let words = Words::new(8).word(TASK, self.task.number()).floats(FRACTIONS, &self.feed);
+        let heat = |words: Words, t: &Kelvin| words.float(TEMPERATURE, t.0);
+        let press = |words: Words, p: &Pascal| words.float(PRESSURE, p.0);
+        let words = match &self.task {
+            Task::ExcessAt { temperature } | Task::BubblePressure { temperature } => heat(words, temperature),
+            Task::DewPressure { temperature, options } | Task::LiquidStability { temperature, options } => {
+                put_options(heat(words, temperature), options)
+            }
+            Task::BubbleTemperature { pressure, options } | Task::DewTemperature { pressure, options } => {
+                put_options(press(words, pressure), options)
+            }
+            Task::TpFlash { temperature, pressure, options } => {
+                put_options(press(heat(words, temperature), pressure), options)
+            }
+            Task::RachfordRice { k, max_iterations } | Task::RachfordRiceNegative { k, max_iterations } => {
+                words.floats(K_VALUES, k).word(MAX_ITERATIONS, *max_iterations)
+            }
+        };
+        words.seal()
+    }
+}
+
+fn put_options(words: Words, options: &Options) -> Words {
+    words
+        .word(MAX_ITERATIONS, options.max_iterations)
+        .float(TOLERANCE, options.tolerance)
+        .word(MAX_TEMPERATURE_ITERATIONS, options.max_temperature_iterations)
+        .float(ENERGY_TOLERANCE, options.energy_tolerance)
+        .float(TM_THRESHOLD, options.tm_threshold)
+        .floats(BRACKET, &options.bracket.map(|t| t.0))
+}
+
+#[cfg(test)]
+mod tests {
+    use super::*;
+    use crate::Block;
+
+    #[test]
+    fn the_stored_question() {
+        let task =
+            Task::TpFlash { temperature: Kelvin(351.44), pressure: Pascal(90_000.0), options: Options::default() };
+        let stored = include_bytes!("../../../crates/still/stdin");
+        assert_eq!(&Question::new(task, [0.5, 0.5]).encode(), stored);
+    }
+
+    #[test]
+    fn k_values_and_their_limit() {
+        let task = Task::RachfordRiceNegative { k: [2.0, 0.5].into(), max_iterations: 200 };
+        let bytes = Question::new(task, [0.25, 0.75]).encode();
+        let block = Block::new(&bytes);
+        assert_eq!([block.word(0), block.word(1), block.word(12)], [8, 9, 200]);
+        assert_eq!([block.float(4), block.float(5), block.float(19), block.float(20)], [0.25, 0.75, 2.0, 0.5]);
+        assert_eq!([block.word(2), block.word(3), block.word(13), block.word(17)], [0; 4]);
+        assert!(block.check_is_right());
+    }
+
+    #[test]
+    fn each_input_stands_in_its_word() {
+        let options = Options {
+            max_iterations: 3,
+            tolerance: 4.0,
+            max_temperature_iterations: 5,
+            energy_tolerance: 6.0,
+            tm_threshold: 7.0,
+            bracket: [Kelvin(8.0), Kelvin(9.0)],
+        };
+        let task = Task::DewTemperature { pressure: Pascal(2.0), options };
+        let bytes = Question::new(task, [1.0]).encode();
+        let block = Block::new(&bytes);
+        assert_eq!([block.word(1), block.word(2), block.word(12), block.word(14)], [5, 0, 3, 5]);
+        let floats = [3, 4, 13, 15, 16, 17, 18].map(|at| block.float(at));
+        assert_eq!(floats, [2.0, 1.0, 4.0, 6.0, 7.0, 8.0, 9.0]);
+    }
+}

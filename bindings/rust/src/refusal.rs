@@ -1,0 +1,111 @@
+//! The 30 numbers that a call is refused with.
+
+use std::fmt;
+
+macro_rules! refusals {
+    ($($number:literal $name:ident $text:literal)*) => {
+        /// Why there is no answer: the first question put to the call that was answered no.
+        #[derive(Debug, Clone, Copy, PartialEq, Eq, Hash, PartialOrd, Ord)]
+        #[repr(u8)]
+        pub enum Refusal {
+            $(
+                #[doc = concat!($number, ": ", $text, ".")]
+                $name = $number,
+            )*
+        }
+
+        impl Refusal {
+            /// All of them, in order.
+            pub const ALL: [Self; 30] = [$(Self::$name),*];
+
+            fn text(self) -> &'static str {
+                match self {
+                    $(Self::$name => $text,)*
+                }
+            }
+        }
+    };
+}
+
+refusals! {
+    1 BookLength "the book is empty or not of whole blocks"
+    2 BookCheck "a check of the book is wrong"
+    3 BookHead "the book's kind, version, number of solvents or number of blocks is wrong"
+    4 SolventBlock "a solvent's kind, index, CAS number or term count is wrong"
+    5 SolventNumber "a solvent's numbers are not finite, not ordered as 0 < low ≤ high < t_r, or its reducing value is not positive"
+    6 SolventTwice "two solvents have one CAS number"
+    7 PairBlock "a pair's kind, places or flags are wrong"
+    8 PairNumber "a pair's numbers are not finite"
+    9 PairAlphas "the two alphas of a pair differ"
+    10 AnswerShort "the answer slice is shorter than 4,608 bytes"
+    11 QuestionBlock "the question is not 512 bytes, or its check or kind is wrong"
+    12 Task "the task is none of 1 to 9"
+    13 Temperature "the temperature is not finite and positive"
+    14 Pressure "the pressure is not finite and positive"
+    15 NotFinite "a mole fraction or a K value is not finite"
+    16 FractionNegative "a mole fraction is negative"
+    17 KNotPositive "a K value is not positive"
+    18 FractionSum "the mole fractions don't add up to 1 within 1e-10"
+    19 Options "a tolerance, the trial threshold or the temperature bracket is not allowed"
+    20 LimitZero "an iteration limit is 0"
+    21 LimitHigh "an iteration limit is above 1,000,000"
+    22 TemperatureOutside "a temperature is outside 273.16 to 450 K or a solvent's range"
+    23 PressureOutside "a pressure is outside 100 to 500,000 Pa"
+    24 AlphaNotPositive "an alpha is not positive at the temperature"
+    25 ResultNotFinite "a result is not finite, or not positive where it must be"
+    26 NotBracketed "the root is not bracketed"
+    27 NotConverged "the limit was used up, or the bracket collapsed"
+    28 KOneSided "the K values are not on both sides of 1"
+    29 LiquidUnstable "a trial of the liquid found a lower tangent plane"
+    30 VaporFractionOutside "the vapor fraction is outside (0, 1)"
+}
+
+impl Refusal {
+    /// The number, 1 to 30.
+    pub fn number(self) -> u64 {
+        self as u64
+    }
+
+    /// The refusal of a number.
+    ///
+    /// ```
+    /// use zektonk::Refusal;
+    ///
+    /// assert_eq!(Refusal::from_number(18), Some(Refusal::FractionSum));
+    /// assert_eq!(Refusal::FractionSum.number(), 18);
+    /// assert_eq!((Refusal::from_number(0), Refusal::from_number(31)), (None, None));
+    /// ```
+    pub fn from_number(number: u64) -> Option<Self> {
+        let at = usize::try_from(number).ok()?.checked_sub(1)?;
+        Self::ALL.get(at).copied()
+    }
+}
+
+impl fmt::Display for Refusal {
+    fn fmt(&self, f: &mut fmt::Formatter<'_>) -> fmt::Result {
+        write!(f, "refused with {}: {}", self.number(), self.text())
+    }
+}
+
+impl std::error::Error for Refusal {}
+
+#[cfg(test)]
+mod tests {
+    use super::*;
+
+    #[test]
+    fn numbers_are_1_to_30() {
+        for (number, refusal) in (1..).zip(Refusal::ALL) {
+            assert_eq!(refusal.number(), number);
+            assert_eq!(Refusal::from_number(number), Some(refusal));
+        }
+        assert_eq!(Refusal::from_number(u64::MAX), None);
+    }
+
+    #[test]
+    fn each_has_a_text_of_its_own() {
+        let texts: std::collections::BTreeSet<_> = Refusal::ALL.iter().map(|refusal| refusal.text()).collect();
+        assert_eq!(texts.len(), 30);
+        assert_eq!(Refusal::KOneSided.to_string(), "refused with 28: the K values are not on both sides of 1");
+    }
+}

@@ -1,0 +1,245 @@
+//! The core through the typed side: each task, each number that typed inputs can meet, and what a call leaves alone.
+
+#[path = "../examples/ethanol_water/mod.rs"]
+mod ethanol_water;
+
+use ethanol_water::ethanol_water;
+use zektonk::{
+    answer, answer_bytes, Answer, Book, Correlation, Kelvin, Options, Pair, Pascal, Phases, Question, Refusal, Solvent,
+    Split, Task, UpToEight, Validity, Words, ANSWER_ROOM, BLOCK,
+};
+
+const STORED_BOOK: &[u8] = include_bytes!("../../../crates/still/data/book.bin");
+const STORED_QUESTION: &[u8] = include_bytes!("../../../crates/still/stdin");
+
+const T: Kelvin = Kelvin(351.44);
+const P: Pascal = Pascal(90_000.0);
+
+fn options() -> Options {
+    Options::default()
+}
+
+fn flash_at(temperature: Kelvin, pressure: Pascal) -> Task {
+    Task::TpFlash { temperature, pressure, options: options() }
+}
+
+fn ask(task: Task, feed: impl Into<UpToEight<f64>>) -> Result<Answer, Refusal> {
+    answer(&ethanol_water().unwrap(), &Question::new(task, feed))
+}
+
+fn split(z: [f64; 2], k: [f64; 2], max_iterations: u64) -> Result<Answer, Refusal> {
+    ask(Task::RachfordRice { k: k.into(), max_iterations }, z)
+}
+
+#[test]
+fn builder_writes_the_stored_book() {
+    assert_eq!(ethanol_water().unwrap().bytes(), STORED_BOOK);
+}
+
+#[test]
+fn excess_of_two_solvents_and_of_one() {
+    let Ok(Answer::Excess(found)) = ask(Task::ExcessAt { temperature: T }, [0.5, 0.5]) else { panic!("task 1") };
+    assert_eq!(found.temperature, T);
+    assert_eq!((found.validity, found.inferred), (Validity::Within, false));
+    assert!(found.ln_gamma.iter().all(|v| *v > 0.0), "ethanol and water deviate positively from Raoult's law");
+    // g^E/(RT) = Σ x ln γ
+    let sum: f64 = found.ln_gamma.iter().map(|v| 0.5 * v).sum();
+    assert!((found.energies.reduced_gibbs - sum).abs() < 1e-14);
+    let difference = found.energies.gibbs - (found.energies.enthalpy - T.0 * found.energies.entropy);
+    assert!(difference.abs() < 1e-9, "g = h - T s");
+    let Ok(Answer::Excess(pure)) = ask(Task::ExcessAt { temperature: Kelvin(500.0) }, [1.0, 0.0]) else {
+        panic!("task 1")
+    };
+    assert_eq!(pure.ln_gamma[0], 0.0);
+    assert_eq!(pure.validity, Validity::Unassessed, "no pair is present");
+    let validity = |book: &Book<'_>, t| match answer(
+        book,
+        &Question::new(Task::ExcessAt { temperature: Kelvin(t) }, [0.5, 0.5]),
+    ) {
+        Ok(Answer::Excess(found)) => found.validity,
+        other => panic!("task 1: {other:?}"),
+    };
+    assert_eq!(validity(&ethanol_water().unwrap(), 400.0), Validity::Extrapolated);
+    assert_eq!(validity(&immiscible(), 400.0), Validity::Unassessed, "the pair has no interval");
+}
+
+#[test]
+fn bubble_and_dew_points_meet() {
+    let Ok(Answer::BubblePressure(bubble)) = ask(Task::BubblePressure { temperature: T }, [0.5, 0.5]) else {
+        panic!("task 2")
+    };
+    assert_eq!((bubble.temperature, bubble.iterations), (T, 0));
+    assert_eq!(bubble.liquid, [0.5, 0.5].into());
+    let task = Task::BubbleTemperature { pressure: bubble.pressure, options: options() };
+    let Ok(Answer::BubbleTemperature(back)) = ask(task, [0.5, 0.5]) else { panic!("task 4") };
+    assert!((back.temperature.0 - T.0).abs() < 1e-8);
+    // The vapor of the bubble point has its dew point there.
+    let task = Task::DewPressure { temperature: T, options: options() };
+    let Ok(Answer::DewPressure(dew)) = ask(task, bubble.vapor) else { panic!("task 3") };
+    assert!((dew.pressure.0 / bubble.pressure.0 - 1.0).abs() < 1e-9);
+    assert!((dew.liquid[0] - 0.5).abs() < 1e-8);
+    let task = Task::DewTemperature { pressure: bubble.pressure, options: options() };
+    let Ok(Answer::DewTemperature(found)) = ask(task, bubble.vapor) else { panic!("task 5") };
+    assert!((found.temperature.0 - T.0).abs() < 1e-8);
+}
+
+#[test]
+fn trials_of_a_liquid() {
+    let task = Task::LiquidStability { temperature: T, options: options() };
+    let Ok(Answer::LiquidStability(found)) = ask(task, [0.5, 0.5]) else { panic!("task 6") };
+    assert!(found.stable);
+    assert_eq!(found.trials.iter().map(|trial| trial.component).collect::<Vec<_>>(), [0, 1]);
+    assert!(found.trials.iter().all(|trial| trial.fractions.len() == 2 && trial.iterations > 0));
+    let Ok(Answer::LiquidStability(pure)) = ask(task, [0.0, 1.0]) else { panic!("task 6") };
+    assert!(pure.stable && pure.trials.is_empty());
+    let Ok(Answer::LiquidStability(apart)) = answer(&immiscible(), &Question::new(task, [0.5, 0.5])) else {
+        panic!("task 6")
+    };
+    assert!(!apart.stable);
+}
+
+#[test]
+fn flashes_of_each_outcome() {
+    let phases = |pressure| match ask(flash_at(T, Pascal(pressure)), [0.5, 0.5]) {
+        Ok(Answer::TpFlash(flash)) => flash,
+        other => panic!("task 7: {other:?}"),
+    };
+    let liquid = phases(120_000.0);
+    assert_eq!((liquid.phases, liquid.vapor_fraction), (Phases::Liquid([0.5, 0.5].into()), 0.0));
+    assert!(liquid.tested.is_some_and(|tested| tested.stable && tested.trials.len() == 2));
+    let vapor = phases(70_000.0);
+    assert_eq!((vapor.phases, vapor.vapor_fraction), (Phases::Vapor([0.5, 0.5].into()), 1.0));
+    assert!(vapor.tested.is_none());
+    let both = phases(P.0);
+    let Phases::Both { liquid, vapor } = both.phases else { panic!("two phases") };
+    let balance = (1.0 - both.vapor_fraction) * liquid[0] + both.vapor_fraction * vapor[0];
+    assert!((balance - 0.5).abs() < 1e-12);
+    assert!(both.notes.gamma_phi() && both.notes.liquid_tpd_finite_trials());
+    assert!(both.dew < P && P < both.bubble);
+}
+
+#[test]
+fn splits_of_document_01() {
+    let Ok(Answer::RachfordRice(Split::TwoPhase(d))) = split([0.5, 0.5], [2.0, 0.5], 200) else { panic!("(d)") };
+    assert_eq!((d.vapor_fraction, d.residual, d.iterations), (0.5, 0.0, 1));
+    let third = f64::from_bits(0x3fd5_5555_5555_5555);
+    assert_eq!((d.liquid, d.vapor), ([third, 2.0 * third].into(), [2.0 * third, third].into()));
+    assert_eq!(split([0.5, 0.5], [0.5, 0.5], 200), Ok(Answer::RachfordRice(Split::LiquidOnly)));
+    assert_eq!(split([0.5, 0.5], [1.0, 1.0], 200), Ok(Answer::RachfordRice(Split::LiquidOnly)));
+    assert_eq!(split([0.5, 0.5], [2.0, 2.0], 200), Ok(Answer::RachfordRice(Split::VaporOnly)));
+    assert_eq!(split([0.5, 0.5000000002], [2.0, 0.5], 200), Err(Refusal::FractionSum));
+    let negative = |k: [f64; 2]| ask(Task::RachfordRiceNegative { k: k.into(), max_iterations: 200 }, [0.5, 0.5]);
+    assert_eq!(negative([2.0, 2.0]), Err(Refusal::KOneSided));
+    let Ok(Answer::RachfordRiceNegative(found)) = negative([1.2, 0.1]) else { panic!("task 9") };
+    assert!(found.vapor_fraction < 0.0);
+}
+
+/// Two liquids that part, and boil where water does.
+fn immiscible() -> Book<'static> {
+    book_with(Pair { tau_ij: [4.0, 0.0, 0.0, 0.0], tau_ji: [4.0, 0.0, 0.0, 0.0], alpha: [0.2, 0.0], interval: None })
+}
+
+/// Two solvents with one vapor pressure.
+fn book_with(pair: Pair) -> Book<'static> {
+    let record =
+        Correlation { t_r: 647.0, reducing_value: 2.2e7, range: [273.16, 640.0], terms: [(-7.5, 1.0).into()].into() };
+    let solvent = |cas| Solvent { cas, vapor_pressure: record, density: record };
+    Book::builder().solvent(solvent(1)).solvent(solvent(2)).pair(0, 1, pair).build().unwrap()
+}
+
+#[test]
+fn refusals_of_books() {
+    let refused = |book: &Book<'_>| answer(book, &Question::new(flash_at(T, P), [0.5, 0.5])).unwrap_err();
+    assert_eq!(refused(&Book::from(&STORED_BOOK[1..])), Refusal::BookLength);
+    let mut bytes = STORED_BOOK.to_vec();
+    bytes[600] ^= 1;
+    assert_eq!(refused(&Book::from(bytes)), Refusal::BookCheck);
+    assert_eq!(refused(&Book::from(&STORED_BOOK[..3 * BLOCK])), Refusal::BookHead);
+    let zeros = Pair { tau_ij: [0.0; 4], tau_ji: [0.0; 4], alpha: [0.3, 0.0], interval: None };
+    let of = |first: Solvent, second: Solvent| {
+        refused(&Book::builder().solvent(first).solvent(second).pair(0, 1, zeros).build().unwrap())
+    };
+    let record =
+        Correlation { t_r: 647.0, reducing_value: 2.2e7, range: [273.16, 640.0], terms: [(-7.5, 1.0).into()].into() };
+    let right = Solvent { cas: 1, vapor_pressure: record, density: record };
+    assert_eq!(of(right, Solvent { cas: 0, ..right }), Refusal::SolventBlock);
+    let turned = Correlation { range: [640.0, 273.16], ..record };
+    assert_eq!(of(right, Solvent { cas: 2, density: turned, ..right }), Refusal::SolventNumber);
+    assert_eq!(of(right, right), Refusal::SolventTwice);
+    assert_eq!(refused(&book_with(Pair { tau_ji: [f64::NAN; 4], ..zeros })), Refusal::PairNumber);
+    assert_eq!(refused(&book_with(Pair { alpha: [-0.3, 0.0], ..zeros })), Refusal::AlphaNotPositive);
+    // What the builder doesn't write: another j, and two alphas.
+    let pair = |words: Words| [&STORED_BOOK[..3 * BLOCK], &words.seal()].concat();
+    let words = Words::new(3).word(1, 0).word(2, 1);
+    assert_eq!(refused(&Book::from(pair(words.clone().word(2, 2)))), Refusal::PairBlock);
+    assert_eq!(refused(&Book::from(pair(words.float(11, 0.3)))), Refusal::PairAlphas);
+}
+
+#[test]
+fn refusals_of_questions() {
+    let excess = |t| ask(Task::ExcessAt { temperature: Kelvin(t) }, [0.5, 0.5]).unwrap_err();
+    assert_eq!([excess(0.0), excess(f64::NAN)], [Refusal::Temperature; 2]);
+    assert_eq!(ask(flash_at(T, Pascal(-1.0)), [0.5, 0.5]), Err(Refusal::Pressure));
+    let feed = |z: [f64; 2]| ask(flash_at(T, P), z).unwrap_err();
+    assert_eq!(feed([f64::INFINITY, 0.0]), Refusal::NotFinite);
+    assert_eq!(feed([1.5, -0.5]), Refusal::FractionNegative);
+    assert_eq!(feed([0.5, 0.4]), Refusal::FractionSum);
+    assert_eq!(split([0.5, 0.5], [0.0, 2.0], 200), Err(Refusal::KNotPositive));
+    assert_eq!(split([0.5, 0.5], [0.5, 2.0], 1_000_001), Err(Refusal::LimitHigh));
+    let with = |options: Options| ask(Task::TpFlash { temperature: T, pressure: P, options }, [0.5, 0.5]).unwrap_err();
+    assert_eq!(with(Options { tolerance: 1e-5, ..options() }), Refusal::Options);
+    assert_eq!(with(Options { max_iterations: 0, ..options() }), Refusal::LimitZero);
+    assert_eq!(with(Options { max_iterations: 2, ..options() }), Refusal::NotConverged);
+    assert_eq!(ask(flash_at(Kelvin(273.15), P), [0.5, 0.5]), Err(Refusal::TemperatureOutside));
+    assert_eq!(ask(flash_at(T, Pascal(99.0)), [0.5, 0.5]), Err(Refusal::PressureOutside));
+    let bracket = Options { bracket: [Kelvin(400.0), Kelvin(450.0)], ..options() };
+    assert_eq!(ask(Task::BubbleTemperature { pressure: P, options: bracket }, [0.5, 0.5]), Err(Refusal::NotBracketed));
+    let apart = Question::new(flash_at(T, Pascal(400_000.0)), [0.5, 0.5]);
+    assert_eq!(answer(&immiscible(), &apart), Err(Refusal::LiquidUnstable));
+    assert_eq!(ask(Task::ExcessAt { temperature: Kelvin(1e-300) }, [0.5, 0.5]), Err(Refusal::ResultNotFinite));
+}
+
+#[test]
+fn bytes_of_a_refused_call_stay() {
+    let mut room: Vec<u8> = (0..ANSWER_ROOM + 9).map(|k| (7 * k + 3) as u8).collect();
+    let before = room.clone();
+    let mut put = |question: &[u8], length: usize, number| {
+        assert_eq!(answer_bytes(STORED_BOOK, question, &mut room[..length]), Err(number));
+        assert_eq!(room, before);
+    };
+    put(STORED_QUESTION, ANSWER_ROOM - 1, Refusal::AnswerShort);
+    put(STORED_QUESTION, 0, Refusal::AnswerShort);
+    put(&[], ANSWER_ROOM, Refusal::QuestionBlock);
+    put(&STORED_QUESTION[1..], ANSWER_ROOM + 9, Refusal::QuestionBlock);
+    put(&Words::new(8).word(1, 10).seal(), ANSWER_ROOM, Refusal::Task);
+}
+
+#[test]
+fn any_alignment_gives_the_same_bytes() {
+    let mut expected = [0; ANSWER_ROOM];
+    answer_bytes(STORED_BOOK, STORED_QUESTION, &mut expected).unwrap();
+    for shift in 0..8 {
+        let pad = vec![0; shift];
+        let (book, question) = ([&pad, STORED_BOOK].concat(), [&pad, STORED_QUESTION].concat());
+        let mut room = vec![0; shift + ANSWER_ROOM];
+        answer_bytes(&book[shift..], &question[shift..], &mut room[shift..]).unwrap();
+        assert_eq!(room[shift..], expected);
+    }
+}
+
+#[test]
+fn threads_call_at_one_time() {
+    let mut expected = [0; ANSWER_ROOM];
+    answer_bytes(STORED_BOOK, STORED_QUESTION, &mut expected).unwrap();
+    std::thread::scope(|scope| {
+        for _ in 0..4 {
+            scope.spawn(|| {
+                for _ in 0..200 {
+                    let mut room = [0; ANSWER_ROOM];
+                    answer_bytes(STORED_BOOK, STORED_QUESTION, &mut room).unwrap();
+                    assert_eq!(room, expected);
+                }
+            });
+        }
+    });
+}

@@ -1,0 +1,316 @@
+//! Calls the core with book, question and answer slices that end, or begin, at a page that can't be touched, and
+//! compares every byte with the reference.
+//!
+//! guarded [--count N] [--seed S]
+//!
+//! Each slice lies in pages of its own between two pages without access. Book and question can't be written during the
+//! call; of the answer's pages every byte is compared, those outside the slice too.
+
+use std::ffi::{c_int, c_void};
+use std::process::ExitCode;
+use std::ptr;
+
+use reference::counts::Tally;
+use reference::generate::cases::Cases;
+use reference::generate::Rng;
+use reference::sheet;
+use reference::sheet::blocks::{bytes_of, seal, words_of, BLOCK};
+use reference::sheet::question::{MAX_ITERATIONS, MAX_TEMPERATURE_ITERATIONS};
+use reference::stage::{Case, Stage};
+
+extern "C" {
+    fn zektonk_answer(
+        book: *const u8,
+        book_len: usize,
+        question: *const u8,
+        question_len: usize,
+        answer: *mut u8,
+        answer_len: usize,
+    ) -> u64;
+    fn mmap(at: *mut c_void, length: usize, access: c_int, flags: c_int, file: c_int, offset: i64) -> *mut c_void;
+    fn mprotect(at: *mut c_void, length: usize, access: c_int) -> c_int;
+}
+
+/// As Linux has them on x86-64.
+const PAGE: usize = 4096;
+const NO_ACCESS: c_int = 0;
+const READ: c_int = 1;
+const READ_AND_WRITE: c_int = 3;
+const PRIVATE_ANONYMOUS: c_int = 0x22;
+
+/// Longest slices that are lent. A book has 18,944 bytes at most, an answer needs 4,608.
+const BOOK: usize = 20_480;
+const QUESTION: usize = 1024;
+const ANSWER: usize = 5120;
+
+/// Differences that are printed.
+const SHOWN: usize = 10;
+
+/// Pages between two that can't be touched.
+struct Area {
+    start: *mut u8,
+    length: usize,
+}
+
+impl Area {
+    /// At least `most` bytes.
+    fn new(most: usize) -> Self {
+        let length = most.div_ceil(PAGE) * PAGE;
+        // SAFETY: a new mapping where the system puts it touches no other memory; it is never taken away.
+        let all = unsafe { mmap(ptr::null_mut(), length + 2 * PAGE, NO_ACCESS, PRIVATE_ANONYMOUS, -1, 0) };
+        assert!(all as isize != -1, "no pages to be had");
+        let area = Self { start: all.cast::<u8>().wrapping_add(PAGE), length };
+        area.allow(READ_AND_WRITE);
+        area
+    }
+
+    fn allow(&self, access: c_int) {
+        // SAFETY: the pages are this area's own, and no reference into them lives over the call.
+        let failed = unsafe { mprotect(self.start.cast(), self.length, access) };
+        assert_eq!(failed, 0, "the system keeps the access of pages as it was");
+    }
+
+    /// Where a slice of `length` bytes begins.
+    fn place(&self, length: usize, at_end: bool) -> usize {
+        if at_end {
+            self.length - length
+        } else {
+            0
+        }
+    }
+
+    fn at(&self, offset: usize) -> *mut u8 {
+        self.start.wrapping_add(offset)
+    }
+
+    fn bytes(&self) -> &[u8] {
+        // SAFETY: the pages can be read at all times, and nothing else holds them for writing.
+        unsafe { std::slice::from_raw_parts(self.start, self.length) }
+    }
+
+    fn fill(&mut self, from: usize, bytes: &[u8]) {
+        // SAFETY: between calls the pages can be written, and `self` is borrowed alone.
+        let all = unsafe { std::slice::from_raw_parts_mut(self.start, self.length) };
+        all[from..from + bytes.len()].copy_from_slice(bytes);
+    }
+}
+
+/// What is asked, and where.
+struct Call {
+    book: Vec<u8>,
+    question: Vec<u8>,
+    room: usize,
+    /// Book, question and answer.
+    at_end: [bool; 3],
+    /// Empty slices as null.
+    null: bool,
+}
+
+struct Pages {
+    book: Area,
+    question: Area,
+    answer: Area,
+    /// What the answer's pages hold before a call.
+    noise: Vec<u8>,
+}
+
+impl Pages {
+    fn new(rng: &mut Rng) -> Self {
+        let (book, question, answer) = (Area::new(BOOK), Area::new(QUESTION), Area::new(ANSWER));
+        let noise = random(rng, answer.length);
+        Self { book, question, answer, noise }
+    }
+
+    /// The number, and whether all is as the reference has it.
+    fn compare(&mut self, rng: &mut Rng, call: &Call) -> (u32, bool) {
+        // A few bytes of the noise change from call to call.
+        for _ in 0..8 {
+            let at = rng.below(self.noise.len());
+            self.noise[at] = rng.bits() as u8;
+        }
+        let mut expected = self.noise.clone();
+        let to = self.answer.place(call.room, call.at_end[2]);
+        let number = sheet::answer(&call.book, &call.question, &mut expected[to..to + call.room]);
+        let found = self.offered(call, to);
+        (number, found == u64::from(number) && self.answer.bytes() == expected)
+    }
+
+    fn offered(&mut self, call: &Call, to: usize) -> u64 {
+        let book = self.book.place(call.book.len(), call.at_end[0]);
+        let question = self.question.place(call.question.len(), call.at_end[1]);
+        self.book.fill(book, &call.book);
+        self.question.fill(question, &call.question);
+        self.answer.fill(0, &self.noise);
+        self.book.allow(READ);
+        self.question.allow(READ);
+        let lent = |at: *mut u8, length: usize| if call.null && length == 0 { ptr::null_mut() } else { at };
+        // SAFETY: each pointer and length lie in pages of their own, apart from each other, that can be read or written
+        // as the core's header asks.
+        let number = unsafe {
+            zektonk_answer(
+                lent(self.book.at(book), call.book.len()),
+                call.book.len(),
+                lent(self.question.at(question), call.question.len()),
+                call.question.len(),
+                lent(self.answer.at(to), call.room),
+                call.room,
+            )
+        };
+        self.book.allow(READ_AND_WRITE);
+        self.question.allow(READ_AND_WRITE);
+        number
+    }
+}
+
+fn random(rng: &mut Rng, length: usize) -> Vec<u8> {
+    (0..length).map(|_| rng.bits() as u8).collect()
+}
+
+/// The rooms around the least that is taken, and any other.
+fn room(rng: &mut Rng) -> usize {
+    match rng.below(8) {
+        0 => rng.between(0, ANSWER),
+        1 => rng.pick(&[0, 1, 511, 512, 4095, 4096, 4097, 4607, 4608, 4609, 5119, 5120]),
+        2 | 3 => rng.between(4608, ANSWER),
+        _ => sheet::ANSWER_BYTES,
+    }
+}
+
+fn call(rng: &mut Rng, book: Vec<u8>, question: Vec<u8>) -> Call {
+    let at_end = [rng.one_in(2), rng.one_in(2), rng.one_in(2)];
+    Call { book, question, room: room(rng), at_end, null: rng.one_in(4) }
+}
+
+/// Six calls made from one sheet: as it is at two places, changed thrice, and with noise for the question.
+fn calls(rng: &mut Rng, book: &[u8], question: &[u8]) -> Vec<Call> {
+    let (book, question) = (&book[..book.len().min(BOOK)], &question[..question.len().min(QUESTION)]);
+    let mut all = Vec::with_capacity(6);
+    for _ in 0..2 {
+        all.push(call(rng, book.to_vec(), question.to_vec()));
+    }
+    for sealed in [true, true, false] {
+        let [of_book, of_question] = rng.pick(&[[true, true], [true, false], [false, true]]);
+        let book = if of_book { mutated(rng, book, BOOK, sealed) } else { book.to_vec() };
+        let question = if of_question { mutated(rng, question, QUESTION, sealed) } else { question.to_vec() };
+        all.push(call(rng, book, if sealed { quick(question) } else { question }));
+    }
+    let book = if rng.one_in(3) { book.to_vec() } else { noise(rng, BOOK / 16) };
+    let question = noise(rng, QUESTION);
+    all.push(call(rng, book, question));
+    all
+}
+
+/// Of any length up to `most`.
+fn noise(rng: &mut Rng, most: usize) -> Vec<u8> {
+    let length = rng.below(most + 1);
+    random(rng, length)
+}
+
+/// Limits low enough that a changed tolerance doesn't keep the call busy.
+fn quick(mut question: Vec<u8>) -> Vec<u8> {
+    if question.len() == BLOCK {
+        let mut words = words_of(&question);
+        words[MAX_ITERATIONS] = words[MAX_ITERATIONS].min(300);
+        words[MAX_TEMPERATURE_ITERATIONS] = words[MAX_TEMPERATURE_ITERATIONS].min(60);
+        seal(&mut words);
+        question.copy_from_slice(&bytes_of(&words));
+    }
+    question
+}
+
+/// One to three changes: a bit, a byte, a word, or the length; then the checks of all whole blocks made right, or left.
+fn mutated(rng: &mut Rng, bytes: &[u8], most: usize, sealed: bool) -> Vec<u8> {
+    let mut bytes = bytes.to_vec();
+    for _ in 0..rng.between(1, 3) {
+        change(rng, &mut bytes, most, sealed);
+    }
+    if sealed {
+        for block in bytes.chunks_exact_mut(BLOCK) {
+            let mut words = words_of(block);
+            seal(&mut words);
+            block.copy_from_slice(&bytes_of(&words));
+        }
+    }
+    bytes
+}
+
+fn change(rng: &mut Rng, bytes: &mut Vec<u8>, most: usize, sealed: bool) {
+    if bytes.is_empty() || rng.one_in(12) {
+        let length = if sealed { BLOCK * rng.below(most / BLOCK + 1) } else { rng.below(most + 1) };
+        let filler = rng.bits() as u8;
+        return bytes.resize(length, filler);
+    }
+    // Words that are read stand in the first 45 of a block.
+    let block = BLOCK * rng.below(bytes.len().div_ceil(BLOCK));
+    let at = (block + rng.below(8 * 45)).min(bytes.len() - 1);
+    match rng.below(4) {
+        0 => bytes[at] ^= 1 << rng.below(8),
+        1 => bytes[at] = rng.bits() as u8,
+        2 => {
+            let value = rng.pick(&[0.0, -0.0, 1.0, -1.0, 0.5, 300.0, 1e300, 1e-300, f64::NAN, f64::INFINITY]).to_bits();
+            put_word(bytes, at, value);
+        }
+        _ => {
+            let value = rng.bits();
+            put_word(bytes, at, value);
+        }
+    }
+}
+
+/// At the word that holds byte `at`, where it is whole.
+fn put_word(bytes: &mut [u8], at: usize, value: u64) {
+    let from = at / 8 * 8;
+    if let Some(word) = bytes.get_mut(from..from + 8) {
+        word.copy_from_slice(&value.to_le_bytes());
+    }
+}
+
+fn options() -> Option<(usize, u64)> {
+    let (mut count, mut seed) = (20_000, 1);
+    let mut words = std::env::args().skip(1);
+    while let Some(word) = words.next() {
+        match word.as_str() {
+            "--count" => count = words.next()?.parse().ok()?,
+            "--seed" => seed = words.next()?.parse().ok()?,
+            _ => return None,
+        }
+    }
+    Some((count, seed))
+}
+
+fn main() -> ExitCode {
+    let Some((count, seed)) = options() else {
+        eprintln!("usage: guarded [--count N] [--seed S]");
+        return ExitCode::from(2);
+    };
+    let mut rng = Rng::new(seed ^ 0x6775_6172_6465_6421);
+    let mut pages = Pages::new(&mut rng);
+    let mut sheets = Cases::new(Stage::Sheet, seed, false);
+    let mut tally = Tally::default();
+    let mut differences = 0;
+    while tally.all() < count {
+        let (_, Case::Sheet { book, question, .. }) = sheets.draw() else { unreachable!("a sheet was asked for") };
+        for call in calls(&mut rng, &book, &question).iter().take(count - tally.all()) {
+            let (number, same) = pages.compare(&mut rng, call);
+            tally.add(number);
+            if !same {
+                differences += 1;
+                if differences <= SHOWN {
+                    show(call, number);
+                }
+            }
+        }
+    }
+    let (all, accepted, refused) = (tally.all(), tally.accepted(), tally.refused());
+    println!("guarded: {all} calls, {accepted} accepted, refused {refused}, {differences} differences");
+    if differences == 0 {
+        ExitCode::SUCCESS
+    } else {
+        ExitCode::FAILURE
+    }
+}
+
+fn show(call: &Call, number: u32) {
+    let case = Case::Sheet { book: call.book.clone(), question: call.question.clone(), room: call.room };
+    println!("difference: {} (reference {number}, at the end {:?}, null {})", case.line(), call.at_end, call.null);
+}
