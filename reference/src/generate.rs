@@ -6,6 +6,7 @@ pub mod feeds;
 pub mod numbers;
 pub mod questions;
 pub mod rice;
+pub mod small;
 
 use crate::helpers;
 

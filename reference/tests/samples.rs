@@ -263,3 +263,11 @@ fn refusal_blocks() {
     long.resize(600 * 512, 0);
     assert_eq!(words(&long, &halves(2).bytes()), [9, 0, 3]);
 }
+
+/// The sheets that are compared first on both sides give the numbers they have to.
+#[test]
+fn sheets_that_come_first() {
+    for (case, number) in reference::generate::small::others() {
+        assert_eq!(case.expected().refusal, number, "{}", case.line());
+    }
+}
