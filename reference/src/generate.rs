@@ -1,5 +1,6 @@
 //! Seeded inputs: realistic, wild, damaged and at the boundaries.
 
+pub mod absent;
 pub mod books;
 pub mod cases;
 pub mod feeds;

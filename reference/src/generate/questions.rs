@@ -31,7 +31,7 @@ pub struct Draft {
 }
 
 impl Draft {
-    fn put(&mut self, at: usize, v: f64) {
+    pub fn put(&mut self, at: usize, v: f64) {
         self.words[at] = v.to_bits();
     }
 
@@ -39,7 +39,7 @@ impl Draft {
         f64::from_bits(self.words[at])
     }
 
-    fn put_all(&mut self, at: usize, values: &[f64]) {
+    pub fn put_all(&mut self, at: usize, values: &[f64]) {
         for (k, v) in values.iter().enumerate() {
             self.put(at + k, *v);
         }
