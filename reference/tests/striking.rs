@@ -2,8 +2,10 @@
 
 use reference::generate::absent::Base;
 use reference::generate::cases::Cases;
+use reference::generate::small::dew_temperature;
 use reference::generate::Rng;
 use reference::sheet::blocks::words_of;
+use reference::sheet::ANSWER_BYTES;
 use reference::stage::{Case, Stage};
 use reference::strike::{difference, reference, shown, Sheet, Shown, TASKS};
 
@@ -15,7 +17,7 @@ fn absent_solvents_do_not_show() {
     for case in Cases::new(Stage::Sheet, 23, false).take(12_000) {
         let Case::Sheet { book, question, .. } = case else { panic!("a sheet") };
         let sheet = Sheet { book, question };
-        let mut answer = [0; 4608];
+        let mut answer = [0; ANSWER_BYTES];
         if reference(&sheet.book, &sheet.question, &mut answer) != 0 || sheet.kept().len() == sheet.feed().len() {
             continue;
         }
@@ -45,6 +47,23 @@ fn extreme_absent_solvents_do_not_show() {
             }
         }
     }
+}
+
+/// Dew temperature does not keep demand 3: an absent solvent whose slopes sum to infinity costs Newton steps, or the answer.
+#[test]
+fn an_absent_solvent_shows_in_the_dew_temperature() {
+    let mut rng = Rng::new(1);
+    let mut both = |limit: u64| {
+        let (book, ask) = dew_temperature(limit);
+        let long = Sheet { book, question: ask.bytes() };
+        let short = long.shorter(&mut rng, &[0]);
+        [long, short].map(|sheet| {
+            let found = sheet.blocks(&mut rng, reference, ANSWER_BYTES);
+            found.map(|blocks| (f64::from_bits(blocks[0][4]), blocks[0][8]))
+        })
+    };
+    assert_eq!(both(200), [Ok((350.000229423523, 18)), Ok((350.00022942500607, 3))]);
+    assert_eq!(both(10), [Err(27), Ok((350.00022942500607, 3))]);
 }
 
 /// A word that is not as it should be is found, wherever document 01 compares.

@@ -5,9 +5,11 @@
 use std::process::ExitCode;
 
 use reference::generate::absent::Base;
+use reference::generate::small::dew_temperature;
 use reference::generate::Rng;
+use reference::sheet::ANSWER_BYTES;
 use reference::stage::{hex_bytes, Stage};
-use reference::strike::{core, shown, Sheet, Shown, TASKS};
+use reference::strike::{core, reference, shown, Call, Sheet, Shown, TASKS};
 
 /// Books that are tried with a question.
 const TRIES: usize = 4;
@@ -41,6 +43,7 @@ fn main() -> ExitCode {
         print(task, &counts);
         all = [all[0] + counts.accepted, all[1] + counts.failures];
     }
+    all[1] += dew_temperatures(&mut rng);
     println!("strike: {} accepted with absent solvents, {} failures", all[0], all[1]);
     ExitCode::from(u8::from(all[1] > 0))
 }
@@ -79,6 +82,24 @@ fn run(rng: &mut Rng, task: u64, wanted: usize) -> Counts {
         }
     }
     counts
+}
+
+/// Dew temperature is left out of demand 3: the one that shows an absent solvent is the reference's. How often it is not.
+fn dew_temperatures(rng: &mut Rng) -> usize {
+    let differs = |limit: &&u64| {
+        let (book, ask) = dew_temperature(**limit);
+        let long = Sheet { book, question: ask.bytes() };
+        let short = long.shorter(rng, &long.kept());
+        let found = [core as Call, reference]
+            .map(|call| [&long, &short].map(|sheet| sheet.blocks(rng, call, ANSWER_BYTES).map(|blocks| blocks[0])));
+        let [a, b] = found[0].map(|blocks| blocks.map_or_else(|number| (number, 0), |words| (0, words[8])));
+        println!(
+            "task 5, at most {limit} temperatures: longer sheet number {} and {} iterations, shorter number {} and {}",
+            a.0, a.1, b.0, b.1
+        );
+        found[0] != found[1] || a == b
+    };
+    [200, 10].iter().filter(differs).count()
 }
 
 fn add(counts: &mut Counts, sheet: &Sheet) {
