@@ -121,7 +121,7 @@ fn aim_solvent(rng: &mut Rng, words: &mut Words) {
     }
 }
 
-/// θ rounds to 1, the terms cancel, and d ln p / dT is 2k n/T with n near the largest float.
+/// θ rounds to 1 and the terms cancel in pairs: d ln p/dT = −n/T for each pair, with n near the largest float.
 fn steep(rng: &mut Rng, words: &mut Words) {
     let (at, sign) = (VAPOR_PRESSURE, rng.sign());
     let large = if rng.one_in(2) { f64::MAX } else { rng.decade(290.0, 308.2) };
