@@ -1,5 +1,6 @@
 //! Demand 3 run on sheets: absent solvents struck from book and question leave an accepted answer as it was (document 01, "The
-//! shorter sheet"). Dew temperature is left out of it.
+//! shorter sheet"). Dew temperature is left out of it. Task 4's premise holds of every accepted sheet: `excess` refuses a slope of
+//! ln γ that is not finite.
 
 use crate::generate::small::{bytes, sealed};
 use crate::generate::Rng;
