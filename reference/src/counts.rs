@@ -44,11 +44,12 @@ impl Tally {
     }
 }
 
-/// Counts of all sheets and of the realistic ones, by task.
+/// Counts of all sheets, of the realistic ones, and of those with nothing damaged or beside an edge, by task.
 #[derive(Debug, Default)]
 pub struct SheetCounts {
     all: BTreeMap<u64, Tally>,
     realistic: BTreeMap<u64, Tally>,
+    ordinary: BTreeMap<u64, usize>,
 }
 
 impl SheetCounts {
@@ -59,6 +60,7 @@ impl SheetCounts {
         let task = if words[TASK] <= 9 { words[TASK] } else { 0 };
         let absent = refusal == 0 && has_absent(&words, words_of(&book[..BLOCK])[2] as usize);
         let mut tallies = vec![self.all.entry(task).or_default()];
+        *self.ordinary.entry(task).or_default() += usize::from(kind.is_ordinary());
         if kind == Kind::Realistic {
             tallies.push(self.realistic.entry(task).or_default());
         }
@@ -72,8 +74,9 @@ impl SheetCounts {
         for (task, tally) in &self.all {
             let realistic = self.realistic.get(task).cloned().unwrap_or_default();
             println!(
-                "task {task}: {} asked, {} accepted ({:.0}%; realistic {:.0}%), {} with absent solvents ({:.0}%), refused {}",
+                "task {task}: {} asked, {} of them realistic or wild, {} accepted ({:.0}%; realistic {:.0}%), {} with absent solvents ({:.0}%), refused {}",
                 tally.all(),
+                self.ordinary.get(task).copied().unwrap_or(0),
                 tally.accepted(),
                 tally.percent_accepted(),
                 realistic.percent_accepted(),

@@ -1,11 +1,13 @@
 //! Seeded inputs: realistic, wild, damaged and at the boundaries.
 
+pub mod absent;
 pub mod books;
 pub mod cases;
 pub mod feeds;
 pub mod numbers;
 pub mod questions;
 pub mod rice;
+pub mod small;
 
 use crate::helpers;
 

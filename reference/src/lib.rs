@@ -10,4 +10,5 @@ pub mod named;
 pub mod rattle;
 pub mod sheet;
 pub mod stage;
+pub mod strike;
 pub mod types;

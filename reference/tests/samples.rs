@@ -281,3 +281,11 @@ fn an_absent_solvent_before_the_kept() {
         }
     }
 }
+
+/// The sheets that are compared first on both sides give the numbers they have to.
+#[test]
+fn sheets_that_come_first() {
+    for (case, number) in reference::generate::small::others() {
+        assert_eq!(case.expected().refusal, number, "{}", case.line());
+    }
+}

@@ -1,97 +1,98 @@
 //! Demand 3 on the reference: absent solvents struck from book and question leave the answer as it was.
 
-mod common;
-
-use common::{bytes, sealed, Words};
+use reference::generate::absent::Base;
 use reference::generate::cases::Cases;
+use reference::generate::small::dew_temperature;
+use reference::generate::Rng;
 use reference::sheet::blocks::words_of;
-use reference::sheet::{self, ANSWER_BYTES};
+use reference::sheet::ANSWER_BYTES;
 use reference::stage::{Case, Stage};
+use reference::strike::{difference, reference, shown, Sheet, Shown, TASKS};
 
-fn all_words(bytes: &[u8]) -> Vec<Words> {
-    bytes.chunks_exact(512).map(words_of).collect()
-}
-
-fn same(a: u64, b: u64) -> bool {
-    a == b || (f64::from_bits(a) == 0.0 && f64::from_bits(b) == 0.0)
-}
-
-fn kept(question: &Words, n: usize) -> Vec<usize> {
-    (0..n).filter(|i| f64::from_bits(question[4 + i]) != 0.0).collect()
-}
-
-/// The kept solvents' blocks, and the pairs of two kept ones, numbered anew.
-fn shorter_book(book: &[Words], kept: &[usize]) -> Vec<Words> {
-    let n = book[0][2] as usize;
-    let mut head = book[0];
-    head[2] = kept.len() as u64;
-    let mut all = vec![head];
-    for (place, i) in kept.iter().enumerate() {
-        let mut words = book[1 + i];
-        words[1] = place as u64;
-        all.push(words);
-    }
-    let due = (0..n).flat_map(|i| (i + 1..n).map(move |j| (i, j)));
-    let place = |i: usize| kept.iter().position(|k| *k == i);
-    for (words, (i, j)) in book[1 + n..].iter().zip(due) {
-        if let (Some(a), Some(b)) = (place(i), place(j)) {
-            let mut words = *words;
-            words[1..3].copy_from_slice(&[a as u64, b as u64]);
-            all.push(words);
-        }
-    }
-    all
-}
-
-fn shorter_question(question: &Words, kept: &[usize]) -> Words {
-    let mut words = *question;
-    for (place, i) in kept.iter().enumerate() {
-        words[4 + place] = question[4 + i];
-        words[19 + place] = question[19 + i];
-    }
-    words
-}
-
-fn answered(book: &[u8], question: &[u8]) -> Result<Vec<Words>, u32> {
-    let mut room = [0; ANSWER_BYTES];
-    match sheet::answer(book, question, &mut room) {
-        0 => {
-            let all = all_words(&room);
-            Ok(all[..1 + all[0][12] as usize].to_vec())
-        }
-        number => Err(number),
-    }
-}
-
-fn assert_equal(long: &[Words], short: &[Words], kept: &[usize]) {
-    let entries =
-        |a: &Words, b: &Words, at: usize| kept.iter().enumerate().all(|(place, i)| same(a[at + i], b[at + place]));
-    assert_eq!(long.len(), short.len());
-    let (a, b) = (&long[0], &short[0]);
-    assert!((0..14).chain(30..63).all(|k| same(a[k], b[k])));
-    assert!(entries(a, b, 14) && entries(a, b, 22));
-    for (a, b) in long[1..].iter().zip(&short[1..]) {
-        assert!([0, 2, 3, 4].into_iter().chain(13..63).all(|k| same(a[k], b[k])));
-        assert_eq!(a[1] as usize, kept[b[1] as usize]);
-        assert!(entries(a, b, 5));
-    }
-}
-
+/// Sheets of the comparison.
 #[test]
 fn absent_solvents_do_not_show() {
+    let mut rng = Rng::new(23);
     let mut struck = [0; 10];
     for case in Cases::new(Stage::Sheet, 23, false).take(12_000) {
         let Case::Sheet { book, question, .. } = case else { panic!("a sheet") };
-        let Ok(long) = answered(&book, &question) else { continue };
-        let (book, question) = (all_words(&book), words_of(&question));
-        let kept = kept(&question, book[0][2] as usize);
-        // Dew temperature is left out of demand 3.
-        if kept.len() == book[0][2] as usize || question[1] == 5 {
+        let sheet = Sheet { book, question };
+        let mut answer = [0; ANSWER_BYTES];
+        if reference(&sheet.book, &sheet.question, &mut answer) != 0 || sheet.kept().len() == sheet.feed().len() {
             continue;
         }
-        let short = answered(&bytes(&shorter_book(&book, &kept)), &sealed(shorter_question(&question, &kept)));
-        assert_equal(&long, &short.expect("the shorter question is accepted"), &kept);
-        struck[question[1] as usize] += 1;
+        let task = words_of(&sheet.question)[1];
+        // Dew temperature is left out of demand 3.
+        if task != 5 {
+            assert_eq!(shown(&mut rng, reference, &sheet), Shown::Equal);
+            struck[task as usize] += 1;
+        }
     }
-    assert!([1, 2, 3, 4, 6, 7, 8, 9].iter().all(|task| struck[*task] > 50), "{struck:?}");
+    assert!(TASKS.iter().all(|task| struck[*task as usize] > 50), "{struck:?}");
+}
+
+/// Sheets whose absent solvents have data at the ends of the floats.
+#[test]
+fn extreme_absent_solvents_do_not_show() {
+    let mut rng = Rng::new(29);
+    for task in TASKS {
+        let mut equal = 0;
+        while equal < 300 {
+            let base = Base::draw(&mut rng, task);
+            let sheet = Sheet { book: base.aimed(&mut rng), question: base.question() };
+            match shown(&mut rng, reference, &sheet) {
+                Shown::Refused(_) => {}
+                Shown::Equal => equal += 1,
+                failed => panic!("task {task}: {failed:?}"),
+            }
+        }
+    }
+}
+
+/// Dew temperature does not keep demand 3: an absent solvent whose slopes sum to infinity costs Newton steps, or the answer.
+#[test]
+fn an_absent_solvent_shows_in_the_dew_temperature() {
+    let mut rng = Rng::new(1);
+    let mut both = |limit: u64| {
+        let (book, ask) = dew_temperature(limit);
+        let long = Sheet { book, question: ask.bytes() };
+        let short = long.shorter(&mut rng, &[0]);
+        [long, short].map(|sheet| {
+            let found = sheet.blocks(&mut rng, reference, ANSWER_BYTES);
+            found.map(|blocks| (f64::from_bits(blocks[0][4]), blocks[0][8]))
+        })
+    };
+    assert_eq!(both(200), [Ok((350.000229423523, 18)), Ok((350.00022942500607, 3))]);
+    assert_eq!(both(10), [Err(27), Ok((350.00022942500607, 3))]);
+}
+
+/// A word that is not as it should be is found, wherever document 01 compares.
+#[test]
+fn differences_are_found() {
+    let kept = [0, 2];
+    let long = vec![std::array::from_fn(|k| 100 + k as u64), std::array::from_fn(|k| if k == 1 { 2 } else { 200 })];
+    let mut short: Vec<[u64; 64]> = long.clone();
+    for at in [14, 22] {
+        short[0][at + 1] = long[0][at + 2];
+    }
+    short[1][1] = 1;
+    assert_eq!(difference(&long, &short, &kept), None);
+    let compared = |block: usize, k: usize| match (block, k) {
+        (0, 0..14 | 30..63) => Some(k),
+        // The second kept solvent stands at place 2 of the longer answer.
+        (0, 14 | 22) | (1, 5) => Some(k),
+        (0, 15 | 23) | (1, 6) => Some(k + 1),
+        (1, 0..5 | 13..63) => Some(k),
+        _ => None,
+    };
+    for block in 0..2 {
+        for k in 0..64 {
+            let mut spoiled = short.clone();
+            spoiled[block][k] ^= 1 << 20;
+            assert_eq!(difference(&long, &spoiled, &kept), compared(block, k).map(|at| (block, at)), "{block} {k}");
+        }
+    }
+    // Zeros of both signs are equal.
+    let zeros = |zero: f64| vec![[zero.to_bits(); 64]];
+    assert_eq!(difference(&zeros(0.0), &zeros(-0.0), &kept), None);
 }

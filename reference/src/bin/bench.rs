@@ -7,7 +7,7 @@ use std::process::ExitCode;
 
 use reference::generate::{books, feeds, questions, Rng};
 use reference::helpers;
-use reference::named::rachford_rice::rachford_rice_negative;
+use reference::named::rachford_rice::{rachford_rice, rachford_rice_negative, RachfordRiceOutcome};
 use reference::rattle;
 use reference::sheet::{answer, open_book, ANSWER_BYTES};
 use reference::stage::padded;
@@ -168,14 +168,21 @@ fn bench_excess() {
 
 fn bench_rice() {
     for n in SOLVENTS {
+        // With both phases, so that the constrained function searches too.
         let inputs: Vec<_> = many(|rng| loop {
             let z = feeds::feed_with(rng, n, feeds::Absent::None);
             let k: Vec<f64> = (0..n).map(|_| rng.decade(-1.5, 1.5)).collect();
-            if rachford_rice_negative(&z, &k, 200).is_ok() {
+            if let Ok(RachfordRiceOutcome::TwoPhase(_)) = rachford_rice(&z, &k, 200) {
                 return (padded(&z), padded(&k));
             }
         });
         let mut out = [0.0; 19];
+        line(
+            &format!("rachford_rice, n = {n}"),
+            &inputs,
+            |(z, k)| rattle::rachford_rice(z, k, n, 200, &mut out).map(drop_value),
+            |(z, k)| drop_value(rachford_rice(&z[..n], &k[..n], 200)),
+        );
         line(
             &format!("rachford_rice_negative, n = {n}"),
             &inputs,
@@ -207,15 +214,13 @@ fn bench_sheet() {
     );
 }
 
-/// A book and a question of the task that is answered, with limits of at most 1000.
+/// A book and a question of the task that is answered.
 fn accepted(rng: &mut Rng, n: usize, task: u64) -> (Vec<u8>, Vec<u8>) {
     loop {
         let book = books::realistic(rng, n).bytes();
         let opened = open_book(&book).expect("realistic");
-        let question = questions::realistic(rng, &opened, task);
-        let patient = question.words[reference::sheet::question::MAX_ITERATIONS] > 1000;
-        let question = question.question();
-        if !patient && answer(&book, &question, &mut [0; ANSWER_BYTES]) == 0 {
+        let question = questions::realistic(rng, &opened, task).question();
+        if answer(&book, &question, &mut [0; ANSWER_BYTES]) == 0 {
             return (book, question);
         }
     }

@@ -5,19 +5,19 @@ use crate::sheet::blocks::{bytes_of, seal, Words, BLOCK};
 use crate::sheet::book::{due_pairs, DENSITY, VAPOR_PRESSURE};
 
 /// Places in a correlation record.
-const REDUCING: usize = 1;
-const LOW: usize = 2;
-const HIGH: usize = 3;
-const COUNT: usize = 4;
-const N: usize = 5;
-const EXPONENTS: usize = 13;
+pub(super) const REDUCING: usize = 1;
+pub(super) const LOW: usize = 2;
+pub(super) const HIGH: usize = 3;
+pub(super) const COUNT: usize = 4;
+pub(super) const N: usize = 5;
+pub(super) const EXPONENTS: usize = 13;
 
 /// Places in a pair block.
-const TAU: usize = 3;
+pub(super) const TAU: usize = 3;
 const ALPHA_IJ: usize = 11;
 const ALPHA_JI: usize = 13;
-const FLAG: usize = 15;
-const BOUNDS: usize = 16;
+pub(super) const FLAG: usize = 15;
+pub(super) const BOUNDS: usize = 16;
 const INFERRED: usize = 18;
 
 /// CAS numbers of common solvents, without hyphens.
@@ -45,7 +45,7 @@ impl Draft {
     }
 
     /// Places of the pair blocks that solvent i is in.
-    fn pairs_of(&self, i: usize) -> Vec<usize> {
+    pub(super) fn pairs_of(&self, i: usize) -> Vec<usize> {
         let due = due_pairs(self.n).into_iter().enumerate();
         due.filter(|(_, (a, b))| *a == i || *b == i).map(|(k, _)| 1 + self.n + k).collect()
     }
@@ -56,7 +56,7 @@ impl Draft {
     }
 }
 
-fn put(words: &mut Words, at: usize, v: f64) {
+pub(super) fn put(words: &mut Words, at: usize, v: f64) {
     words[at] = v.to_bits();
 }
 
@@ -151,7 +151,7 @@ fn tau(rng: &mut Rng, words: &mut Words, at: usize, polar: bool) {
     put(words, at + 3, if rng.one_in(5) { rng.range(-1e-3, 1e-3) } else { 0.0 });
 }
 
-fn put_alphas(words: &mut Words, a0: f64, a1: f64) {
+pub(super) fn put_alphas(words: &mut Words, a0: f64, a1: f64) {
     for at in [ALPHA_IJ, ALPHA_JI] {
         put(words, at, a0);
         put(words, at + 1, a1);

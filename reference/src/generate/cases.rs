@@ -1,8 +1,11 @@
 //! The cases of each stage.
 
-use super::{books, feeds, numbers, questions, rice, Rng};
+use super::{books, feeds, numbers, questions, rice, small, Rng};
 use crate::sheet::open_book;
 use crate::stage::{Case, Function, Stage};
+
+/// Tasks of the sheets: those with solvers come twice as often.
+const TASKS: [u64; 15] = [1, 2, 2, 3, 3, 4, 4, 5, 5, 6, 6, 7, 7, 8, 9];
 
 /// How a sheet was made.
 #[derive(Debug, Clone, Copy, PartialEq, Eq, PartialOrd, Ord)]
@@ -19,6 +22,13 @@ pub enum Kind {
     DamagedBook,
 }
 
+impl Kind {
+    /// Whether book and question are those of a call that might be made: ordinary or extreme, nothing damaged or beside an edge.
+    pub fn is_ordinary(self) -> bool {
+        matches!(self, Kind::Realistic | Kind::WildAbsent | Kind::WildBook | Kind::WildTrace)
+    }
+}
+
 /// Cases of one stage, in the order of a seed.
 pub struct Cases {
     rng: Rng,
@@ -31,7 +41,11 @@ pub struct Cases {
 
 impl Cases {
     pub fn new(stage: Stage, seed: u64, compact: bool) -> Self {
-        let first = if stage == Stage::Numbers && !compact { edge_numbers() } else { Vec::new() };
+        let first = match stage {
+            Stage::Numbers if !compact => edge_numbers(),
+            Stage::Sheet if !compact => small::others().into_iter().map(|(case, _)| case).collect(),
+            _ => Vec::new(),
+        };
         let rng = if compact { Rng::tidy(seed) } else { Rng::new(seed) };
         Self { rng, stage, compact, first: first.into_iter() }
     }
@@ -194,7 +208,7 @@ fn sheet(rng: &mut Rng, n: usize, kind: Kind) -> Case {
         // A wild value that questions 1 to 9 refuse.
         return Case::Sheet { book: right, question: Vec::new(), room: 0 };
     };
-    let task = rng.between(1, 9) as u64;
+    let task = rng.pick(&TASKS);
     let mut question = match kind {
         Kind::WildAbsent => questions::without(rng, &opened, task, victim),
         Kind::WildTrace => questions::with_trace(rng, &opened, task, victim),
@@ -214,6 +228,7 @@ fn sheet(rng: &mut Rng, n: usize, kind: Kind) -> Case {
             let numbers = [rng.between(1, 9) as u32, rng.between(1, 9) as u32];
             book = books::damaged(rng, &draft, &numbers[..rng.clone().between(1, 2)]);
         }
+        _ if rng.one_in(200) => questions::make_patient(&mut question, &book),
         _ => {}
     }
     Case::Sheet { book, question: question.question(), room: question.room }

@@ -10,12 +10,16 @@ use crate::sheet::question::{
     BRACKET, ENERGY_TOLERANCE, FRACTIONS, K_VALUES, MAX_ITERATIONS, MAX_TEMPERATURE_ITERATIONS, PRESSURE, TASK,
     TEMPERATURE, TM_THRESHOLD, TOLERANCE,
 };
-use crate::sheet::{Book, ANSWER_BYTES};
+use crate::sheet::{self, Book, ANSWER_BYTES};
 use crate::types::Temperature;
 
 /// The model's range, K and Pa.
 const T_RANGE: [f64; 2] = [273.16, 450.0];
 const P_RANGE: [f64; 2] = [100.0, 500_000.0];
+
+/// `max_iterations` and `max_temperature_iterations`: mostly enough.
+const LIMITS: [u64; 16] = [1000, 1000, 1000, 1000, 500, 500, 500, 200, 200, 200, 200, 100, 50, 20, 2, 1];
+const HIGHEST_LIMIT: u64 = 1_000_000;
 
 /// A question whose check is not yet made, and the room for its answer.
 #[derive(Debug, Clone)]
@@ -27,7 +31,7 @@ pub struct Draft {
 }
 
 impl Draft {
-    fn put(&mut self, at: usize, v: f64) {
+    pub fn put(&mut self, at: usize, v: f64) {
         self.words[at] = v.to_bits();
     }
 
@@ -35,7 +39,7 @@ impl Draft {
         f64::from_bits(self.words[at])
     }
 
-    fn put_all(&mut self, at: usize, values: &[f64]) {
+    pub fn put_all(&mut self, at: usize, values: &[f64]) {
         for (k, v) in values.iter().enumerate() {
             self.put(at + k, *v);
         }
@@ -82,7 +86,7 @@ pub fn with_trace(rng: &mut Rng, book: &Book, task: u64, trace: usize) -> Draft 
     with_feed(rng, book, task, &feed)
 }
 
-fn with_feed(rng: &mut Rng, book: &Book, task: u64, feed: &[f64]) -> Draft {
+pub fn with_feed(rng: &mut Rng, book: &Book, task: u64, feed: &[f64]) -> Draft {
     let n = feed.len();
     let mut draft = options(rng, task);
     draft.put_all(FRACTIONS, feed);
@@ -104,12 +108,9 @@ fn options(rng: &mut Rng, task: u64) -> Draft {
     draft.words[TASK] = task;
     draft.put(TEMPERATURE, rng.range(280.0, 440.0));
     draft.put(PRESSURE, rng.decade(3.0, 5.5));
-    // More turns only with a tolerance that they can meet.
-    let patient = rng.one_in(50);
-    let limits: [u64; 8] = if patient { [1_000_000; 8] } else { [1000, 1000, 500, 500, 200, 200, 20, 2] };
-    draft.words[MAX_ITERATIONS] = rng.pick(&limits);
-    draft.words[MAX_TEMPERATURE_ITERATIONS] = rng.pick(&[1000, 200, 200, 200, 100, 50, 20, 2]);
-    let finest = if patient || !rng.one_in(8) { -12.0 } else { -15.0 };
+    draft.words[MAX_ITERATIONS] = rng.pick(&LIMITS);
+    draft.words[MAX_TEMPERATURE_ITERATIONS] = rng.pick(&LIMITS);
+    let finest = if rng.one_in(8) { -15.0 } else { -12.0 };
     draft.put(TOLERANCE, rng.decade(finest, -6.0).min(1e-6));
     draft.put(ENERGY_TOLERANCE, 1e-10);
     draft.put(TM_THRESHOLD, -rng.pick(&[1e-8, 1e-8, 1e-8, 1e-10, 1e-6, 1e-3]));
@@ -220,6 +221,14 @@ fn split(rng: &mut Rng, draft: &mut Draft, n: usize) {
     }
 }
 
+/// The highest limits, where those it has are enough: with others a call might take seconds.
+pub fn make_patient(draft: &mut Draft, book: &[u8]) {
+    if sheet::answer(book, &draft.question(), &mut [0; ANSWER_BYTES]) == 0 {
+        draft.words[MAX_ITERATIONS] = HIGHEST_LIMIT;
+        draft.words[MAX_TEMPERATURE_ITERATIONS] = HIGHEST_LIMIT;
+    }
+}
+
 /// On either side of a question's edge.
 pub fn at_the_edge(rng: &mut Rng, draft: &mut Draft) {
     let sum = FRACTIONS + rng.below(2);
@@ -234,8 +243,8 @@ pub fn at_the_edge(rng: &mut Rng, draft: &mut Draft) {
             let p = rng.pick(&P_RANGE);
             draft.put(PRESSURE, beside(rng, p));
         }
-        4 => draft.words[MAX_ITERATIONS] = rng.pick(&[1, 2, 3, 1_000_000, 1_000_001]),
-        5 => draft.words[MAX_TEMPERATURE_ITERATIONS] = rng.pick(&[1, 2, 3, 1_000_000, 1_000_001]),
+        4 => draft.words[MAX_ITERATIONS] = rng.pick(&[1, 2, 3, HIGHEST_LIMIT + 1]),
+        5 => draft.words[MAX_TEMPERATURE_ITERATIONS] = rng.pick(&[1, 2, 3, HIGHEST_LIMIT + 1]),
         6 => draft.put(TOLERANCE, beside(rng, 1e-6)),
         7 => draft.put(TM_THRESHOLD, -f64::from_bits(rng.below(2) as u64)),
         8 => draft.put(sum, draft.get(sum) + rng.sign() * beside(rng, 1e-10)),
@@ -278,7 +287,7 @@ pub fn damage(rng: &mut Rng, draft: &mut Draft, number: u32) {
         20 => draft.words[rng.pick(&[MAX_ITERATIONS, MAX_TEMPERATURE_ITERATIONS])] = 0,
         21 => {
             let at = rng.pick(&[MAX_ITERATIONS, MAX_TEMPERATURE_ITERATIONS]);
-            draft.words[at] = rng.pick(&[1_000_001, 1 << 32, u64::MAX]);
+            draft.words[at] = rng.pick(&[HIGHEST_LIMIT + 1, 1 << 32, u64::MAX]);
         }
         22 => draft.put(TEMPERATURE, rng.pick(&[273.15, 450.01, 1e-300, 1e300])),
         _ => draft.put(PRESSURE, rng.pick(&[99.9, 500_000.1, 1e-300, 1e300])),
