@@ -26,11 +26,11 @@ num-question : (question : List ℕ) (n : ℕ) → Numbered (questionOf question
 unfolding questionOf inputsRight limitsRight
 num-question question n = search numbers depth 14
 
+ruleset solvers = (num-bubblePressure, num-dewPressure, num-bubbleTemperature, num-dewTemperature, num-stability, num-flash, num-constrained, num-negative)
+
 num-task : (book : List ℕ) (n : ℕ) (q : Question) → Numbered (taskOf book n q)
 unfolding taskOf task1 task2 task3 task4 task5 task6 task7 task8 task9
-num-task book n q =
-    search (numbers, num-positive, num-liquids, num-excess, num-activity, num-bubblePressure, num-dewPressure, num-bubbleTemperature, num-dewTemperature, num-stability, num-flash, num-constrained, num-negative)
-    depth 16
+num-task book n q = search (numbers, solvers, num-positive, num-liquids, num-excess, num-activity) depth 12
 
 pub refusals : Refusals
 unfolding sheetOf
