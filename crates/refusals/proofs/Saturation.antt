@@ -1,0 +1,44 @@
+-- Bubble and dew points at a temperature, for any activity model and pure liquids whose refusals are numbered. Assumes nothing.
+use Prim.Native.Nat.{ℕ, zero, suc}
+use mathlib.Core.List.{List}
+use lib.Ieee.{Float}
+use Rattle.floats.specs.Outcome.{Out}
+use Rattle.thermo_models.specs.Model.{Activity, Model, Liquids}
+use Rattle.saturation.specs.Saturation.{bubbleFrom, residualWith, bubbleAt, residual, dewTurn, dewPoint, dewLoop, dewAt, bubblePressure, dewPressurePoint}
+use Rattle.refusals.specs.Numbered.{Numbered}
+use Rattle.refusals.proofs.Laws.{numbers}
+
+pub num-residualWith : (lg ps : List Float) (p : Float) (x y : List Float) (n : ℕ) → Numbered (residualWith lg ps p x y n)
+unfolding residualWith
+num-residualWith lg ps p x y n = search numbers
+
+module _ (E : List Float → Out Activity) (h : (x : List Float) → Numbered (E x)) (ps : List Float) (n : ℕ) where
+  pub num-bubbleAt : (x : List Float) → Numbered (bubbleAt E ps n x)
+  unfolding bubbleAt bubbleFrom
+  num-bubbleAt x = search numbers
+
+  pub num-residual : (p : Float) (x y : List Float) → Numbered (residual E ps n p x y)
+  unfolding residual
+  num-residual p x y = search (numbers, num-residualWith)
+
+  num-dewPoint : (y lg : List Float) (iteration : ℕ) → Numbered (dewPoint E ps n y lg iteration)
+  unfolding dewPoint
+  num-dewPoint y lg iteration = search (numbers, num-residualWith)
+
+  num-dewLoop : (y : List Float) (tolerance : Float) (left done : ℕ) (lg : List Float) → Numbered (dewLoop E ps n y tolerance left done lg)
+  unfolding dewLoop dewTurn
+  num-dewLoop y tolerance zero done lg = search numbers
+  num-dewLoop y tolerance (suc left) done lg = search (numbers, num-dewPoint, num-dewLoop y tolerance left)
+
+  pub num-dewAt : (y : List Float) (tolerance : Float) (limit : ℕ) → Numbered (dewAt E ps n y tolerance limit)
+  unfolding dewAt
+  num-dewAt y tolerance limit = num-dewLoop y tolerance limit 0 _
+
+module _ (E : Model) (h : (t : Float) (x : List Float) → Numbered (E t x)) (L : Liquids) (g : (t : Float) → Numbered (L t)) (n : ℕ) where
+  pub num-bubblePressure : (t : Float) (x : List Float) → Numbered (bubblePressure E L n t x)
+  unfolding bubblePressure
+  num-bubblePressure t x = search (numbers, num-bubbleAt, num-residual) depth 6
+
+  pub num-dewPressure : (t : Float) (y : List Float) (tolerance : Float) (limit : ℕ) → Numbered (dewPressurePoint E L n t y tolerance limit)
+  unfolding dewPressurePoint
+  num-dewPressure t y tolerance limit = search (numbers, num-dewAt)

@@ -1,0 +1,2 @@
+-- Which numbers refuse a call. Assumes nothing.
+pub mod Numbered

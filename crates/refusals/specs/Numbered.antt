@@ -1,0 +1,18 @@
+-- Every refusal has one of document 01's numbers, so the result 0 means an answer. Over the definition of the whole call. Assumes nothing.
+use mathlib.Core.Path.{_≡_}
+use mathlib.Core.List.{List}
+use Prim.Native.Nat.{ℕ, _≤_}
+use Rattle.floats.specs.Outcome.{Out, ok, no}
+use Rattle.sheet.specs.Sheet.{sheetOf, numberOf}
+
+-- an outcome whose refusal, if it is one, has a number 1 to 30
+pub record Numbered {A : Type 0} (o : Out A) : Type 0 where
+  pub number : (r : ℕ) → o ≡ no r → (1 ≤ r) × (r ≤ 30)
+
+-- every call
+abbrev pub Refusals : Type 0
+Refusals = (book question : List ℕ) (room : ℕ) → Numbered (sheetOf book question room)
+
+-- a call whose result is 0 has an answer
+abbrev pub ZeroIsAnswer : Type 0
+ZeroIsAnswer = (book question : List ℕ) (room : ℕ) → numberOf (sheetOf book question room) ≡ 0 → (bs : List ℕ) × (sheetOf book question room ≡ ok bs)

@@ -1,0 +1,1 @@
+// Which numbers refuse a call: laws and the theorem; no code.
