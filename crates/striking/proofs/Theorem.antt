@@ -19,14 +19,15 @@ use Rattle.question.specs.Asked.{questionOf}
 use Rattle.question.specs.declared.Question.{Question}
 use Rattle.replies.specs.Blocks.{Answer, answerBytes}
 use Rattle.sheet.specs.Tasks.{taskOf}
-use Rattle.sheet.specs.Sheet.{sheetOf, written}
+use Rattle.sheet.specs.Sheet.{sheetOf, numberOf, written, Answers}
+use Rattle.refusals.proofs.Theorem.{zero-is-answer}
 use Rattle.striking.specs.Places.{cnt}
 use Rattle.striking.specs.Accepted.{Acc}
 use Rattle.striking.specs.Books.{ShorterBook}
 use Rattle.striking.specs.Words.{SameWord}
 use Rattle.striking.specs.Questions.{keptIn, ShorterQuestion, solvents, Shorter}
 use Rattle.striking.specs.Sheets.{SameEntries, SameHead, SameTrialBlock, SameSheet}
-use Rattle.striking.specs.Theorem.{Accepted, after, Demand3, Meet, EqualAnswer, EqualTrial, EqualSheet, SameDrum, Demand3-4}
+use Rattle.striking.specs.Theorem.{Accepted, after, Demand3, Calls, Meet, EqualAnswer, EqualTrial, EqualSheet, SameDrum, Demand3-4}
 use Rattle.striking.proofs.Acc.{acc-ok, acc-no, acc-bind, acc-passed, accepted}
 use Rattle.striking.proofs.Books.{shorter-solvents, shorter-pairs, strike-book}
 use Rattle.striking.proofs.Questions.{absent-zero, withFeed, SameQuestion, strike-question}
@@ -101,6 +102,15 @@ striking book question book' question' h other old old' enough took =
     let p = accepted-is (sheetOf book question (length old)) took in
     let q = accepted (subst (λ (o : Out (List ℕ)). Acc (Alike (keptIn question) (solvents book)) o (sheetOf book' question' (length old'))) (p .1) (strike-sheet book question book' question' h other (length old) (length old') enough)) in
     rw (p .1, q .1) (tt, q .2 (drop (length (p .0)) old) (drop (length (q .0)) old'))
+
+-- 0 means an answer, since every refusal has a number of 1 to 30
+pub striking-calls : Calls
+unfolding Accepted numberOf
+striking-calls book question book' question' h other old new old' new' r' enough a b =
+    let p = zero-is-answer book question (length old) (sym (a .number)) in
+    let q = striking book question book' question' h other old old' enough (rw (p .1) tt) in
+    let o = accepted-is (sheetOf book' question' (length old')) (q .0) in
+    (b .number ∙ rw (o .1), rw (a .bytes, b .bytes) (q .1))
 
 -- ---- the corollary: both calls against the shorter one
 word-sym : {a b : ℕ} → SameWord a b → SameWord b a

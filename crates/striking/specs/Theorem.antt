@@ -14,7 +14,7 @@ use Rattle.book.specs.Places.{words}
 use Rattle.thermo_models.specs.Model.{Activity}
 use Rattle.question.specs.Asked.{fraction}
 use Rattle.sheet.specs.Tasks.{modelOf}
-use Rattle.sheet.specs.Sheet.{sheetOf, written}
+use Rattle.sheet.specs.Sheet.{sheetOf, written, Answers}
 use Rattle.striking.specs.Places.{cnt}
 use Rattle.striking.specs.Words.{SameWord}
 use Rattle.striking.specs.Questions.{keptIn, solvents, Shorter}
@@ -35,6 +35,13 @@ Demand3 =
     (book question book' question' : List ℕ) → Shorter book question book' question' → word question 1 ≢ 5
     → (old old' : List ℕ) → 4608 ≤ length old' → Accepted (sheetOf book question (length old))
     → Accepted (sheetOf book' question' (length old')) × SameSheet (keptIn question) (solvents book) (after book question old) (after book' question' old')
+
+-- the same of two calls of the entry point, by its contract: it gives 0 and leaves the slice `new`, and then it gives r' and leaves `new'`
+abbrev pub Calls : Type 0
+Calls =
+    (book question book' question' : List ℕ) → Shorter book question book' question' → word question 1 ≢ 5
+    → (old new old' new' : List ℕ) (r' : ℕ) → 4608 ≤ length old' → Answers (sheetOf book question (length old)) 0 old new → Answers (sheetOf book' question' (length old')) r' old' new'
+    → (r' ≡ 0) × SameSheet (keptIn question) (solvents book) new new'
 
 -- ---- two books that strike down to the same shorter one
 -- solvent i of the first and solvent j of the second are the same kept one
