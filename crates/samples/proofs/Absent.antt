@@ -22,7 +22,8 @@ use Rattle.thermo_models.specs.Domain.{solventCovers, temperatureInDomain, pure
 use Rattle.thermo_models.specs.Model.{pressureInDomain}
 use Rattle.thermo_models.specs.Activity.{activityIn, activityOf}
 use Rattle.saturation.specs.Saturation.{partialOf, partialSum, bubbleFrom, gapOf, residualWith, dewTerm, dewPressure, dewLiquid, bubbleAt, dewTurn, dewPoint, dewLoop, dewAt}
-use Rattle.liquid_stability.specs.Stability.{presentCount, tangent, startOf, totalOf, trialComposition, distanceOf, nextOf, apartOf, unstable, trialWith, noTrial, noTrials, withTrial, trialFrom, trialsTo, stabilityOf}
+use Rattle.liquid_stability.specs.Stability.{presentCount, tangent, startOf, totalOf, trialComposition, distanceOf, nextOf, apartOf, unstable, trialWith, noTrial, noTrials}
+use Rattle.liquid_stability.specs.Stability.{withTrial, trialFrom, trialsTo, stabilityOf}
 use Rattle.tp_flash.specs.Tp.{stableLiquid, dewOf, asLiquid, betweenOf, fromDew, phasesOf, tpFlash}
 use Rattle.question.specs.Inputs.{isTask, needsTemperature, needsPressure, needsOptions, needsRatios}
 use Rattle.question.specs.Asked.{positive, toleranceRight, optionsRight, questionFrom, inputsRight, limitsRight, questionOf}

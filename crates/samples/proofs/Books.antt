@@ -9,7 +9,8 @@ use Rattle.floats.specs.Small.{isFinite}
 use Rattle.floats.specs.Fold.{allTo}
 use Rattle.floats.specs.Outcome.{Out, ok, bind, need}
 use Rattle.book.specs.Places.{rowFrom}
-use Rattle.book.specs.Book.{floatsFinite, headRight, solventRight, rangeRight, recordRight, recordsRight, casNew, pairRight, rowRight, boundsFinite, pairFinite, alphasEqual, pairsOf, solventsOf, headOf, bookOf}
+use Rattle.book.specs.Book.{floatsFinite, headRight, solventRight, rangeRight, recordRight, recordsRight, casNew, pairRight, rowRight, boundsFinite, pairFinite, alphasEqual}
+use Rattle.book.specs.Book.{pairsOf, solventsOf, headOf, bookOf}
 use Rattle.sheet.specs.Sheet.{sheetOf}
 use Rattle.sheet.specs.Steps.{sheetWith}
 use Rattle.samples.specs.Sheets.{book1, book2}

@@ -20,7 +20,8 @@ use Rattle.nrtl.specs.Columns.{colS, colC, termJ, lnFrom, gibbsFrom}
 use Rattle.nrtl.specs.State.{gibbsOf, enthalpyOf, heatCapacityOf, entropyOf, stateFrom, excessOf}
 use Rattle.thermo_models.specs.Domain.{solventCovers, temperatureInDomain, pureLiquidsOf}
 use Rattle.thermo_models.specs.Validity.{unseen, noted, visited, rowSeen, allSeen, statusOf, validityOf}
-use Rattle.rachford_rice.specs.Rachford.{turnOf, residualOf, slopeOf, kMax, kMin, validate, liquidPart, vaporPart, solutionAt, iterate, between, negative, twoPhase, onePhase, constrained}
+use Rattle.rachford_rice.specs.Rachford.{turnOf, residualOf, slopeOf, kMax, kMin, validate, liquidPart, vaporPart, solutionAt, iterate, between, negative, twoPhase, onePhase}
+use Rattle.rachford_rice.specs.Rachford.{constrained}
 use Rattle.saturation.specs.Saturation.{bubblePressure}
 use Rattle.question.specs.Inputs.{isTask, needsTemperature, needsPressure, needsOptions, needsRatios}
 use Rattle.question.specs.Asked.{positive, toleranceRight, optionsRight, questionFrom, inputsRight, limitsRight, questionOf}
