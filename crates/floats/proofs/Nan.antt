@@ -1,10 +1,9 @@
 -- The test `x != x` finds a NaN. Assumes nothing.
-use mathlib.Core.Path.{_≡_, refl, sym, ap, _∙_, subst}
-use mathlib.Core.Bool.{Bool, true, false, not, cond, _&&_, false≢true, true≢false}
-use Prim.Native.Nat.{ℕ, _*_}
+use mathlib.Core.Path.{_≡_, refl, sym, _∙_, subst}
+use mathlib.Core.Bool.{Bool, true, false, not, _&&_, false≢true}
+use Prim.Native.Nat.{_*_}
 use lib.Dec.{T, eqb, eqb-refl}
-use lib.Ieee.{Float, nan, inf, fin, up, down, ne, eq, isNan}
-use lib.Ieee.Bits.{is-true, is-false}
+use lib.Ieee.{Float, nan, inf, fin, up, down, ne, isNan}
 
 -- `x != x` is the test for a NaN
 self-level : (b : Bool) → T b → not (b && true) ≡ false

@@ -1,5 +1,5 @@
 -- Laws of outcomes: what a test found, taken apart and put together. Assumes nothing.
-use mathlib.Core.Path.{_≡_, refl, sym, ap, _∙_}
+use mathlib.Core.Path.{_≡_, refl, sym, ap}
 use mathlib.Core.Bool.{Bool, true, false, true≢false}
 use Prim.Native.Nat.{ℕ}
 use lib.Dec.{T}

@@ -1,6 +1,6 @@
 -- Sums of Jets over an index: one turn of a loop, its end, and equal terms. Assumes nothing.
 use Prim.Native.Nat.{ℕ, _+_, _<_}
-use mathlib.Core.Path.{_≡_, refl, _∙_, ap}
+use mathlib.Core.Path.{_≡_, _∙_, ap}
 use native.Mathlib.Numerals.{add-one}
 use Rattle.floats.specs.Fold.{foldTo}
 use Rattle.floats.proofs.Folds.{fold-cong}

@@ -1,17 +1,15 @@
 -- An accepted state's g^E / RT is finite, though the Rust tests g^E alone: a product is finite only where both factors are. Assumes nothing.
 use Prim.Native.Nat.{ℕ}
-use mathlib.Core.Path.{_≡_, refl, ap, sym, _∙_}
-use mathlib.Core.Bool.{Bool, true, false, cond, false≢true}
-use mathlib.Core.List.{List}
+use mathlib.Core.Path.{_≡_}
+use mathlib.Core.Bool.{Bool, true, false, cond}
 use lib.Dec.{T, eqb}
-use lib.Ieee.{Float, nan, inf, fin, binary64, mul, lt, unlike}
-use Rattle.floats.specs.Arithmetic.{_⊗_, 0f}
+use lib.Ieee.{Float, nan, inf, fin, mul, unlike}
+use Rattle.floats.specs.Arithmetic.{_⊗_}
 use Rattle.floats.specs.Small.{isFinite}
-use Rattle.floats.specs.Fold.{allTo}
-use Rattle.floats.specs.Outcome.{Out, ok, no, need}
+use Rattle.floats.specs.Outcome.{ok}
 use Rattle.floats.proofs.Outcomes.{need-inv}
 use Rattle.jet.specs.declared.Jet.{Jet}
-use Rattle.nrtl.specs.State.{Excess, gasR, gibbsOf, enthalpyOf, entropyOf, heatCapacityOf, stateFrom}
+use Rattle.nrtl.specs.State.{Excess, gasR, gibbsOf, stateFrom}
 
 infinite : (b s : Bool) → T (isFinite (cond b nan (inf s))) → ⊥
 unfolding isFinite

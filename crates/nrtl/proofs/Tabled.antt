@@ -1,23 +1,22 @@
 -- On a table that `tables` made, `excess` of the table is `excess` of the parameters: H = τ G is the product that the definition takes, C / S once
 -- is C / S each time, and Jets without second derivatives give the same values and slopes. Assumes nothing.
 use Prim.Native.Nat.{ℕ, _+_, _*_, _<_, _≤_}
-use mathlib.Core.Path.{_≡_, refl, _∙_, ap, sym}
-use mathlib.Core.Bool.{Bool, true, false, cond, _&&_}
+use mathlib.Core.Path.{_≡_, refl, ap}
+use mathlib.Core.Bool.{Bool, true, false, cond}
 use mathlib.Core.List.{List}
 use native.Mathlib.Omega.{arith}
 use lib.ListN.{length}
 use lib.Ieee.{Float}
 use Rattle.floats.specs.Small.{isFinite}
 use Rattle.floats.specs.Vector.{at, zeros8}
-use Rattle.floats.specs.Outcome.{Out, ok, no, need}
+use Rattle.floats.specs.Outcome.{need}
 use Rattle.floats.specs.Fold.{allTo}
 use Rattle.floats.proofs.Folds.{all-cong}
 use Rattle.floats.proofs.Fills.{fill-cong}
 use Rattle.thermo_types.specs.declared.Verdict.{Verdict}
 use Rattle.thermo_types.specs.declared.Verdict.the-variants.{Passed, Refused}
-use Rattle.thermo_types.specs.Composition.{withFractions}
 use Rattle.jet.specs.declared.Jet.{Jet}
-use Rattle.jet.specs.Jets.{scaleJ, mulJ, divJ, twoJ}
+use Rattle.jet.specs.Jets.{scaleJ, mulJ, twoJ}
 use Rattle.jet.proofs.Sums.{sumJet-cong}
 use Rattle.jet.proofs.Near.{_≃_, two-near, scale-near, div-near, sub-near, mul-near, sum-near}
 use Rattle.nrtl_tables.specs.Pair.{tauAt, gAt, alphasRight}
@@ -25,8 +24,8 @@ use Rattle.nrtl_tables.specs.Table.{keptOf, tableRows, tableOf, tableVerdict, T
 use Rattle.nrtl_tables.proofs.Planes.{rows-at}
 use Rattle.nrtl.specs.declared.Energies.{Energies}
 use Rattle.nrtl.specs.Columns.{colS, colC, ratio, termJ, lnFrom, gibbsFrom, lnGammaOf, reducedOf}
-use Rattle.nrtl.specs.State.{Excess, stateFrom, excessOf}
-use Rattle.nrtl.specs.On.{jetAt, twoAt, jets, twos, firstTwo, sOn, rOn, lnGammaOn, reducedOn, passing, excessOn}
+use Rattle.nrtl.specs.State.{stateFrom, excessOf}
+use Rattle.nrtl.specs.On.{jetAt, jets, twos, firstTwo, sOn, rOn, lnGammaOn, reducedOn, passing, excessOn}
 use Rattle.nrtl.specs.Answers.{Gives}
 
 -- the table m stands for τ and G, below n

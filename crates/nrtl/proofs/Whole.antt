@@ -11,7 +11,7 @@ use lib.Ieee.{Float, nan}
 use Rattle.floats.specs.Small.{isFinite}
 use Rattle.floats.specs.Fold.{foldTo, allTo}
 use Rattle.floats.specs.Vector.{at, zeros8}
-use Rattle.floats.specs.Outcome.{Out, ok, no, need}
+use Rattle.floats.specs.Outcome.{ok, no}
 use Rattle.floats.proofs.Folds.{all-cong}
 use Rattle.floats.proofs.Fills.{fillFrom-length, fillFrom-at, fillFrom-before, fill-cong}
 use Rattle.floats.proofs.Outcomes.{need-yes, need-no}
@@ -19,11 +19,11 @@ use Rattle.jet.specs.declared.Jet.{Jet}
 use Rattle.jet.specs.Jets.{twoJ}
 use Rattle.jet.proofs.Sums.{sumJet-cong}
 use Rattle.nrtl.specs.declared.Energies.{Energies}
-use Rattle.nrtl.specs.Columns.{termJ, lnFrom}
-use Rattle.nrtl.specs.State.{Excess, stateFrom}
+use Rattle.nrtl.specs.Columns.{lnFrom}
+use Rattle.nrtl.specs.State.{stateFrom}
 use Rattle.nrtl.specs.On.{twos, firstTwo, sOn, rOn, lnGammaOn, reducedOn}
 use Rattle.nrtl.specs.Answers.{energiesOf, lnGammasOf, slopesOf, Gives}
-use Rattle.nrtl.specs.Steps.{pairOf, sumsOf, twoOf, sIn, rIn, SumsTo, GammasTo, energiesAt, energiesFinite}
+use Rattle.nrtl.specs.Steps.{pairOf, sumsOf, sIn, rIn, SumsTo, GammasTo, energiesAt, energiesFinite}
 use Rattle.nrtl.proofs.Tests.{whole, one-test, gives}
 
 -- ---- the array of sums

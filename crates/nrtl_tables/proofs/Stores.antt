@@ -13,7 +13,6 @@ use Rattle.floats.specs.Vector.{at8, fillRows}
 use Rattle.floats.proofs.Folds.{fold-cong}
 use Rattle.floats.proofs.Fills.{fillRows-at}
 use Rattle.numerics.specs.Numerics.{expOf}
-use Rattle.thermo_types.specs.declared.Verdict.{Verdict}
 use Rattle.thermo_types.specs.declared.Verdict.the-variants.{Passed, Refused}
 use Rattle.jet.specs.declared.Jet.{Jet}
 use Rattle.jet.specs.Jets.{constJ, mulJ, expWith}

@@ -1,13 +1,11 @@
 -- What `exp`'s proof needs of its argument: between the two limits v is at most 746 in size, so C * v ± 0.5 is at most 1493. Assumes nothing.
-use mathlib.Core.Path.{_≡_, refl, sym, ap, _∙_, subst}
-use mathlib.Core.Bool.{Bool, true, false, cond, false≢true, true≢false}
-use Prim.Native.Nat.{ℕ, _+_, _*_, _<_, _≤_}
-use native.Mathlib.Nat.{mul-one}
+use mathlib.Core.Path.{_≡_}
+use mathlib.Core.Bool.{Bool, true, false, cond, true≢false}
+use Prim.Native.Nat.{_*_}
 use native.Mathlib.Omega.{arith}
 use borrow.Author.Tests.{ltb-false}
 use lib.Dec.{lit≤}
-use lib.IntN.{ℤ, pos, negsuc}
-use lib.Ieee.{Float, nan, inf, fin, binary64, up, down, lt, isNan, ofBits}
+use lib.Ieee.{Float, nan, inf, fin, up, down, lt, isNan, ofBits}
 use Rattle.floats.specs.Arithmetic.{#, _⊕_, _⊖_, _⊗_, ½, 0f}
 use Rattle.numerics.specs.Numerics.{C, expShift}
 use Rattle.numerics.proofs.Bounds.{Within, add-within, sub-within, mul-within}

@@ -4,12 +4,12 @@ use mathlib.Core.Bool.{Bool, true, false}
 use Prim.Native.Nat.{ℕ, zero, suc, _+_, _-_, _*_, _^_, _≤_, _<_}
 use native.Mathlib.Nat.{mul-comm, mul-assoc, mul-one, one-mul, zero-lt-suc}
 use native.Mathlib.Omega.{arith}
-use borrow.Author.Tests.{leb-true, le-leb, lt-leb, ltb-true, ltb-false}
+use borrow.Author.Tests.{leb-true, ltb-true, ltb-false}
 use lib.Dec.{leb, ltb}
 use lib.Pow.{pow-add}
 use lib.IntN.{ℤ, pos, negsuc, _+ℤ_}
 use lib.Ieee.{Float, fin, up, down, minus, size}
-use lib.Ieee.Digits.{size-lt, size-reaches, size-le}
+use lib.Ieee.Digits.{size-lt, size-reaches}
 use Rattle.numerics.specs.Numerics.{mantissa, exponent}
 use Rattle.numerics.proofs.Splits.{minus-pos}
 

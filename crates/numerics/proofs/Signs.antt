@@ -1,15 +1,15 @@
 -- `expOf` is never negative, and never -0: 1 + w, the last sum but one, has w from -1 to 1. That holds since v - k * A is at most a half in size. Assumes nothing.
-use mathlib.Core.Path.{_≡_, refl, sym, ap, _∙_, subst}
-use mathlib.Core.Bool.{Bool, true, false, not, cond, false≢true, true≢false}
-use Prim.Native.Nat.{ℕ, zero, suc, _+_, _-_, _*_, _/_, _^_, _<_, _≤_, min}
-use native.Mathlib.Nat.{le-trans, le-of-eq, mul-le-mul-right, le-of-mul-le-mul-right, lt-of-mul-lt-mul-right, lt-of-le-of-lt, lt-of-lt-of-le, mul-assoc, mul-comm, mul-right-comm, mul-one, mul-pos, zero-mul, zero-lt-suc, suc-mul, div-mul-le-self, div-lt-iff-lt-mul, mul-lt-mul-of-pos-right, pow-suc}
+use mathlib.Core.Path.{_≡_, refl, sym, ap, subst}
+use mathlib.Core.Bool.{Bool, true, false, cond, true≢false}
+use Prim.Native.Nat.{ℕ, zero, suc, _+_, _*_, _/_, _^_, _<_, _≤_, min}
+use native.Mathlib.Nat.{le-trans, le-of-eq, mul-le-mul-right, le-of-mul-le-mul-right, lt-of-mul-lt-mul-right, lt-of-le-of-lt, lt-of-lt-of-le, mul-right-comm, mul-pos, zero-lt-suc, div-mul-le-self, div-lt-iff-lt-mul, mul-lt-mul-of-pos-right, pow-suc}
 use native.Mathlib.Omega.{arith}
 use borrow.Author.Tests.{lt-ltb, le-ltb}
-use lib.Dec.{T, leb, ltb, eqb, eqb→eq, lit≤, lit<}
+use lib.Dec.{T, eqb→eq, lit≤, lit<}
 use lib.Pow.{pow-pos}
 use lib.Signed.{quotZ}
 use lib.IntN.{ℤ, pos, negsuc, negℤ, _-ℤ_}
-use lib.Ieee.{Float, nan, inf, fin, binary64, up, down, unlike, round, neg, add, sub, mul, div, lt, ofBits, ofInt, toSigned, isNan, fits}
+use lib.Ieee.{Float, nan, inf, fin, binary64, up, down, unlike, neg, add, sub, mul, div, lt, ofBits, ofInt, toSigned, isNan, fits}
 use lib.Ieee.Fits.{up-pos, down-pos}
 use Rattle.floats.specs.Arithmetic.{#, _⊕_, _⊖_, _⊗_, _⊘_, ½, 0f, 1f, 2f}
 use Rattle.numerics.specs.Numerics.{A, B, C, float, pow2, expShift, expFrom, expOf}

@@ -1,21 +1,20 @@
 -- v = 2 ^ k × m, from the digits of v's bit pattern. Assumes nothing.
 use mathlib.Core.Path.{_≡_, refl, sym, ap, _∙_, subst}
-use mathlib.Core.Logic.{inl, inr}
-use mathlib.Core.Bool.{Bool, true, false, cond}
+use mathlib.Core.Bool.{Bool, true, false}
 use Prim.Native.Nat.{ℕ, zero, suc, _+_, _-_, _*_, _/_, _%_, _^_, _<_, _≤_}
 use native.Mathlib.Nat.{le-trans, le-of-eq, le-of-suc-le-suc, lt-of-lt-of-le, lt-of-le-of-lt, lt-of-not-le, not-le-of-lt, lt-irrefl, mul-one, one-mul, mul-assoc, mul-pos, mul-div-cancel, mul-le-mul-right, le-of-mul-le-mul-right, lt-of-mul-lt-mul-right, pow-suc}
 use native.Mathlib.Omega.{arith}
 use borrow.Author.Tests.{lt-ltb, le-ltb, lt-leb, le-leb, leb-true, leb-false, ltb-true, ltb-false}
-use lib.Dec.{T, leb, ltb}
+use lib.Dec.{leb, ltb}
 use lib.Signed.{mag}
 use mir.Syntax.{w64}
 use mir.Val.{toZ}
 use mir.ValLaws.{toZ-pos}
-use lib.Pow.{pow-add, pow-pos, pow-lt, pow-mono}
+use lib.Pow.{pow-add, pow-pos, pow-mono}
 use lib.Count.{trailingZeros, under}
 use lib.Bits.{shifted-half, shifted-even}
-use lib.IntN.{ℤ, pos, negsuc, negℤ, _+ℤ_, _-ℤ_}
-use lib.Ieee.{Float, fin, minus, size, odd}
+use lib.IntN.{ℤ, pos, negsuc, _+ℤ_, _-ℤ_}
+use lib.Ieee.{fin, minus, size, odd}
 use lib.Ieee.Digits.{size-lt, size-le}
 use Rattle.numerics.specs.Numerics.{mantissa, exponent}
 

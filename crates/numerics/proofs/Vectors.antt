@@ -1,8 +1,8 @@
 -- Worked values of the definitions, by computation.
 use mathlib.Core.Path.{_≡_, refl}
-use lib.Ieee.{Float, ofBits, toBits, add, sub, mul, div, lt, eq, round, units, odd, size, sum, span, climb, neg, ofInt, toSigned, isNan, ofFields, binary64}
+use lib.Ieee.{ofBits, add, sub, mul, div, lt, eq, size, ofInt, toSigned, isNan}
 use Rattle.floats.specs.Arithmetic.{#, 0f, 1f, ∞}
-use Rattle.numerics.specs.Numerics.{expOf, expFrom, expShift, lnOf, lnFrom, lnSplit}
+use Rattle.numerics.specs.Numerics.{expOf, lnOf}
 
 exp-zero : expOf 0f ≡ 1f
 unfolding expOf ofBits lt isNan add sub mul div ofInt toSigned

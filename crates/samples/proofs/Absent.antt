@@ -1,5 +1,5 @@
 -- The flash with an absent solvent before the kept ones and its shorter sheet, by computation on the definitions. Assumes nothing.
-use mathlib.Core.Path.{_≡_, refl}
+use mathlib.Core.Path.{refl}
 use lib.Ieee.{ofBits, toBits, add, sub, mul, div, neg, lt, le, eq, isNan, ofInt, toSigned, size}
 use Rattle.blocks.specs.Words.{wordFrom, word, block, checkSum, checkRight}
 use Rattle.blocks.specs.Bytes.{bytes, rowTo, blockBytes}

@@ -1,24 +1,21 @@
 -- Every task but dew temperature is struck, up to the words of its answer. Assumes nothing.
-use mathlib.Core.Path.{_≡_, refl, sym, ap, _∙_, subst}
+use mathlib.Core.Path.{_≡_, refl, sym, ap, subst}
 use mathlib.Core.Logic.{_≢_, inl}
 use Prim.Native.Nat.{ℕ, zero, suc, _≤_, _<_}
-use native.Mathlib.Nat.{le-trans}
 use native.Mathlib.Omega.{arith}
 use mathlib.Core.Bool.{Bool, not}
 use mathlib.Core.List.{List, [], _∷_}
 use lib.ListN.{getD}
-use lib.Dec.{T, eqb, eqb→eq}
+use lib.Dec.{T, eqb→eq}
 use lib.Ieee.{Float, binary64, fits}
 use Rattle.floats.specs.Arithmetic.{0f}
-use Rattle.floats.specs.Small.{isFinite}
-use Rattle.floats.specs.Vector.{at, zeros8}
+use Rattle.floats.specs.Vector.{at}
 use Rattle.floats.specs.Outcome.{ok, no}
 use Rattle.thermo_types.specs.Quantities.{positiveOf}
 use Rattle.blocks.specs.Bytes.{wordAt}
 use Rattle.nrtl.specs.State.{Excess}
 use Rattle.thermo_models.specs.declared.Assessment.{Assessment}
 use Rattle.thermo_models.specs.Domain.{temperatureInDomain}
-use Rattle.rachford_rice.specs.declared.RachfordRice.{RachfordRice}
 use Rattle.rachford_rice.specs.declared.RachfordRiceOutcome.{RachfordRiceOutcome}
 use Rattle.rachford_rice.specs.declared.RachfordRiceOutcome.the-variants.{LiquidOnly, VaporOnly, TwoPhase}
 use Rattle.rachford_rice.specs.Rachford.{Solution}
@@ -29,7 +26,7 @@ use Rattle.question.specs.declared.Question.{Question}
 use Rattle.replies.specs.Numbers.{statusNumber, phaseNumber}
 use Rattle.replies.specs.Blocks.{bit, stateWords, modelWords, stableWords, Answer}
 use Rattle.sheet.specs.Tasks.{modelOf, liquidsOf, sheet, excessAnswer, saturationSheet, stabilitySheet, flashSheet, riceSheet, task1, task2, task3, task4, task6, task7, task8, task9, taskOf}
-use Rattle.sheet.proofs.Counts.{Few, stability-few, flash-few}
+use Rattle.sheet.proofs.Counts.{stability-few, flash-few}
 use Rattle.zeros.specs.Same.{_≈_}
 use Rattle.zeros.proofs.Congruence.{same, ≈refl}
 use Rattle.zeros.proofs.Zero.{Zero}

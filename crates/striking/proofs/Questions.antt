@@ -15,9 +15,9 @@ use Rattle.floats.specs.Arithmetic.{_⊖_, 0f, 1f}
 use Rattle.floats.specs.Small.{isFinite, absOf, floatOf}
 use Rattle.floats.specs.Fold.{allTo}
 use Rattle.floats.specs.Vector.{at}
-use Rattle.floats.specs.Outcome.{Out, ok}
+use Rattle.floats.specs.Outcome.{Out}
 use Rattle.thermo_types.specs.Composition.{tolerance, sumsToOne}
-use Rattle.blocks.specs.Words.{word, checkRight}
+use Rattle.blocks.specs.Words.{word}
 use Rattle.question.specs.Inputs.{isTask, needsTemperature, needsPressure, needsOptions, needsRatios}
 use Rattle.question.specs.Asked.{float, fraction, ratio, positive, optionsRight, unless, limited, questionFrom, inputsRight, limitsRight, questionOf}
 use Rattle.question.specs.declared.Question.{Question}

@@ -1,31 +1,29 @@
 -- Answers that are alike are written as sheets that are alike, whatever stands behind them. Assumes nothing.
 use mathlib.Core.Path.{_≡_, refl, sym, ap, _∙_, subst}
 use mathlib.Core.Logic.{_≢_, inl, inr}
-use Prim.Native.Nat.{ℕ, zero, suc, _+_, _*_, _^_, _≤_, _<_}
+use Prim.Native.Nat.{ℕ, zero, suc, _+_, _*_, _≤_, _<_}
 use native.Mathlib.Nat.{le-trans}
 use native.Mathlib.Numerals.{add-one}
 use native.Mathlib.Omega.{arith}
-use mathlib.Core.Bool.{Bool, true, false, not}
+use mathlib.Core.Bool.{Bool}
 use mathlib.Core.List.{List, [], _∷_, _++_, append-nil}
-use lib.ListN.{length, getD, set, replicate, length-replicate}
-use lib.Seq.{take-at, drop-at}
-use lib.Dec.{T, eqb, eqb→eq}
+use lib.ListN.{length, getD, set, replicate}
+use lib.Dec.{T}
 use lib.Ieee.{Float}
 use Rattle.floats.specs.Small.{bitsOf}
 use Rattle.floats.specs.Vector.{at, fillFrom}
 use Rattle.floats.proofs.Fills.{fillFrom-length, fillFrom-at, fillFrom-before}
-use Rattle.blocks.specs.Words.{wordFrom, word, block}
+use Rattle.blocks.specs.Words.{wordFrom}
 use Rattle.blocks.specs.Bytes.{bytes, wordAt, rowTo, blockBytes}
 use Rattle.blocks.proofs.Laws.{length-block-bytes, length-row, word-bytes, block-read}
 use Rattle.book.specs.Places.{words}
 use Rattle.liquid_stability.specs.declared.LiquidStabilityTrial.{LiquidStabilityTrial}
 use Rattle.liquid_stability.specs.Stability.{noTrial}
 use Rattle.replies.specs.Blocks.{bit, Answer, answerWords, trialWords, trialBytes, answerBytes}
-use Rattle.zeros.specs.Same.{_≈_}
 use Rattle.striking.specs.Places.{cnt}
 use Rattle.striking.specs.Results.{SameTrial}
 use Rattle.striking.specs.Words.{ZeroWord, SameWord}
-use Rattle.striking.specs.Sheets.{SameEntries, SameHead, SameTrialBlock, SameSheet}
+use Rattle.striking.specs.Sheets.{SameHead, SameTrialBlock, SameSheet}
 use Rattle.striking.proofs.Strike.{cnt-lt}
 use Rattle.striking.proofs.Excess.{cnt-le}
 use Rattle.striking.proofs.Words.{same-word}

@@ -8,18 +8,17 @@ use mathlib.Core.Logic.{_≢_, inl, inr}
 use mathlib.Core.Bool.{Bool}
 use mathlib.Core.List.{List, _++_}
 use lib.ListN.{length, drop, replicate, length-replicate}
-use lib.Dec.{T, leb}
+use lib.Dec.{leb}
 use Rattle.floats.specs.Outcome.{Out, ok, no, bind, need}
 use Rattle.floats.proofs.Outcomes.{need-yes, bind-yes}
 use Rattle.blocks.specs.Words.{word}
-use Rattle.book.specs.Places.{words}
 use Rattle.book.specs.Book.{bookOf}
 use Rattle.book.proofs.Accepted as open-book
 use Rattle.question.specs.Asked.{questionOf}
 use Rattle.question.specs.declared.Question.{Question}
-use Rattle.replies.specs.Blocks.{Answer, answerBytes}
+use Rattle.replies.specs.Blocks.{answerBytes}
 use Rattle.sheet.specs.Tasks.{taskOf}
-use Rattle.sheet.specs.Sheet.{sheetOf, numberOf, written, Answers}
+use Rattle.sheet.specs.Sheet.{sheetOf, numberOf, written}
 use Rattle.refusals.proofs.Theorem.{zero-is-answer}
 use Rattle.striking.specs.Places.{cnt}
 use Rattle.striking.specs.Accepted.{Acc}
@@ -27,7 +26,7 @@ use Rattle.striking.specs.Books.{ShorterBook}
 use Rattle.striking.specs.Words.{SameWord}
 use Rattle.striking.specs.Questions.{keptIn, ShorterQuestion, solvents, Shorter}
 use Rattle.striking.specs.Sheets.{SameEntries, SameHead, SameTrialBlock, SameSheet}
-use Rattle.striking.specs.Theorem.{Accepted, after, Demand3, Calls, Meet, EqualAnswer, EqualTrial, EqualSheet, SameDrum, Demand3-4}
+use Rattle.striking.specs.Theorem.{Accepted, Demand3, Calls, Meet, EqualAnswer, EqualTrial, EqualSheet, SameDrum, Demand3-4}
 use Rattle.striking.proofs.Acc.{acc-ok, acc-no, acc-bind, acc-passed, accepted}
 use Rattle.striking.proofs.Books.{shorter-solvents, shorter-pairs, strike-book}
 use Rattle.striking.proofs.Questions.{absent-zero, withFeed, SameQuestion, strike-question}

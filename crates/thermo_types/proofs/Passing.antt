@@ -8,7 +8,6 @@ use Rattle.floats.specs.Arithmetic.{0f}
 use Rattle.floats.specs.Small.{isFinite}
 use Rattle.floats.specs.Fold.{allTo}
 use Rattle.floats.specs.Outcome.{Out, ok, no, need}
-use Rattle.thermo_types.specs.declared.Verdict.{Verdict}
 use Rattle.thermo_types.specs.declared.Verdict.the-variants.{Passed, Refused}
 use Rattle.thermo_types.specs.Verdicts.{verdictOf}
 use Rattle.thermo_types.specs.Composition.{sumsToOne, withFractions}

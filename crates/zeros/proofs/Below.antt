@@ -1,14 +1,13 @@
 -- Laws of ⊑. Every operation hands a NaN on, so every operation respects ⊑, with no side condition but one, on a divisor. A product or a quotient of a NaN or
 -- zero is such a value again, whatever the other operand is. Assumes nothing.
-use mathlib.Core.Path.{_≡_, refl, sym, ap, _∙_, subst}
+use mathlib.Core.Path.{_≡_}
 use lib.Dec.{T}
-use lib.Ieee.{Float, nan, inf, fin, binary64, neg, add, sub, mul, div, fits}
-use lib.Ieee.Fits.{add-fits}
+use lib.Ieee.{Float, binary64, neg, add, sub, mul, div, fits}
 use lib.Ieee.Scale.{finite}
-use Rattle.zeros.specs.Same.{canon, plus0, _≈_}
+use Rattle.zeros.specs.Same.{plus0, _≈_}
 use Rattle.zeros.specs.Below.{Num, _⊑_, _⊑!_}
-use Rattle.zeros.proofs.Congruence.{by, same, ≈refl, ≈sym, ≈trans, add-≈, neg-≈, sub-≈, mul-≈, div-≈}
-use Rattle.zeros.proofs.Zero.{num-add-l, num-add-r, num-neg, num-sub-l, num-sub-r, num-mul-l, num-mul-r, num-div-l, num-div-r, num-finite, Zero, zero-≈, zero-add≡, zero-neg, zero-sub, zero-mul-l, zero-mul-r, zero-div, zero-of-≈, add-zero≈, Plain, plain-≈}
+use Rattle.zeros.proofs.Congruence.{same, ≈refl, ≈sym, ≈trans, add-≈, neg-≈, sub-≈, mul-≈, div-≈}
+use Rattle.zeros.proofs.Zero.{num-add-l, num-add-r, num-neg, num-sub-l, num-sub-r, num-mul-l, num-mul-r, num-div-l, num-div-r, num-finite, Zero, zero-≈, zero-add≡, zero-sub, zero-mul-l, zero-mul-r, zero-div, zero-of-≈, add-zero≈, Plain, plain-≈}
 
 pub ⊑-of : {x y : Float} → x ≈ y → x ⊑ y
 ⊑-of p = record { at = λ h. p }

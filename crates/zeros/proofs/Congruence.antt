@@ -1,16 +1,16 @@
 -- Each operation, comparison and test respects ≈: `canon (op x y)` depends on canon x and canon y alone; a quotient, where the divisors are equal. Assumes nothing.
 use mathlib.Core.Path.{_≡_, refl, sym, ap, _∙_, subst}
-use Prim.Native.Nat.{ℕ, zero, suc, _+_, _-_, _*_, _^_, _≤_, _<_}
-use native.Mathlib.Nat.{add-comm, zero-mul, mul-zero, mul-comm, mul-assoc, mul-one, one-mul, mul-right-comm, mul-pos, zero-lt-suc, zero-add, add-zero, sub-zero, lt-irrefl}
+use Prim.Native.Nat.{ℕ, zero, suc, _+_, _-_, _*_, _≤_, _<_}
+use native.Mathlib.Nat.{add-comm, zero-mul, mul-comm, mul-assoc, mul-one, mul-pos, zero-lt-suc, zero-add, add-zero, lt-irrefl}
 use native.Mathlib.Omega.{arith}
 use mathlib.Core.Logic.{_⊎_, inl, inr}
 use mathlib.Core.Bool.{Bool, true, false, not, _&&_, _||_, Bool·beq, cond}
-use lib.IntN.{ℤ, pos, negsuc}
-use lib.Dec.{T, leb, ltb, eqb, ltb→lt, lt→ltb, nltb→le, eqb→eq, eqb-refl, eqb·suc-zero, leb·suc-zero, T-not, not-T}
-use lib.Ieee.{Float, nan, inf, fin, Format, binary32, binary64, up, down, unlike, round, neg, sum, add, sub, mul, div, below, level, lt, le, eq, fits}
+use lib.IntN.{ℤ, pos}
+use lib.Dec.{T, ltb, eqb, ltb→lt, lt→ltb, nltb→le, eqb→eq, eqb·suc-zero, leb·suc-zero}
+use lib.Ieee.{Float, nan, inf, fin, Format, binary32, binary64, up, down, unlike, round, neg, sum, add, sub, mul, div, below, level, lt, le, eq}
 use lib.Ieee.Fits.{up-pos, down-pos}
 use lib.Ieee.Scale.{round-same, finite}
-use lib.Ieee.Bits.{is-true, is-false}
+use lib.Ieee.Bits.{is-true}
 use Rattle.zeros.specs.Same.{plus0, canon, _≈_}
 
 pub by : {x y : Float} → canon x ≡ canon y → x ≈ y

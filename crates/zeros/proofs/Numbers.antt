@@ -7,12 +7,12 @@ use native.Mathlib.Omega.{arith}
 use mathlib.Core.Bool.{Bool, true, false, cond}
 use lib.IntN.{ℤ, pos, negℤ}
 use lib.Dec.{T}
-use lib.Ieee.{Float, nan, inf, fin, binary64, neg, add, sub, mul, div, lt, le, eq, fits, up, down, ofBits, ofInt, toSigned, isNan}
+use lib.Ieee.{Float, nan, inf, fin, binary64, neg, add, sub, mul, div, lt, eq, fits, up, down, ofBits, ofInt, toSigned, isNan}
 use lib.Ieee.Fits.{add-fits, sub-fits, neg-fits}
-use Rattle.floats.specs.Arithmetic.{_⊕_, _⊖_, _⊗_, _⊘_, #, 0f, 1f, 2f}
+use Rattle.floats.specs.Arithmetic.{_⊖_, _⊗_, #, 0f, 1f, 2f}
 use Rattle.floats.specs.Small.{absOf}
 use Rattle.floats.specs.Fold.{foldTo, sumFrom, sumTo}
-use Rattle.numerics.specs.Numerics.{A, B, float, pow2, expFrom, expShift, expOf, lnOf, lnSplit}
+use Rattle.numerics.specs.Numerics.{A, B, float, expFrom, expShift, expOf, lnOf}
 use Rattle.numerics.proofs.Signs.{NoMinus, exp-no-minus}
 use Rattle.zeros.specs.Same.{plus0, canon, _≈_}
 use Rattle.zeros.proofs.Congruence.{same, ≈refl, ≈trans, add-≈, sub-≈, mul-≈, div-≈, lt-≈, le-≈, eq-≈}

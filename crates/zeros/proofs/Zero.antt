@@ -3,22 +3,22 @@
 use mathlib.Core.Path.{_≡_, refl, sym, ap, _∙_, subst}
 use mathlib.Core.Logic.{_⊎_, inl, inr}
 use Prim.Native.Nat.{ℕ, zero, suc, _+_, _-_, _*_, _/_, _%_, _^_, _≤_, _<_, compare}
-use native.Mathlib.Nat.{add-mul, mul-sub, le-trans, le-add-left, suc-mul, le-div-iff-mul-le, div-div-eq-div-mul, add-comm, zero-mul, mul-zero, mul-comm, mul-assoc, mul-left-comm, mul-one, one-mul, mul-right-comm, mul-pos, zero-lt-suc, zero-add, add-zero, lt-irrefl, lt-of-lt-of-le, lt-of-not-le, le-of-suc-le-suc, lt-of-mul-lt-mul-right, mul-lt-mul-of-pos-right}
+use native.Mathlib.Nat.{add-mul, mul-sub, le-trans, le-add-left, suc-mul, le-div-iff-mul-le, div-div-eq-div-mul, zero-mul, mul-comm, mul-assoc, mul-one, one-mul, mul-right-comm, mul-pos, zero-lt-suc, lt-irrefl, lt-of-lt-of-le, lt-of-not-le, le-of-suc-le-suc, lt-of-mul-lt-mul-right, mul-lt-mul-of-pos-right}
 use native.Mathlib.Omega.{arith}
-use mathlib.Core.Bool.{Bool, true, false, not, _&&_, _||_, Bool·beq, cond, true≢false, false≢true}
+use mathlib.Core.Bool.{Bool, true, false, _&&_, Bool·beq, cond, true≢false}
 use lib.IntN.{ℤ, pos, negsuc}
-use lib.Dec.{T, leb, ltb, eqb, ltb→lt, leb→le, lt→ltb, nltb→le, eqb→eq, eqb-refl, eqb·suc-zero}
+use lib.Dec.{T, leb, ltb, eqb, ltb→lt, leb→le, eqb·suc-zero}
 use lib.Pow.{pow-add, pow-pos, pow-lt}
-use lib.Ieee.{Float, nan, inf, fin, Format, binary32, binary64, prec, emax, low, up, down, unlike, size, nearest, odd, units, round, neg, sum, add, sub, mul, div, fits, toBits, ofBits}
-use lib.Ieee.Fits.{up-pos, down-pos, and-l, and-r, round-fits, add-fits, neg-fits, round-is, two, two-le-pos}
+use lib.Ieee.{Float, nan, inf, fin, Format, binary64, prec, emax, low, up, down, unlike, size, nearest, odd, units, round, neg, sum, add, sub, mul, div, fits, toBits, ofBits}
+use lib.Ieee.Fits.{up-pos, down-pos, and-l, and-r, round-fits, add-fits, round-is, two, two-le-pos}
 use lib.Ieee.Exact.{HasValue, round-exact, odd-sign}
 use lib.Ieee.Digits.{size-lt, size-reaches}
 use lib.Ieee.Nearest.{div-same, nearest-ge}
-use lib.Ieee.Scale.{round-same, finite}
-use lib.Ieee.Bits.{ofBits-toBits, is-true, is-false}
+use lib.Ieee.Scale.{finite}
+use lib.Ieee.Bits.{ofBits-toBits}
 use Rattle.zeros.specs.Same.{canon, plus0, _≈_}
 use Rattle.zeros.specs.Below.{Num}
-use Rattle.zeros.proofs.Congruence.{by, same, ≈refl, ≈sym, ≈trans, round-zero, again, add-zero-l, add-comm≡, mul-comm≡}
+use Rattle.zeros.proofs.Congruence.{by, ≈sym, round-zero, again, add-zero-l, add-comm≡, mul-comm≡}
 
 -- ---- no NaN
 pub num-add-l : (f : Format) (x y : Float) → Num (add f x y) → Num x

@@ -7,9 +7,6 @@ use borrow.Author.Needs.{needs}
 use native.Mathlib.Omega.{arith}
 use Rattle.exports.proofs.eight.Statement.{statement}
 use Rattle.exports.proofs.eight.Tie as tie
-use Rattle.exports.proofs.eight.Reads as reads
-use Rattle.exports.proofs.eight.Lts as lts
-use Rattle.exports.proofs.entry.Reads as entry-reads
 
 abbrev Inv-loop : tie.InvT-loop
 Inv-loop s a₀ i₀ a i = (i ≤ 8) × (a ≡ vec (at s) i)
@@ -17,36 +14,28 @@ Inv-loop s a₀ i₀ a i = (i ≤ 8) × (a ≡ vec (at s) i)
 abbrev μ-loop : tie.MeasureT-loop
 μ-loop s a₀ i₀ a i = 8 - i
 
--- src/lib.rt:88:5
 loop-holds : tie.Need-loop-holds Inv-loop μ-loop
 unfolding fill
 loop-holds c = (omega arith, refl)
 
--- src/lib.rt:89:16
 entry-requires : tie.Need-entry-requires Inv-loop μ-loop
 entry-requires c κs = search needs
 
--- src/lib.rt:89:9
 mul-a : tie.Need-mul-a Inv-loop μ-loop
 mul-a c = omega arith
 
--- src/lib.rt:89:9
 array-write-a : tie.Need-array-write-a Inv-loop μ-loop
 array-write-a c = omega arith
 
--- src/lib.rt:88:9
 add-i : tie.Need-add-i Inv-loop μ-loop
 add-i c = omega arith
 
--- src/lib.rt:88:5
 loop-less : tie.Need-loop-less Inv-loop μ-loop
 loop-less c = omega arith
 
--- src/lib.rt:88:5
 loop-again : tie.Need-loop-again Inv-loop μ-loop
 loop-again c = (omega arith, fill-turn _ _ _ (c .entry .ensures) (c .before .before .loop .inv .1))
 
--- src/lib.rt:84:1
 returns : tie.Need-returns Inv-loop μ-loop
 unfolding eightOf
 returns c = fill-done _ _ _ _ (omega arith) (c .before .loop .inv .1)

@@ -1,26 +1,19 @@
 use lib.Ieee.{nan, ofBits, div}
 use lib.ListN.{List·getD-eq-default}
 use mathlib.Core.Path.{refl, sym}
-use native.Mathlib.Omega.{arith}
 use borrow.Author.Needs.{needs}
 use Rattle.exports.proofs.entry.Statement.{statement}
 use Rattle.exports.proofs.entry.Tie as tie
-use Rattle.exports.proofs.entry.Reads as reads
-use Rattle.exports.proofs.entry.Lts as lts
 
--- src/lib.rt:80:22
 mul-result : tie.Need-mul-result
 mul-result c = search needs
 
--- src/lib.rt:80:22
 shared-slice-read-result : tie.Need-shared-slice-read-result
 shared-slice-read-result c = search needs
 
--- src/lib.rt:77:1
 returns : tie.Need-returns
 returns c = refl
 
--- src/lib.rt:77:1
 returns-2 : tie.Need-returns-2
 unfolding ofBits div
 returns-2 c = sym (List·getD-eq-default (c .before .args .s .now) nan (c .if1 .left))

@@ -3,34 +3,24 @@ use Rattle.thermo_types.specs.Verdicts.{verdictOf}
 use Rattle.floats.specs.Outcome.{Out, ok, no}
 use Prim.Native.Nat.{ℕ}
 use mathlib.Core.Path.{_≡_, refl}
-use native.Mathlib.Omega.{arith}
 use borrow.Author.Needs.{needs}
 use Rattle.exports.proofs.zektonk_fractions.Statement.{statement}
 use Rattle.exports.proofs.zektonk_fractions.Tie as tie
-use Rattle.exports.proofs.zektonk_fractions.Reads as reads
-use Rattle.exports.proofs.zektonk_fractions.Lts as lts
-use Rattle.exports.proofs.eight.Reads as eight-reads
-use Rattle.exports.proofs.refusal.Reads as refusal-reads
-use Rattle.thermo_types.proofs.with_fractions.Reads as with-fractions-reads
 
 number-is : (o : Out ℕ) → verdictNumber (verdictOf o) ≡ numberOf o
 unfolding verdictNumber verdictOf numberOf
 number-is (ok a) = refl
 number-is (no r) = refl
 
--- src/lib.rt:107:13
 eight-requires : tie.Need-eight-requires
 eight-requires c κs = search needs
 
--- src/lib.rt:108:12
 with-fractions-requires : tie.Need-with-fractions-requires
 with-fractions-requires c κs = search needs
 
--- src/lib.rt:108:5
 refusal-requires : tie.Need-refusal-requires
 refusal-requires c κs = search needs
 
--- src/lib.rt:103:1
 returns : tie.Need-returns
 returns c = rw (c .refusal .ensures, c .before .with-fractions .ensures, c .before .before .before .eight .ensures) (number-is _)
 

@@ -6,32 +6,23 @@ use native.Mathlib.Omega.{arith}
 use borrow.Author.Needs.{needs}
 use Rattle.exports.proofs.zektonk_open_book.Statement.{statement}
 use Rattle.exports.proofs.zektonk_open_book.Tie as tie
-use Rattle.exports.proofs.zektonk_open_book.Reads as reads
-use Rattle.exports.proofs.zektonk_open_book.Lts as lts
-use Rattle.book.proofs.open_book.Reads as open-book-reads
 
--- src/lib.rt:173:11
 open-book-requires : tie.Need-open-book-requires
 open-book-requires c κs = search needs
 
--- src/lib.rt:174:22
 enum-known-n : tie.Need-enum-known-n
 enum-known-n c = search needs
 
--- src/lib.rt:174:28
 add-result : tie.Need-add-result
 add-result c = omega (arith, accepted _ (opened-ok _ (sym (c .before .n .given .1) ∙ c .before .before .before .open-book .ensures)) .few)
 
--- src/lib.rt:175:20
 enum-known-r : tie.Need-enum-known-r
 enum-known-r c = search needs
 
--- src/lib.rt:169:1
 returns : tie.Need-returns
 unfolding bookNumber
 returns c = rw (opened-ok _ (sym (c .before .n .given .1) ∙ c .before .before .before .open-book .ensures))
 
--- src/lib.rt:169:1
 returns-2 : tie.Need-returns-2
 unfolding bookNumber
 returns-2 c = rw (opened-no _ (sym (c .before .r .given .1) ∙ c .before .before .before .open-book .ensures))

@@ -1,6 +1,6 @@
 -- `floats::bits_of` meets its contract: `toBits` of `nan` computes to the pattern that the first arm returns.
-use mathlib.Core.Path.{_≡_, refl}
-use lib.Ieee.{nan, toBits, isNan}
+use mathlib.Core.Path.{refl}
+use lib.Ieee.{toBits, isNan}
 use Rattle.floats.proofs.Nan.{nan-if, no-nan, is-nan}
 use Rattle.floats.proofs.bits_of.Statement.{statement}
 use Rattle.floats.proofs.bits_of.Tie as tie

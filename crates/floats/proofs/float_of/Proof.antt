@@ -1,9 +1,9 @@
 -- `floats::float_of` meets its contract: a pattern is a NaN's exactly where it is above an infinity's, its sign left out (`nanBits-above`).
 use mathlib.Core.Path.{_≡_, refl, sym, _∙_}
 use Prim.Native.Nat.{ℕ, _%_, _<_, _≤_}
-use mathlib.Core.Bool.{true, false}
+use mathlib.Core.Bool.{false}
 use borrow.Author.Tests.{lt-ltb, le-ltb}
-use lib.Ieee.{Float, nan, binary64, ofBits, div, nanBits, isNan}
+use lib.Ieee.{nan, binary64, ofBits, div, nanBits}
 use lib.Ieee.Bits.{nanBits-above, nanBits-is}
 use Rattle.floats.proofs.Nan.{no-nan, is-nan}
 use Rattle.floats.proofs.float_of.Statement.{statement}

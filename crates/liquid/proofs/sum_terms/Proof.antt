@@ -1,5 +1,5 @@
 use Rattle.liquid.specs.Vapor.{term, slopeTerm, curvatureTerm, sumsOf}
-use Rattle.floats.proofs.Folds.{sum-turn, sum-done}
+use Rattle.floats.proofs.Folds.{sum-turn}
 use Rattle.floats.specs.Vector.{at}
 use Rattle.floats.specs.Fold.{foldTo, sumTo}
 use Rattle.floats.specs.Arithmetic.{0f}
@@ -9,10 +9,6 @@ use borrow.Author.Needs.{needs}
 use native.Mathlib.Omega.{arith}
 use Rattle.liquid.proofs.sum_terms.Statement.{statement}
 use Rattle.liquid.proofs.sum_terms.Tie as tie
-use Rattle.liquid.proofs.sum_terms.Reads as reads
-use Rattle.liquid.proofs.sum_terms.Lts as lts
-use Rattle.liquid.proofs.power.Reads as power-reads
-use Rattle.numerics.proofs.ln.Reads as ln-reads
 
 abbrev Inv-loop : tie.InvT-loop
 Inv-loop n e t-r theta count l s₀ ds₀ d2s₀ k₀ s ds d2s k = (k ≤ count) × (s ≡ sumTo (λ i. term theta (at n i) (at e i)) k) × (ds ≡ sumTo (λ i. slopeTerm t-r theta (at n i) (at e i)) k) × (d2s ≡ sumTo (λ i. curvatureTerm t-r theta (at n i) (at e i)) k)
@@ -20,52 +16,40 @@ Inv-loop n e t-r theta count l s₀ ds₀ d2s₀ k₀ s ds d2s k = (k ≤ count)
 abbrev μ-loop : tie.MeasureT-loop
 μ-loop n e t-r theta count l s₀ ds₀ d2s₀ k₀ s ds d2s k = count - k
 
--- src/lib.rt:46:9
 ln-requires : tie.Need-ln-requires Inv-loop μ-loop
 ln-requires c κs = search needs
 
--- src/lib.rt:50:5
 loop-holds : tie.Need-loop-holds Inv-loop μ-loop
 unfolding foldTo
 loop-holds c = (omega arith, refl, refl, refl)
 
--- src/lib.rt:51:19
 mul-n-k : tie.Need-mul-n-k Inv-loop μ-loop
 mul-n-k c = omega arith
 
--- src/lib.rt:51:19
 element-copy-out-n-k : tie.Need-element-copy-out-n-k Inv-loop μ-loop
 element-copy-out-n-k c = omega arith
 
--- src/lib.rt:52:19
 mul-e-k : tie.Need-mul-e-k Inv-loop μ-loop
 mul-e-k c = omega arith
 
--- src/lib.rt:52:19
 element-copy-out-e-k : tie.Need-element-copy-out-e-k Inv-loop μ-loop
 element-copy-out-e-k c = omega arith
 
--- src/lib.rt:53:23
 power-requires : tie.Need-power-requires Inv-loop μ-loop
 power-requires c κs = search needs
 
--- src/lib.rt:54:32
 power-requires-2 : tie.Need-power-requires-2 Inv-loop μ-loop
 power-requires-2 c κs = omega arith
 
--- src/lib.rt:55:47
 power-requires-3 : tie.Need-power-requires-3 Inv-loop μ-loop
 power-requires-3 c κs = omega arith
 
--- src/lib.rt:50:9
 add-k : tie.Need-add-k Inv-loop μ-loop
 add-k c = omega arith
 
--- src/lib.rt:50:5
 loop-less : tie.Need-loop-less Inv-loop μ-loop
 loop-less c = omega arith
 
--- src/lib.rt:50:5
 loop-again : tie.Need-loop-again Inv-loop μ-loop
 unfolding term slopeTerm curvatureTerm
 loop-again c = let l = c .before .before .before .before .before .before in (
@@ -75,7 +59,6 @@ loop-again c = let l = c .before .before .before .before .before .before in (
   sum-turn 0f _ _ refl (rw (c .power3 .ensures, l .before .ln .ensures)) (l .loop .inv .3),
 )
 
--- src/lib.rt:42:1
 returns : tie.Need-returns Inv-loop μ-loop
 unfolding sumsOf
 returns c = let i = c .before .loop .inv in

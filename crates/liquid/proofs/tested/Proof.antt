@@ -1,57 +1,41 @@
 use mathlib.Core.Bool.{_&&_}
 use borrow.Author.Tests.{not-true, not-false}
 use Rattle.liquid.specs.Vapor.{representable, vaporAnswer}
-use Rattle.floats.proofs.Folds.{was-no, was-yes}
 use Rattle.floats.specs.Outcome.{need}
-use mathlib.Core.Path.{_≡_, refl, _∙_, ap}
-use native.Mathlib.Omega.{arith}
 use borrow.Author.Needs.{needs}
 use Rattle.liquid.proofs.tested.Statement.{statement}
 use Rattle.liquid.proofs.tested.Tie as tie
-use Rattle.liquid.proofs.tested.Reads as reads
-use Rattle.liquid.proofs.tested.Lts as lts
-use Rattle.floats.proofs.is_finite.Reads as is-finite-reads
-use Rattle.liquid.proofs.refused.Reads as refused-reads
 
--- src/lib.rt:76:18
 is-finite-requires : tie.Need-is-finite-requires
 is-finite-requires c κs = search needs
 
--- src/lib.rt:77:11
 is-finite-requires-2 : tie.Need-is-finite-requires-2
 is-finite-requires-2 c κs = search needs
 
--- src/lib.rt:78:11
 is-finite-requires-3 : tie.Need-is-finite-requires-3
 is-finite-requires-3 c κs = search needs
 
--- src/lib.rt:79:11
 is-finite-requires-4 : tie.Need-is-finite-requires-4
 is-finite-requires-4 c κs = search needs
 
--- src/lib.rt:81:9
 refused-requires : tie.Need-refused-requires
 refused-requires c κs = search needs
 
--- src/lib.rt:81:9
 returns : tie.Need-returns
 unfolding representable need
 returns c = let p = c .before .before in
     let f = not-true (p .before .before .before .is-finite .result && p .before .before .is-finite2 .result && p .before .is-finite3 .result && p .is-finite4 .result) (c .before .if1 .taken) in
     rw (← p .before .before .before .is-finite .ensures, ← p .before .before .is-finite2 .ensures, ← p .before .is-finite3 .ensures, ← p .is-finite4 .ensures, f) (c .refused .ensures)
 
--- src/lib.rt:84:9
 refused-requires-2 : tie.Need-refused-requires-2
 refused-requires-2 c κs = search needs
 
--- src/lib.rt:84:9
 returns-2 : tie.Need-returns-2
 unfolding representable need
 returns-2 c = let p = c .before .before .before in
     let f = not-false (p .before .before .before .is-finite .result && p .before .before .is-finite2 .result && p .before .is-finite3 .result && p .is-finite4 .result) (c .before .before .if1 .left) in
     rw (← p .before .before .before .is-finite .ensures, ← p .before .before .is-finite2 .ensures, ← p .before .is-finite3 .ensures, ← p .is-finite4 .ensures, f, c .before .if2 .taken) (c .refused2 .ensures)
 
--- src/lib.rt:73:1
 returns-3 : tie.Need-returns-3
 unfolding representable need vaporAnswer
 returns-3 c = let p = c .before .before in

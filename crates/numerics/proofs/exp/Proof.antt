@@ -1,13 +1,12 @@
 -- `numerics::exp` meets its contract. Each arm returns what `expOf` picks where the tests are as the arm found them; what the two calls require is in `proofs/Limits.antt`.
-use mathlib.Core.Path.{_≡_, refl, sym, ap, _∙_, subst}
-use mathlib.Core.Bool.{false}
-use Prim.Native.Nat.{ℕ, _<_}
+use mathlib.Core.Path.{_≡_, refl, sym, ap, _∙_}
+use Prim.Native.Nat.{_<_}
 use native.Mathlib.Omega.{arith}
 use borrow.Author.Needs.{needs}
 use lib.Dec.{lit<}
 use lib.IntN.{ℤ}
 use lib.Signed.{mag}
-use lib.Ieee.{Float, binary64, ofBits, neg, nanBits, toSigned, isNan, lt}
+use lib.Ieee.{Float, ofBits, neg, nanBits, toSigned, lt}
 use mir.Syntax.{w64}
 use mir.Val.{toZ, ofZ}
 use mir.ValLaws.{toZ-ofZ}
@@ -19,8 +18,6 @@ use Rattle.numerics.proofs.Powers.{small}
 use Rattle.numerics.proofs.Limits.{v-within, shift-within}
 use Rattle.numerics.proofs.exp.Statement.{statement}
 use Rattle.numerics.proofs.exp.Tie as tie
-use Rattle.numerics.proofs.exp.Reads as reads
-use Rattle.numerics.proofs.exp.Lts as lts
 
 returns : tie.Need-returns
 unfolding expOf

@@ -1,18 +1,16 @@
 -- `numerics::exp_from` meets its contract: its steps are those of `expFrom`. What is left is that k and its halves are small.
-use mathlib.Core.Path.{_≡_, refl, ap, _∙_}
-use lib.IntN.{ℤ, pos, _-ℤ_}
+use mathlib.Core.Path.{_≡_}
+use lib.IntN.{pos, _-ℤ_}
 use lib.Signed.{quotZ}
-use lib.Ieee.{Float, binary64, ofBits, neg, inFloat}
+use lib.Ieee.{ofBits, neg}
 use lib.Dec.{lit<}
 use mir.Syntax.{w64}
 use mir.Val.{toZ, ofZ, SFits}
 use mir.ValLaws.{toZ-ofZ}
-use Rattle.numerics.specs.Numerics.{expFrom, pow2}
+use Rattle.numerics.specs.Numerics.{expFrom}
 use Rattle.numerics.proofs.Powers.{small, half-mag, rest-mag, in-float}
 use Rattle.numerics.proofs.exp_from.Statement.{statement}
 use Rattle.numerics.proofs.exp_from.Tie as tie
-use Rattle.numerics.proofs.exp_from.Reads as reads
-use Rattle.numerics.proofs.exp_from.Lts as lts
 use native.Mathlib.Omega.{arith}
 
 -- k, k / 2 and k - k / 2 as the machine reads them back

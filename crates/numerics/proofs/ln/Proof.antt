@@ -1,11 +1,11 @@
 -- `numerics::ln` meets its contract. Each arm returns what `lnOf` picks where the tests are as the arm found them; past all tests v is positive.
-use mathlib.Core.Path.{_≡_, refl, sym, ap, _∙_, subst}
-use mathlib.Core.Bool.{Bool, true, false, _&&_, _||_, true≢false}
-use Prim.Native.Nat.{ℕ, zero, suc, _+_, _*_, _<_, _≤_}
+use mathlib.Core.Path.{_≡_, refl}
+use mathlib.Core.Bool.{true, false, true≢false}
+use Prim.Native.Nat.{zero, suc, _+_, _*_}
 use native.Mathlib.Nat.{mul-pos, zero-mul, zero-lt-suc}
 use native.Mathlib.Omega.{arith}
 use borrow.Author.Tests.{lt-ltb, ltb-false}
-use lib.Dec.{T, ltb, eqb}
+use lib.Dec.{T}
 use lib.Ieee.{Float, nan, inf, fin, binary64, up, down, ofBits, div, lt, eq, isNan, nanBits}
 use lib.Ieee.Fits.{up-pos}
 use lib.Ieee.Positive.{positive}
@@ -14,9 +14,6 @@ use Rattle.numerics.specs.Numerics.{lnOf}
 use Rattle.floats.proofs.Nan.{nan-if, is-nan}
 use Rattle.numerics.proofs.ln.Statement.{statement}
 use Rattle.numerics.proofs.ln.Tie as tie
-use Rattle.numerics.proofs.ln.Reads as reads
-use Rattle.numerics.proofs.ln.Lts as lts
-use Rattle.numerics.proofs.ln_positive.Reads as ln-positive-reads
 
 -- what passes none of the tests is finite and above zero
 past : (v : Float) → isNan v ≡ false → lt v 0f ≡ false → eq v 0f ≡ false → eq v ∞ ≡ false → T (positive v)

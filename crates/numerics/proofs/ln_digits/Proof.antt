@@ -1,13 +1,13 @@
 -- `numerics::ln_digits` meets its contract: what `normal` gives are the digits of v's mantissa, and field - 1022 - j is v's exponent (`proofs/Splits.antt`).
-use mathlib.Core.Path.{_≡_, refl, sym, ap, ap₂, _∙_, subst}
+use mathlib.Core.Path.{_≡_, sym, ap, ap₂, _∙_, subst}
 use mathlib.Core.Bool.{false}
 use Prim.Native.Nat.{ℕ, _+_, _*_, _^_, _<_, _≤_}
 use native.Mathlib.Nat.{add-comm}
 use native.Mathlib.Omega.{arith}
 use borrow.Author.Needs.{needs}
-use lib.IntN.{ℤ, pos, _-ℤ_}
+use lib.IntN.{_-ℤ_}
 use lib.Signed.{mag}
-use lib.Ieee.{Float, minus, odd, binary64, ofBits, nanBits}
+use lib.Ieee.{minus, odd, binary64, ofBits, nanBits}
 use mir.Syntax.{w64}
 use mir.Val.{toZ, ofZ, SFits}
 use mir.ValLaws.{toZ-ofZ}
@@ -18,10 +18,6 @@ use Rattle.numerics.proofs.Patterns.{unit-is, unit-no-nan}
 use Rattle.numerics.proofs.Splits.{short, diff-is, minus-mag, mantissa-is, exponent-is}
 use Rattle.numerics.proofs.ln_digits.Statement.{statement}
 use Rattle.numerics.proofs.ln_digits.Tie as tie
-use Rattle.numerics.proofs.ln_digits.Reads as reads
-use Rattle.numerics.proofs.ln_digits.Lts as lts
-use Rattle.numerics.proofs.ln_split.Reads as ln-split-reads
-use Rattle.numerics.proofs.normal.Reads as normal-reads
 
 -- ---- on plain numbers
 module _ (field digits j q : ℕ) (f : field < 2046) (d : 0 < digits) (is : q ≡ digits * 2 ^ j) (lo : 2 ^ 52 ≤ q) (hi : q < 2 ^ 53) where

@@ -1,5 +1,5 @@
 -- `numerics::ln_from` meets its contract: its steps are those of `lnFrom`.
-use mathlib.Core.Path.{_≡_, refl}
+use mathlib.Core.Path.{refl}
 use Rattle.numerics.specs.Numerics.{lnFrom}
 use Rattle.numerics.proofs.ln_from.Statement.{statement}
 use Rattle.numerics.proofs.ln_from.Tie as tie

@@ -1,19 +1,16 @@
 -- `numerics::ln_positive` meets its contract: what its two arms pass on are the digits and the place of v's bit pattern (`proofs/Patterns.antt`).
-use mathlib.Core.Path.{_≡_, refl, sym, ap, _∙_, subst}
-use mathlib.Core.Bool.{false, not}
-use Prim.Native.Nat.{ℕ, _+_, _-_, _/_, _%_, _<_}
+use mathlib.Core.Path.{_≡_, sym, _∙_, subst}
+use mathlib.Core.Bool.{not}
+use Prim.Native.Nat.{_/_, _%_}
 use native.Mathlib.Omega.{arith}
 use borrow.Author.Needs.{needs}
 use lib.Dec.{T, lit<}
-use lib.Ieee.{Float, nan, inf, fin, binary64, fits, isNan, toBits, ofBits, ofFields, odd}
+use lib.Ieee.{Float, fin, binary64, fits, isNan, toBits, ofBits}
 use lib.Ieee.Bits.{ofBits-toBits}
 use lib.Ieee.Positive.{positive}
 use Rattle.numerics.proofs.Patterns.{plus, plus-is, field-lt, subnormal, normal-is}
 use Rattle.numerics.proofs.ln_positive.Statement.{statement}
 use Rattle.numerics.proofs.ln_positive.Tie as tie
-use Rattle.numerics.proofs.ln_positive.Reads as reads
-use Rattle.numerics.proofs.ln_positive.Lts as lts
-use Rattle.numerics.proofs.ln_digits.Reads as ln-digits-reads
 
 no-nan-of : (v : Float) → T (positive v) → T (not (isNan v))
 unfolding isNan

@@ -1,8 +1,8 @@
 -- `numerics::ln_split` meets its contract: each arm is what `cond` picks.
-use mathlib.Core.Path.{_≡_, refl}
+use mathlib.Core.Path.{_≡_}
 use native.Mathlib.Omega.{arith}
 use borrow.Author.Needs.{needs}
-use lib.IntN.{ℤ, pos, _+ℤ_}
+use lib.IntN.{pos, _+ℤ_}
 use mir.Syntax.{w64}
 use mir.Val.{toZ, ofZ, SFits}
 use mir.ValLaws.{toZ-ofZ}
@@ -10,9 +10,6 @@ use Rattle.numerics.specs.Numerics.{lnSplit}
 use Rattle.numerics.proofs.Powers.{small, in-float, suc-mag}
 use Rattle.numerics.proofs.ln_split.Statement.{statement}
 use Rattle.numerics.proofs.ln_split.Tie as tie
-use Rattle.numerics.proofs.ln_split.Reads as reads
-use Rattle.numerics.proofs.ln_split.Lts as lts
-use Rattle.numerics.proofs.ln_from.Reads as ln-from-reads
 
 -- k and k + 1 as the machine reads them back
 k-is : (c : tie.Start) → toZ w64 (ofZ w64 (c .args .k)) ≡ c .args .k

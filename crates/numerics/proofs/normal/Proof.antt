@@ -1,14 +1,12 @@
 -- `numerics::normal` meets its contract. The invariant: q is the digits with j zeros after them, and has at most 53 of them. The measure is what is left to 2 ^ 53.
-use mathlib.Core.Path.{_≡_, refl, sym, ap, _∙_, subst}
-use Prim.Native.Nat.{ℕ, suc, _+_, _-_, _*_, _^_, _<_, _≤_}
+use mathlib.Core.Path.{_≡_, sym, ap, _∙_, subst}
+use Prim.Native.Nat.{ℕ, _+_, _-_, _*_, _^_, _<_}
 use native.Mathlib.Nat.{mul-one, mul-assoc, pow-suc}
 use native.Mathlib.Numerals.{add-one}
 use native.Mathlib.Omega.{arith}
 use Rattle.numerics.proofs.Splits.{short}
 use Rattle.numerics.proofs.normal.Statement.{statement}
 use Rattle.numerics.proofs.normal.Tie as tie
-use Rattle.numerics.proofs.normal.Reads as reads
-use Rattle.numerics.proofs.normal.Lts as lts
 
 abbrev Inv-loop : tie.InvT-loop
 Inv-loop digits q₀ j₀ q j = (q ≡ digits * 2 ^ j) × (0 < q) × (q < 2 ^ 53)

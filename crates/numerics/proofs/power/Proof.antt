@@ -1,8 +1,8 @@
 -- `numerics::power` meets its contract: the pattern's field is a + 1023 (`proofs/Powers.antt`).
-use mathlib.Core.Path.{_≡_, refl}
-use Prim.Native.Nat.{ℕ, _*_, _<_}
+use mathlib.Core.Path.{_≡_}
+use Prim.Native.Nat.{_*_, _<_}
 use native.Mathlib.Omega.{arith}
-use lib.IntN.{ℤ, pos, _+ℤ_}
+use lib.IntN.{pos, _+ℤ_}
 use lib.Ieee.{nanBits, binary64}
 use mir.Syntax.{w64}
 use mir.Val.{toZ, ofZ}
@@ -11,8 +11,6 @@ use Rattle.floats.proofs.Nan.{no-nan}
 use Rattle.numerics.proofs.Powers.{bias, bias-in, plus-fits, field-back, power-is, no-nan-field}
 use Rattle.numerics.proofs.power.Statement.{statement}
 use Rattle.numerics.proofs.power.Tie as tie
-use Rattle.numerics.proofs.power.Reads as reads
-use Rattle.numerics.proofs.power.Lts as lts
 
 -- what the machine adds up, read back
 is : (c : tie.Start) → toZ w64 (ofZ w64 (toZ w64 (ofZ w64 (c .args .a)) +ℤ pos 1023)) ≡ pos (bias (c .args .a))

@@ -1,5 +1,5 @@
 -- `numerics::powf` meets its contract, by what `ln` and `exp` ensure.
-use mathlib.Core.Path.{_≡_, refl, ap, _∙_}
+use mathlib.Core.Path.{ap, _∙_}
 use borrow.Author.Needs.{needs}
 use lib.Ieee.{Float}
 use Rattle.floats.specs.Arithmetic.{_⊗_}

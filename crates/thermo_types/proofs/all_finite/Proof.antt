@@ -9,9 +9,6 @@ use borrow.Author.Needs.{needs}
 use native.Mathlib.Omega.{arith}
 use Rattle.thermo_types.proofs.all_finite.Statement.{statement}
 use Rattle.thermo_types.proofs.all_finite.Tie as tie
-use Rattle.thermo_types.proofs.all_finite.Reads as reads
-use Rattle.thermo_types.proofs.all_finite.Lts as lts
-use Rattle.floats.proofs.is_finite.Reads as is-finite-reads
 
 abbrev Inv-loop : tie.InvT-loop
 Inv-loop x n i₀ i = (i ≤ n) × (allTo (λ k. isFinite (at x k)) i ≡ true)
@@ -19,40 +16,31 @@ Inv-loop x n i₀ i = (i ≤ n) × (allTo (λ k. isFinite (at x k)) i ≡ true)
 abbrev μ-loop : tie.MeasureT-loop
 μ-loop x n i₀ i = n - i
 
--- src/lib.rt:84:5
 loop-holds : tie.Need-loop-holds Inv-loop μ-loop
 unfolding allTo
 loop-holds c = (omega arith, refl)
 
--- src/lib.rt:85:31
 mul-is-finite : tie.Need-mul-is-finite Inv-loop μ-loop
 mul-is-finite c = omega arith
 
--- src/lib.rt:85:31
 element-copy-out-is-finite : tie.Need-element-copy-out-is-finite Inv-loop μ-loop
 element-copy-out-is-finite c = omega arith
 
--- src/lib.rt:85:13
 is-finite-requires : tie.Need-is-finite-requires Inv-loop μ-loop
 is-finite-requires c κs = search needs
 
--- src/lib.rt:86:13
 returns : tie.Need-returns Inv-loop μ-loop
 returns c = sym (all-fails _ _ _ (c .before .before .before .loop-test .taken) (was-no (c .if1 .taken) (c .before .is-finite .ensures)))
 
--- src/lib.rt:88:9
 add-i : tie.Need-add-i Inv-loop μ-loop
 add-i c = omega arith
 
--- src/lib.rt:84:5
 loop-less : tie.Need-loop-less Inv-loop μ-loop
 loop-less c = omega arith
 
--- src/lib.rt:84:5
 loop-again : tie.Need-loop-again Inv-loop μ-loop
 loop-again c = (omega arith, all-turn _ _ (c .before .before .before .before .loop .inv .1) (was-yes (c .if1 .left) (c .before .is-finite .ensures)))
 
--- src/lib.rt:79:1
 returns-2 : tie.Need-returns-2 Inv-loop μ-loop
 returns-2 c = all-end _ _ _ (c .before .loop .inv .0) (c .loop-test .left) (c .before .loop .inv .1)
 

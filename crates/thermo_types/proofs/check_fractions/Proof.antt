@@ -5,40 +5,28 @@ use Rattle.floats.proofs.Folds.{was-no, was-yes}
 use borrow.Author.Needs.{needs}
 use Rattle.thermo_types.proofs.check_fractions.Statement.{statement}
 use Rattle.thermo_types.proofs.check_fractions.Tie as tie
-use Rattle.thermo_types.proofs.check_fractions.Reads as reads
-use Rattle.thermo_types.proofs.check_fractions.Lts as lts
-use Rattle.thermo_types.proofs.all_finite.Reads as all-finite-reads
-use Rattle.thermo_types.proofs.none_negative.Reads as none-negative-reads
-use Rattle.thermo_types.proofs.sums_to_one.Reads as sums-to-one-reads
 
--- src/lib.rt:136:9
 all-finite-requires : tie.Need-all-finite-requires
 all-finite-requires c κs = search needs
 
--- src/lib.rt:137:9
 returns : tie.Need-returns
 unfolding withFractions need verdictOf
 returns c = rw (was-no (c .if1 .taken) (c .before .all-finite .ensures))
 
--- src/lib.rt:139:9
 none-negative-requires : tie.Need-none-negative-requires
 none-negative-requires c κs = search needs
 
--- src/lib.rt:140:9
 returns-2 : tie.Need-returns-2
 unfolding withFractions need verdictOf
 returns-2 c = rw (was-yes (c .before .before .if1 .left) (c .before .before .before .all-finite .ensures), was-no (c .if2 .taken) (c .before .none-negative .ensures))
 
--- src/lib.rt:142:9
 sums-to-one-requires : tie.Need-sums-to-one-requires
 sums-to-one-requires c κs = search needs
 
--- src/lib.rt:143:9
 returns-3 : tie.Need-returns-3
 unfolding withFractions need verdictOf
 returns-3 c = rw (was-yes (c .before .before .before .before .if1 .left) (c .before .before .before .before .before .all-finite .ensures), was-yes (c .before .before .if2 .left) (c .before .before .before .none-negative .ensures), was-no (c .if3 .taken) (c .before .sums-to-one .ensures))
 
--- src/lib.rt:132:1
 returns-4 : tie.Need-returns-4
 unfolding withFractions need verdictOf
 returns-4 c = rw (was-yes (c .before .before .before .before .if1 .left) (c .before .before .before .before .before .all-finite .ensures), was-yes (c .before .before .if2 .left) (c .before .before .before .none-negative .ensures), was-yes (c .if3 .left) (c .before .sums-to-one .ensures))

@@ -6,12 +6,9 @@ use lib.Ieee.{lt}
 use mathlib.Core.Path.{_≡_, refl, sym}
 use mathlib.Core.Bool.{true, not}
 use Prim.Native.Nat.{_≤_, _-_}
-use borrow.Author.Needs.{needs}
 use native.Mathlib.Omega.{arith}
 use Rattle.thermo_types.proofs.none_negative.Statement.{statement}
 use Rattle.thermo_types.proofs.none_negative.Tie as tie
-use Rattle.thermo_types.proofs.none_negative.Reads as reads
-use Rattle.thermo_types.proofs.none_negative.Lts as lts
 
 abbrev Inv-loop : tie.InvT-loop
 Inv-loop x n i₀ i = (i ≤ n) × (allTo (λ k. not (lt (at x k) 0f)) i ≡ true)
@@ -19,36 +16,28 @@ Inv-loop x n i₀ i = (i ≤ n) × (allTo (λ k. not (lt (at x k) 0f)) i ≡ tru
 abbrev μ-loop : tie.MeasureT-loop
 μ-loop x n i₀ i = n - i
 
--- src/lib.rt:98:5
 loop-holds : tie.Need-loop-holds Inv-loop μ-loop
 unfolding allTo
 loop-holds c = (omega arith, refl)
 
--- src/lib.rt:99:12
 mul-if1 : tie.Need-mul-if1 Inv-loop μ-loop
 mul-if1 c = omega arith
 
--- src/lib.rt:99:12
 element-copy-out-if1 : tie.Need-element-copy-out-if1 Inv-loop μ-loop
 element-copy-out-if1 c = omega arith
 
--- src/lib.rt:100:13
 returns : tie.Need-returns Inv-loop μ-loop
 returns c = sym (all-fails _ _ _ (c .before .before .loop-test .taken) (rw (c .if1 .taken)))
 
--- src/lib.rt:102:9
 add-i : tie.Need-add-i Inv-loop μ-loop
 add-i c = omega arith
 
--- src/lib.rt:98:5
 loop-less : tie.Need-loop-less Inv-loop μ-loop
 loop-less c = omega arith
 
--- src/lib.rt:98:5
 loop-again : tie.Need-loop-again Inv-loop μ-loop
 loop-again c = (omega arith, all-turn _ _ (c .before .before .before .loop .inv .1) (rw (c .if1 .left)))
 
--- src/lib.rt:93:1
 returns-2 : tie.Need-returns-2 Inv-loop μ-loop
 returns-2 c = all-end _ _ _ (c .before .loop .inv .0) (c .loop-test .left) (c .before .loop .inv .1)
 

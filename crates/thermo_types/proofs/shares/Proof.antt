@@ -1,19 +1,13 @@
-use mathlib.Core.Path.{_∙_, ap}
 use Rattle.thermo_types.specs.Composition.{normalizeOf}
 use Rattle.floats.proofs.Fills.{fill-turn, fill-done}
 use Rattle.floats.specs.Vector.{at, fill, vec}
-use Rattle.floats.specs.Fold.{sumTo}
 use Rattle.floats.specs.Arithmetic.{_⊘_}
-use lib.ListN.{replicate}
 use mathlib.Core.Path.{_≡_, refl}
 use Prim.Native.Nat.{_≤_, _-_}
 use borrow.Author.Needs.{needs}
 use native.Mathlib.Omega.{arith}
 use Rattle.thermo_types.proofs.shares.Statement.{statement}
 use Rattle.thermo_types.proofs.shares.Tie as tie
-use Rattle.thermo_types.proofs.shares.Reads as reads
-use Rattle.thermo_types.proofs.shares.Lts as lts
-use Rattle.thermo_types.proofs.total.Reads as total-reads
 
 abbrev Inv-loop : tie.InvT-loop
 Inv-loop x n s y₀ i₀ y i = (i ≤ n) × (y ≡ vec (λ k. at x k ⊘ s) i)
@@ -21,44 +15,34 @@ Inv-loop x n s y₀ i₀ y i = (i ≤ n) × (y ≡ vec (λ k. at x k ⊘ s) i)
 abbrev μ-loop : tie.MeasureT-loop
 μ-loop x n s y₀ i₀ y i = n - i
 
--- src/lib.rt:159:9
 total-requires : tie.Need-total-requires Inv-loop μ-loop
 total-requires c κs = search needs
 
--- src/lib.rt:161:5
 loop-holds : tie.Need-loop-holds Inv-loop μ-loop
 unfolding fill
 loop-holds c = (omega arith, refl)
 
--- src/lib.rt:162:16
 mul-y : tie.Need-mul-y Inv-loop μ-loop
 mul-y c = omega arith
 
--- src/lib.rt:162:16
 element-copy-out-y : tie.Need-element-copy-out-y Inv-loop μ-loop
 element-copy-out-y c = omega arith
 
--- src/lib.rt:162:9
 mul-y-2 : tie.Need-mul-y-2 Inv-loop μ-loop
 mul-y-2 c = omega arith
 
--- src/lib.rt:162:9
 array-write-y : tie.Need-array-write-y Inv-loop μ-loop
 array-write-y c = omega arith
 
--- src/lib.rt:161:9
 add-i : tie.Need-add-i Inv-loop μ-loop
 add-i c = omega arith
 
--- src/lib.rt:161:5
 loop-less : tie.Need-loop-less Inv-loop μ-loop
 loop-less c = omega arith
 
--- src/lib.rt:161:5
 loop-again : tie.Need-loop-again Inv-loop μ-loop
 loop-again c = (omega arith, fill-turn _ _ _ refl (c .before .before .loop .inv .1))
 
--- src/lib.rt:155:1
 returns : tie.Need-returns Inv-loop μ-loop
 unfolding normalizeOf
 returns c = rw (← c .before .before .total .ensures) (fill-done _ _ _ _ (omega arith) (c .before .loop .inv .1))

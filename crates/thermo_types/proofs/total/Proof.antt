@@ -4,12 +4,9 @@ use Rattle.floats.specs.Vector.{at}
 use Rattle.floats.specs.Fold.{foldTo, sumTo}
 use mathlib.Core.Path.{_≡_, refl}
 use Prim.Native.Nat.{_≤_, _-_}
-use borrow.Author.Needs.{needs}
 use native.Mathlib.Omega.{arith}
 use Rattle.thermo_types.proofs.total.Statement.{statement}
 use Rattle.thermo_types.proofs.total.Tie as tie
-use Rattle.thermo_types.proofs.total.Reads as reads
-use Rattle.thermo_types.proofs.total.Lts as lts
 
 abbrev Inv-loop : tie.InvT-loop
 Inv-loop x n s₀ i₀ s i = (i ≤ n) × (s ≡ sumTo (at x) i)
@@ -17,32 +14,25 @@ Inv-loop x n s₀ i₀ s i = (i ≤ n) × (s ≡ sumTo (at x) i)
 abbrev μ-loop : tie.MeasureT-loop
 μ-loop x n s₀ i₀ s i = n - i
 
--- src/lib.rt:112:5
 loop-holds : tie.Need-loop-holds Inv-loop μ-loop
 unfolding foldTo
 loop-holds c = (omega arith, refl)
 
--- src/lib.rt:113:17
 mul-s : tie.Need-mul-s Inv-loop μ-loop
 mul-s c = omega arith
 
--- src/lib.rt:113:17
 element-copy-out-s : tie.Need-element-copy-out-s Inv-loop μ-loop
 element-copy-out-s c = omega arith
 
--- src/lib.rt:112:9
 add-i : tie.Need-add-i Inv-loop μ-loop
 add-i c = omega arith
 
--- src/lib.rt:112:5
 loop-less : tie.Need-loop-less Inv-loop μ-loop
 loop-less c = omega arith
 
--- src/lib.rt:112:5
 loop-again : tie.Need-loop-again Inv-loop μ-loop
 loop-again c = (omega arith, sum-turn 0f _ _ refl refl (c .before .before .loop .inv .1))
 
--- src/lib.rt:107:1
 returns : tie.Need-returns Inv-loop μ-loop
 returns c = sum-done 0f _ _ _ (omega arith) (c .before .loop .inv .1)
 

@@ -3,10 +3,6 @@ use borrow.Author.Needs.{needs}
 use native.Mathlib.Omega.{arith}
 use Rattle.replay.proofs.calls.put_blocks.Statement.{statement}
 use Rattle.replay.proofs.calls.put_blocks.Tie as tie
-use Rattle.replay.proofs.calls.put_blocks.Reads as reads
-use Rattle.replay.proofs.calls.put_blocks.Lts as lts
-use Rattle.blocks.proofs.word.Reads as word-reads
-use Rattle.replay.proofs.calls.put.Reads as put-reads
 
 abbrev Inv-loop : tie.InvT-loop
 Inv-loop slice out₀ trials count i₀ out i = i ≤ count

@@ -1,29 +1,21 @@
 use Rattle.thermo_types.specs.Quantities.{positiveOf, newPressure}
 use Rattle.floats.specs.Outcome.{need}
 use Rattle.floats.proofs.Folds.{was-no, was-yes}
-use native.Mathlib.Omega.{arith}
 use borrow.Author.Needs.{needs}
 use Rattle.thermo_types.proofs.Pressure.new.Statement.{statement}
 use Rattle.thermo_types.proofs.Pressure.new.Tie as tie
-use Rattle.thermo_types.proofs.Pressure.new.Reads as reads
-use Rattle.thermo_types.proofs.Pressure.new.Lts as lts
-use Rattle.floats.proofs.is_finite.Reads as is-finite-reads
 
--- src/lib.rt:62:13
 is-finite-requires : tie.Need-is-finite-requires
 is-finite-requires c κs = search needs
 
--- src/lib.rt:63:13
 returns : tie.Need-returns
 unfolding positiveOf need newPressure
 returns c = rw (was-no (c .if1 .taken) (c .before .is-finite .ensures))
 
--- src/lib.rt:59:5
 returns-2 : tie.Need-returns-2
 unfolding positiveOf need newPressure
 returns-2 c = rw (was-yes (c .before .if1 .left) (c .before .before .is-finite .ensures), c .if2 .taken)
 
--- src/lib.rt:59:5
 returns-3 : tie.Need-returns-3
 unfolding positiveOf need newPressure
 returns-3 c = rw (was-yes (c .before .if1 .left) (c .before .before .is-finite .ensures), c .if2 .left)

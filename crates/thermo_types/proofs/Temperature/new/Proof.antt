@@ -1,29 +1,21 @@
 use Rattle.thermo_types.specs.Quantities.{positiveOf, newTemperature}
 use Rattle.floats.specs.Outcome.{need}
 use Rattle.floats.proofs.Folds.{was-no, was-yes}
-use native.Mathlib.Omega.{arith}
 use borrow.Author.Needs.{needs}
 use Rattle.thermo_types.proofs.Temperature.new.Statement.{statement}
 use Rattle.thermo_types.proofs.Temperature.new.Tie as tie
-use Rattle.thermo_types.proofs.Temperature.new.Reads as reads
-use Rattle.thermo_types.proofs.Temperature.new.Lts as lts
-use Rattle.floats.proofs.is_finite.Reads as is-finite-reads
 
--- src/lib.rt:41:13
 is-finite-requires : tie.Need-is-finite-requires
 is-finite-requires c κs = search needs
 
--- src/lib.rt:42:13
 returns : tie.Need-returns
 unfolding positiveOf need newTemperature
 returns c = rw (was-no (c .if1 .taken) (c .before .is-finite .ensures))
 
--- src/lib.rt:38:5
 returns-2 : tie.Need-returns-2
 unfolding positiveOf need newTemperature
 returns-2 c = rw (was-yes (c .before .if1 .left) (c .before .before .is-finite .ensures), c .if2 .taken)
 
--- src/lib.rt:38:5
 returns-3 : tie.Need-returns-3
 unfolding positiveOf need newTemperature
 returns-3 c = rw (was-yes (c .before .if1 .left) (c .before .before .is-finite .ensures), c .if2 .left)
