@@ -18,14 +18,19 @@ use Rattle.thermo_types.specs.declared.NewTemperature.{NewTemperature}
 use Rattle.thermo_types.specs.declared.NewTemperature.the-variants.{Valid, No}
 use Rattle.thermo_types.specs.Quantities.{positiveOf, newTemperature}
 use Rattle.thermo_models.specs.Model.{Model, Liquids, pressureInDomain}
-use Rattle.saturation.specs.Saturation.{Dew, bubbleFrom, bubbleAt, residual, residualWith}
+use Rattle.saturation.specs.Saturation as at-t
+use Rattle.saturation.specs.Saturation.{bubbleFrom, bubbleAt, residual, residualWith}
 use Rattle.saturation.specs.Answers.{saturationAnswer}
 use Rattle.saturation.specs.declared.ActivitySaturation.{ActivitySaturation}
 use Rattle.saturation_temperature.specs.Search.{solveTemperature}
 use Rattle.saturation_temperature.specs.Boiling.{weightSum, weightSlope, dewSlope, bubblePoint, bubbleTemperature, dewPoint, dewTemperature}
 use Rattle.saturation_temperature.specs.Answers.{pointAnswer}
 use Rattle.saturation_temperature.specs.Steps.{activityIn, puresIn, Weighed, bubbleValue, dewValue, bubbleSaturation, dewSaturation, bubbleFound, dewFound}
+use Rattle.saturation_temperature.specs.Curves.{pointOf, foundOf}
 use Rattle.saturation_temperature.specs.declared.Weights.{Weights}
+use Rattle.saturation_temperature.specs.declared.PointAnswer.{PointAnswer}
+use Rattle.saturation_temperature.specs.declared.Curve.{Curve}
+use Rattle.saturation_temperature.specs.declared.Curve.the-variants.{Bubble, Dew}
 
 -- ---- the answer g of an outcome that goes on by k
 module _ {A B C : Type 0} (g : Out B → C) (o : Out A) (k : A → Out B) {r : C} where
@@ -74,10 +79,22 @@ module _ (x lg sl ps dps : List Float) where
   bubble-value-is p e h a b = rw (← e, a, b, h .sum, h .slope)
 
 -- ---- the slope of the dew temperature
-pub dew-value-is : (p : Float) (d : Dew) (ps dps : List Float) {m n : ℕ} {l q s : Float} → m ≡ n → s ≡ sumTo (λ i. at (d .liquid) i ⊗ (at (d .activity .slopes) i ⊕ at dps i)) m → l ≡ lnOf (d .pressure) → q ≡ lnOf p
+pub dew-value-is : (p : Float) (d : at-t.Dew) (ps dps : List Float) {m n : ℕ} {l q s : Float} → m ≡ n → s ≡ sumTo (λ i. at (d .liquid) i ⊗ (at (d .activity .slopes) i ⊕ at dps i)) m → l ≡ lnOf (d .pressure) → q ≡ lnOf p
     → record { verdict = Passed; value = l ⊖ q; slope = s } ≡ pointAnswer (ok (dewValue p n (puresIn ps dps) d))
 unfolding pointAnswer dewValue dewSlope
 dew-value-is p d ps dps e h a b = rw (← e, a, b, h)
+
+-- ---- a refusal on either curve: of the temperature tried, and of the pure liquids at the temperature found
+module _ (E : Model) (L : Liquids) (n : ℕ) (p : Float) (z : List Float) (tolerance t : Float) {m : ℕ} where
+  pub point-none : (curve : Curve) {r : PointAnswer} → positiveOf t 13 ≡ no m → r ≡ pointAnswer (no m) → r ≡ pointAnswer (pointOf E L n curve p z tolerance t)
+  unfolding pointOf bubblePoint dewPoint
+  point-none Bubble e q = answer-no pointAnswer _ _ e q
+  point-none (Dew limit) e q = answer-no pointAnswer _ _ e q
+
+  pub found-none : (curve : Curve) (iterations : ℕ) {r : ActivitySaturation} → L t ≡ no m → r ≡ saturationAnswer (no m) → r ≡ saturationAnswer (foundOf E L n curve p z tolerance iterations t)
+  unfolding foundOf bubbleFound dewFound
+  found-none Bubble iterations e q = answer-no saturationAnswer _ _ e q
+  found-none (Dew limit) iterations e q = answer-no saturationAnswer _ _ e q
 
 -- ---- the whole: what Boiling.antt writes in one piece
 bind-cong : {A B : Type 0} (o : Out A) (k h : A → Out B) → ((a : A) → k a ≡ h a) → bind o k ≡ bind o h
