@@ -343,25 +343,28 @@ fn bubble_point_at(
     }
 }
 
-// The bubble point from ln γ of the feed, and its residual at the given pressure.
-fn bubble_answer(
-    lg: &[f64; 8],
-    ps: &[f64; 8],
+// With the pure liquids at T: the bubble point, and its residual at the given pressure.
+fn bubble_with(
+    tau: &[f64; 256],
+    alpha: &[f64; 128],
     n: usize,
+    ps: &[f64; 8],
     p: f64,
     x: &[f64; 8],
     t: Temperature,
     iterations: u64,
 ) -> ActivitySaturation
-    ensures { λ r. ⌜ ((sl dps : List Float) → r ≡ saturationAnswer (bubbleSaturation p (now (x .entry)) (places n) (t .0) iterations (puresIn (now (ps .entry)) dps) (activityIn (now (lg .entry)) sl))) ⌝ }
+    ensures { λ r. ⌜ r ≡ saturationAnswer (bubbleSaturation (activityOf (now (tau .entry)) (now (alpha .entry)) (places n) (t .0)) (now (ps .entry)) (places n) (t .0) p (now (x .entry)) iterations) ⌝ }
 {
-    let b = saturation::bubble_from(x, lg, ps, n);
+    let mut table = [0.0; 512];
+    let alphas = thermo_models::tables(tau, alpha, n, t, &mut table);
+    let b = saturation::bubble_at(&table, alphas, n, t, x, ps);
     let verdict = b.verdict;
     match verdict {
         Verdict::Refused(number) => refused(number),
         Verdict::Passed => {
             let vapor = b.vapor;
-            let gap = saturation::residual_with(lg, ps, p, x, &vapor, n);
+            let gap = saturation::residual(&table, alphas, n, t, p, x, &vapor, ps);
             let finite = gap.verdict;
             match finite {
                 Verdict::Refused(number) => refused(number),
@@ -376,30 +379,6 @@ fn bubble_answer(
                 },
             }
         }
-    }
-}
-
-// With the pure liquids at T: the activity of the feed, once for the bubble point and its residual.
-fn bubble_with(
-    tau: &[f64; 256],
-    alpha: &[f64; 128],
-    n: usize,
-    ps: &[f64; 8],
-    p: f64,
-    x: &[f64; 8],
-    t: Temperature,
-    iterations: u64,
-) -> ActivitySaturation
-    ensures { λ r. ⌜ ((dps : List Float) → r ≡ saturationAnswer (bind (activityOf (now (tau .entry)) (now (alpha .entry)) (places n) (t .0) (now (x .entry))) (bubbleSaturation p (now (x .entry)) (places n) (t .0) iterations (puresIn (now (ps .entry)) dps)))) ⌝ }
-{
-    let mut table = [0.0; 512];
-    let alphas = thermo_models::tables(tau, alpha, n, t, &mut table);
-    let mut lg = [0.0; 8];
-    let mut sl = [0.0; 8];
-    let verdict = thermo_models::activity(&table, alphas, n, t, x, &mut lg, &mut sl);
-    match verdict {
-        Verdict::Refused(number) => refused(number),
-        Verdict::Passed => bubble_answer(&lg, ps, n, p, x, t, iterations),
     }
 }
 

@@ -37,7 +37,7 @@ returns c = found-none _ _ _ _ _ _ _ _ _ (pures-refused _ (c .before .before .be
 
 returns-2 : tie.Need-returns-2
 unfolding foundOf bubbleFound
-returns-2 c = rw (c .before .before .enum-told2 .given .1) (answer-ok saturationAnswer _ _ (pures-passed _ (c .before .before .before .before .before .before .pure-liquids .ensures) (c .before .before .before .before .enum-told .given .1)) (c .bubble-with .ensures _))
+returns-2 c = rw (c .before .before .enum-told2 .given .1) (answer-ok saturationAnswer _ _ (pures-passed _ (c .before .before .before .before .before .before .pure-liquids .ensures) (c .before .before .before .before .enum-told .given .1)) (c .bubble-with .ensures))
 
 returns-3 : tie.Need-returns-3
 unfolding foundOf dewFound
