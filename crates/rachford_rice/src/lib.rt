@@ -55,7 +55,7 @@ fn residual_term(z: f64, k: f64, beta: f64, s: f64) -> f64
 }
 
 // g(β)
-fn residual(z: &[f64; 8], k: &[f64; 8], n: usize, beta: f64) -> f64
+fn rachford_rice_residual(z: &[f64; 8], k: &[f64; 8], n: usize, beta: f64) -> f64
     requires { ⌜ n ≤ 8 ⌝ }
     ensures { λ r. ⌜ r ≡ residualOf (at (now (z .entry))) (at (now (k .entry))) n beta ⌝ }
 {
@@ -276,7 +276,7 @@ fn solution(z: &[f64; 8], k: &[f64; 8], n: usize, beta: f64, iterations: u64) ->
     let liquid = thermo_types::normalize(&x, n);
     let y = vapor_parts(&x, k, n);
     let vapor = thermo_types::normalize(&y, n);
-    let g = floats::abs(residual(z, k, n, beta));
+    let g = floats::abs(rachford_rice_residual(z, k, n, beta));
     RachfordRice {
         verdict: Verdict::Passed,
         outcome: RachfordRiceOutcome::TwoPhase(beta, g, iterations),
@@ -395,10 +395,10 @@ fn classify(z: &[f64; 8], k: &[f64; 8], n: usize, limit: u64) -> RachfordRice
     match verdict {
         Verdict::Refused(number) => refused(number),
         Verdict::Passed => {
-            if residual(z, k, n, 0.0) <= 0.0 {
+            if rachford_rice_residual(z, k, n, 0.0) <= 0.0 {
                 return one_phase(RachfordRiceOutcome::LiquidOnly);
             }
-            if residual(z, k, n, 1.0) >= 0.0 {
+            if rachford_rice_residual(z, k, n, 1.0) >= 0.0 {
                 return one_phase(RachfordRiceOutcome::VaporOnly);
             }
             between(z, k, n, limit)

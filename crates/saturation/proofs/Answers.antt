@@ -1,17 +1,14 @@
--- For callers: what the verdict of an answer says of the definition's outcome, with the answer's own values; what an activity that is at hand spares. Assumes nothing.
+-- For callers: what the verdict of an answer says of the definition's outcome, with the answer's own values. Assumes nothing.
 use Prim.Native.Nat.{ℕ}
 use mathlib.Core.Path.{_≡_}
-use mathlib.Core.List.{List}
 use native.Mathlib.Omega.{arith}
 use lib.Ieee.{Float}
 use Rattle.floats.specs.Outcome.{Out, ok, no}
-use Rattle.floats.proofs.Outcomes.{bind-yes, bind-no}
 use Rattle.thermo_types.specs.declared.Verdict.the-variants.{Passed, Refused}
-use Rattle.thermo_models.specs.Model.{Activity}
-use Rattle.saturation.specs.Saturation.{Bubble, Dew, Saturation, bubbleFrom, residualWith, bubbleAt, residual}
+use Rattle.saturation.specs.Saturation.{Bubble, Dew, Saturation}
 use Rattle.saturation.specs.Answers.{bubbleAnswer, residualAnswer, dewAnswer, saturationAnswer}
 use Rattle.saturation.specs.declared.BubblePoint.{BubblePoint}
-use Rattle.saturation.specs.declared.Residual.{Residual}
+use Rattle.saturation.specs.declared.ResidualAnswer.{ResidualAnswer}
 use Rattle.saturation.specs.declared.DewPoint.{DewPoint}
 use Rattle.saturation.specs.declared.ActivitySaturation.{ActivitySaturation}
 
@@ -26,12 +23,12 @@ unfolding bubbleAnswer
 bubble-refused (ok b) e q = let z : _≡_ {A = ℕ} 0 1 = cc in absurd (omega arith)
 bubble-refused (no m) e q = cc
 
-pub residual-passed : (o : Out Float) {r : Residual} → r ≡ residualAnswer o → r .verdict ≡ Passed → o ≡ ok (r .value)
+pub residual-passed : (o : Out Float) {r : ResidualAnswer} → r ≡ residualAnswer o → r .verdict ≡ Passed → o ≡ ok (r .value)
 unfolding residualAnswer
 residual-passed (ok v) e q = rw e
 residual-passed (no m) e q = let z : _≡_ {A = ℕ} 0 1 = cc in absurd (omega arith)
 
-pub residual-refused : (o : Out Float) {r : Residual} {m : ℕ} → r ≡ residualAnswer o → r .verdict ≡ Refused m → o ≡ no m
+pub residual-refused : (o : Out Float) {r : ResidualAnswer} {m : ℕ} → r ≡ residualAnswer o → r .verdict ≡ Refused m → o ≡ no m
 unfolding residualAnswer
 residual-refused (ok v) e q = let z : _≡_ {A = ℕ} 0 1 = cc in absurd (omega arith)
 residual-refused (no m) e q = cc
@@ -57,17 +54,3 @@ pub saturation-refused : (o : Out Saturation) {r : ActivitySaturation} {m : ℕ}
 unfolding saturationAnswer
 saturation-refused (ok s) e q = let z : _≡_ {A = ℕ} 0 1 = cc in absurd (omega arith)
 saturation-refused (no m) e q = cc
-
--- ---- with the activity at x at hand, neither `bubble_at` nor `residual` has to work it out again
-module _ (E : List Float → Out Activity) (ps : List Float) (n : ℕ) (x : List Float) where
-  pub bubble-at-given : {a : Activity} → E x ≡ ok a → bubbleAt E ps n x ≡ bubbleFrom x (a .lnGamma) ps n
-  unfolding bubbleAt
-  bubble-at-given e = bind-yes _ e
-
-  pub bubble-at-none : {m : ℕ} → E x ≡ no m → bubbleAt E ps n x ≡ no m
-  unfolding bubbleAt
-  bubble-at-none e = bind-no _ e
-
-  pub residual-given : (p : Float) (y : List Float) {a : Activity} → E x ≡ ok a → residual E ps n p x y ≡ residualWith (a .lnGamma) ps p x y n
-  unfolding residual
-  residual-given p y e = bind-yes _ e

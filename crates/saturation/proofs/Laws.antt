@@ -14,7 +14,6 @@ use Rattle.floats.proofs.Fills.{fill-at, fill-cong}
 use Rattle.numerics.specs.Numerics.{lnOf}
 use Rattle.floats.specs.Outcome.{Out, ok, no, bind, need, choose}
 use Rattle.floats.proofs.Folds.{was-no, was-yes}
-use Rattle.floats.proofs.Outcomes.{bind-yes}
 use Rattle.thermo_types.specs.Composition.{normalizeOf}
 use Rattle.thermo_types.specs.declared.Verdict.{Verdict}
 use Rattle.thermo_types.specs.declared.Verdict.the-variants.{Passed, Refused}
@@ -22,9 +21,9 @@ use Rattle.thermo_models.specs.Model.{Activity, Model, Liquids, ActivityIs, Pur
 use Rattle.thermo_models.proofs.Answers.{activity-passed, activity-refused, pures-passed, pures-refused}
 use Rattle.saturation.specs.Saturation.{Dew, Saturation, partialOf, partialSum, bubbleFrom, gapOf, residualWith, dewTerm, dewPressure, dewLiquid, changeOf, bubbleAt, residual, dewTurn, dewPoint, dewLoop, dewAt, bubblePressure, dewPressurePoint}
 use Rattle.saturation.specs.Answers.{bubbleAnswer, residualAnswer, dewAnswer, saturationAnswer}
-use Rattle.saturation.specs.Steps.{Incipient, noTurn, turnAnswer, bubbleChecked, bubbleWith, dewChecked}
+use Rattle.saturation.specs.Steps.{Incipient, noTurn, turnAnswer, bubbleTask, dewChecked}
 use Rattle.saturation.specs.declared.BubblePoint.{BubblePoint}
-use Rattle.saturation.specs.declared.Residual.{Residual}
+use Rattle.saturation.specs.declared.ResidualAnswer.{ResidualAnswer}
 use Rattle.saturation.specs.declared.Turn.{Turn}
 use Rattle.saturation.specs.declared.DewPoint.{DewPoint}
 use Rattle.saturation.specs.declared.ActivitySaturation.{ActivitySaturation}
@@ -78,6 +77,15 @@ module _ (E : List Float → Out Activity) (ps : List Float) (n : ℕ) (x : List
   unfolding bubbleAt bind
   bubble-at-passed q z = rw (activity-passed (E x) a q) z
 
+module _ (E : List Float → Out Activity) (ps : List Float) (n : ℕ) (p : Float) (x y : List Float) {v : Verdict} {lg sl : List Float} (a : ActivityIs (E x) v lg sl) where
+  pub residual-at-refused : {m : ℕ} → v ≡ Refused m → record { verdict = Refused m; value = 0f } ≡ residualAnswer (residual E ps n p x y)
+  unfolding residual bind residualAnswer
+  residual-at-refused q = rw (activity-refused (E x) a q)
+
+  pub residual-at-passed : {r : ResidualAnswer} → v ≡ Passed → r ≡ residualAnswer (residualWith lg ps p x y n) → r ≡ residualAnswer (residual E ps n p x y)
+  unfolding residual bind
+  residual-at-passed q z = rw (activity-passed (E x) a q) z
+
 -- ---- the incipient liquid of ln γ: w are the terms, s their sum
 pub incipient-is : (y ps lg : List Float) (n : ℕ) → n ≤ 8 → {w x : List Float} (s : Float) → w ≡ vec (dewTerm y ps lg) n → s ≡ sumTo (at w) (places n) → x ≡ vec (λ i. at w i ⊘ s) n → Incipient y ps lg n (1f ⊘ s) x
 unfolding dewPressure dewLiquid normalizeOf
@@ -114,7 +122,7 @@ module _ (E : List Float → Out Activity) (ps : List Float) (n : ℕ) (y lg : L
     unfolding dewTurn bind need turnAnswer
     turn-good t pg u = rw (liquid-passed q, ← pc, was-yes t pf, ← i .pressure, was-yes u pg, pc)
 
-  module _ (q : v ≡ Passed) {g : Residual} (pg : g ≡ residualAnswer (residualWith new ps p x y n)) (it : ℕ) where
+  module _ (q : v ≡ Passed) {g : ResidualAnswer} (pg : g ≡ residualAnswer (residualWith new ps p x y n)) (it : ℕ) where
     pub point-infinite : {m : ℕ} {r : DewPoint} → g .verdict ≡ Refused m → r ≡ dewAnswer (no m) → r ≡ dewAnswer (dewPoint E ps n y lg it)
     unfolding dewPoint bind
     point-infinite u z = rw (liquid-passed q, ← i .pressure, ← i .liquid, residual-refused _ pg u) z
@@ -187,41 +195,26 @@ loop-start E ps n y tol limit =
     let a : limit + 1 - 1 ≡ limit = omega arith in
     rw a
 
--- ---- task 2 from a bubble point (p, y), whose residual is g
-module _ (x lg ps : List Float) (n : ℕ) (t p : Float) (y : List Float) {b : Bool} (pb : b ≡ pressureInDomain p) where
-  pub checked-outside : {r : ActivitySaturation} → not b ≡ true → r ≡ saturationAnswer (no 23) → r ≡ saturationAnswer (bubbleChecked x lg ps n t p y)
-  unfolding bubbleChecked need
-  checked-outside k z = rw (was-no k pb) z
+-- ---- task 2 from its bubble point b
+module _ (E : List Float → Out Activity) (ps : List Float) (n : ℕ) (t : Float) (x : List Float) {b : BubblePoint} (pb : b ≡ bubbleAnswer (bubbleAt E ps n x)) where
+  pub task-refused : {m : ℕ} {r : ActivitySaturation} → b .verdict ≡ Refused m → r ≡ saturationAnswer (no m) → r ≡ saturationAnswer (bubbleTask E ps n t x)
+  unfolding bubbleTask bind
+  task-refused u z = rw (bubble-refused _ pb u) z
 
-  module _ (k : not b ≡ false) {g : Residual} (pg : g ≡ residualAnswer (residualWith lg ps p x y n)) where
-    pub checked-refused : {m : ℕ} {r : ActivitySaturation} → g .verdict ≡ Refused m → r ≡ saturationAnswer (no m) → r ≡ saturationAnswer (bubbleChecked x lg ps n t p y)
-    unfolding bubbleChecked need bind
-    checked-refused u z = rw (was-yes k pb, residual-refused _ pg u) z
+  module _ (u : b .verdict ≡ Passed) {c : Bool} (pc : c ≡ pressureInDomain (b .pressure)) where
+    pub task-outside : {r : ActivitySaturation} → not c ≡ true → r ≡ saturationAnswer (no 23) → r ≡ saturationAnswer (bubbleTask E ps n t x)
+    unfolding bubbleTask bind need
+    task-outside k z = rw (bubble-passed _ pb u, was-no k pc) z
 
-    pub checked-good : {s : Float} → g .verdict ≡ Passed → s ≡ t
-        → _≡_ {A = ActivitySaturation} (record { verdict = Passed; temperature = s; pressure = p; liquid = x; vapor = y; residual = g .value; iterations = 0 }) (saturationAnswer (bubbleChecked x lg ps n t p y))
-    unfolding bubbleChecked need bind saturationAnswer
-    checked-good u e = rw (was-yes k pb, residual-passed _ pg u, e)
+    module _ (k : not c ≡ false) {g : ResidualAnswer} (pg : g ≡ residualAnswer (residual E ps n (b .pressure) x (b .vapor))) where
+      pub task-infinite : {m : ℕ} {r : ActivitySaturation} → g .verdict ≡ Refused m → r ≡ saturationAnswer (no m) → r ≡ saturationAnswer (bubbleTask E ps n t x)
+      unfolding bubbleTask bind need
+      task-infinite v z = rw (bubble-passed _ pb u, was-yes k pc, residual-refused _ pg v) z
 
--- from ln γ of x, whose bubble point is b
-module _ (x lg ps : List Float) (n : ℕ) (t : Float) {b : BubblePoint} (pb : b ≡ bubbleAnswer (bubbleFrom x lg ps n)) {r : ActivitySaturation} where
-  pub with-refused : {m : ℕ} → b .verdict ≡ Refused m → r ≡ saturationAnswer (no m) → r ≡ saturationAnswer (bubbleWith x lg ps n t)
-  unfolding bubbleWith bind
-  with-refused u z = rw (bubble-refused _ pb u) z
-
-  pub with-passed : b .verdict ≡ Passed → r ≡ saturationAnswer (bubbleChecked x lg ps n t (b .pressure) (b .vapor)) → r ≡ saturationAnswer (bubbleWith x lg ps n t)
-  unfolding bubbleWith bind
-  with-passed u z = rw (bubble-passed _ pb u) z
-
--- after the activity of a composition
-module _ (o : Out Activity) (k : Activity → Out Saturation) {v : Verdict} {lg sl : List Float} (a : ActivityIs o v lg sl) {r : ActivitySaturation} where
-  pub then-refused : {m : ℕ} → v ≡ Refused m → r ≡ saturationAnswer (no m) → r ≡ saturationAnswer (bind o k)
-  unfolding bind
-  then-refused u z = rw (activity-refused o a u) z
-
-  pub then-passed : v ≡ Passed → r ≡ saturationAnswer (k (record { lnGamma = lg; slopes = sl })) → r ≡ saturationAnswer (bind o k)
-  unfolding bind
-  then-passed u z = rw (activity-passed o a u) z
+      pub task-good : {s : Float} → g .verdict ≡ Passed → s ≡ t
+          → _≡_ {A = ActivitySaturation} (record { verdict = Passed; temperature = s; pressure = b .pressure; liquid = x; vapor = b .vapor; residual = g .value; iterations = 0 }) (saturationAnswer (bubbleTask E ps n t x))
+      unfolding bubbleTask bind need saturationAnswer
+      task-good v e = rw (bubble-passed _ pb u, was-yes k pc, residual-passed _ pg v, e)
 
 -- task 3 from its dew point d
 module _ (t : Float) (y : List Float) (o : Out Dew) {d : DewPoint} (pd : d ≡ dewAnswer o) where
@@ -239,15 +232,6 @@ module _ (t : Float) (y : List Float) (o : Out Dew) {d : DewPoint} (pd : d ≡ d
     unfolding bind dewChecked need saturationAnswer
     found-good k e = rw (dew-passed o pd u, was-yes k pb, e)
 
--- the activity at x is asked twice, and is the same
-once : (ps : List Float) (n : ℕ) (t : Float) (x : List Float) (o : Out Activity) → bind (bind o (λ a. bubbleFrom x (a .lnGamma) ps n)) (λ b.
-    need (pressureInDomain (b .pressure)) 23
-    (bind (bind o (λ a. residualWith (a .lnGamma) ps (b .pressure) x (b .vapor) n)) (λ r.
-    ok (record { temperature = t; pressure = b .pressure; liquid = x; vapor = b .vapor; residual = r; iterations = 0 })))) ≡ bind o (λ a. bubbleWith x (a .lnGamma) ps n t)
-unfolding bind bubbleWith bubbleChecked
-once ps n t x (ok a) = refl
-once ps n t x (no m) = refl
-
 -- the tasks after the pure liquids
 module _ (E : Model) (L : Liquids) (n : ℕ) (t : Float) {v : Verdict} {ps dps : List Float} (a : PuresAre (L t) v ps dps) {r : ActivitySaturation} where
   module _ (x : List Float) where
@@ -255,9 +239,9 @@ module _ (E : Model) (L : Liquids) (n : ℕ) (t : Float) {v : Verdict} {ps dps :
     unfolding bubblePressure bind
     bubble-task-refused u z = rw (pures-refused (L t) a u) z
 
-    pub bubble-task-passed : v ≡ Passed → r ≡ saturationAnswer (bind (E t x) (λ a. bubbleWith x (a .lnGamma) ps n t)) → r ≡ saturationAnswer (bubblePressure E L n t x)
-    unfolding bubblePressure bubbleAt residual
-    bubble-task-passed u z = rw (bind-yes _ (pures-passed (L t) a u)) (z ∙ ap saturationAnswer (sym (once ps n t x (E t x))))
+    pub bubble-task-passed : v ≡ Passed → r ≡ saturationAnswer (bubbleTask (E t) ps n t x) → r ≡ saturationAnswer (bubblePressure E L n t x)
+    unfolding bubblePressure bind bubbleTask
+    bubble-task-passed u z = rw (pures-passed (L t) a u) z
 
   module _ (y : List Float) (tol : Float) (limit : ℕ) where
     pub dew-task-refused : {m : ℕ} → v ≡ Refused m → r ≡ saturationAnswer (no m) → r ≡ saturationAnswer (dewPressurePoint E L n t y tol limit)

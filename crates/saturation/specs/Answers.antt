@@ -6,7 +6,7 @@ use Rattle.floats.specs.Outcome.{Out, ok, no}
 use Rattle.thermo_types.specs.declared.Verdict.the-variants.{Passed, Refused}
 use Rattle.saturation.specs.Saturation.{Bubble, Dew, Saturation}
 use Rattle.saturation.specs.declared.BubblePoint.{BubblePoint}
-use Rattle.saturation.specs.declared.Residual.{Residual}
+use Rattle.saturation.specs.declared.ResidualAnswer.{ResidualAnswer}
 use Rattle.saturation.specs.declared.DewPoint.{DewPoint}
 use Rattle.saturation.specs.declared.ActivitySaturation.{ActivitySaturation}
 
@@ -14,7 +14,7 @@ unfoldable pub bubbleAnswer : Out Bubble → BubblePoint
 bubbleAnswer (ok b) = record { verdict = Passed; pressure = b .pressure; vapor = b .vapor }
 bubbleAnswer (no r) = record { verdict = Refused r; pressure = 0f; vapor = zeros8 }
 
-unfoldable pub residualAnswer : Out Float → Residual
+unfoldable pub residualAnswer : Out Float → ResidualAnswer
 residualAnswer (ok v) = record { verdict = Passed; value = v }
 residualAnswer (no r) = record { verdict = Refused r; value = 0f }
 

@@ -8,7 +8,7 @@ use Rattle.floats.specs.Vector.{zeros8}
 use Rattle.floats.specs.Outcome.{Out, ok, no, bind, need}
 use Rattle.thermo_types.specs.declared.Verdict.the-variants.{Passed, Refused}
 use Rattle.thermo_models.specs.Model.{Activity, pressureInDomain}
-use Rattle.saturation.specs.Saturation.{Dew, Saturation, bubbleFrom, residualWith, dewPressure, dewLiquid, changeOf}
+use Rattle.saturation.specs.Saturation.{Dew, Saturation, bubbleAt, residual, dewPressure, dewLiquid, changeOf}
 use Rattle.saturation.specs.declared.Turn.{Turn}
 
 -- the pressure p and the liquid x of ln γ
@@ -24,15 +24,13 @@ unfoldable pub turnAnswer : List Float → List Float → ℕ → Out Activity �
 turnAnswer y lg n (ok a) = record { verdict = Passed; change = changeOf y (a .lnGamma) lg n; lg = a .lnGamma }
 turnAnswer y lg n (no r) = noTurn r
 
--- task 2 from ln γ of x, and from its bubble point (p, y)
-unfoldable pub bubbleChecked : List Float → List Float → List Float → ℕ → Float → Float → List Float → Out Saturation
-bubbleChecked x lg ps n t p y =
-    need (pressureInDomain p) 23
-    (bind (residualWith lg ps p x y n) (λ r.
-    ok (record { temperature = t; pressure = p; liquid = x; vapor = y; residual = r; iterations = 0 })))
-
-unfoldable pub bubbleWith : List Float → List Float → List Float → ℕ → Float → Out Saturation
-bubbleWith x lg ps n t = bind (bubbleFrom x lg ps n) (λ b. bubbleChecked x lg ps n t (b .pressure) (b .vapor))
+-- task 2 from the vapor pressures
+unfoldable pub bubbleTask : (List Float → Out Activity) → List Float → ℕ → Float → List Float → Out Saturation
+bubbleTask E ps n t x =
+    bind (bubbleAt E ps n x) (λ b.
+    need (pressureInDomain (b .pressure)) 23
+    (bind (residual E ps n (b .pressure) x (b .vapor)) (λ r.
+    ok (record { temperature = t; pressure = b .pressure; liquid = x; vapor = b .vapor; residual = r; iterations = 0 }))))
 
 -- task 3 from its dew point
 unfoldable pub dewChecked : Float → List Float → Dew → Out Saturation

@@ -11,9 +11,9 @@ ghost use Rattle.floats.specs.Outcome.{no, bind};
 ghost use Rattle.numerics.specs.Numerics.{expOf, lnOf};
 ghost use Rattle.thermo_models.specs.Activity.{activityOn, activityOf};
 ghost use Rattle.thermo_models.specs.Domain.{pureLiquidsOf};
-ghost use Rattle.saturation.specs.Saturation.{partialOf, bubbleFrom, gapOf, residualWith, dewTerm, changeOf, bubbleAt, dewTurn, dewPoint, dewAt, bubblePressure, dewPressurePoint};
+ghost use Rattle.saturation.specs.Saturation.{partialOf, bubbleFrom, gapOf, residualWith, dewTerm, changeOf, bubbleAt, residual, dewTurn, dewPoint, dewAt, bubblePressure, dewPressurePoint};
 ghost use Rattle.saturation.specs.Answers.{bubbleAnswer, residualAnswer, dewAnswer, saturationAnswer};
-ghost use Rattle.saturation.specs.Steps.{Incipient, noTurn, turnAnswer, bubbleWith, bubbleChecked, dewChecked};
+ghost use Rattle.saturation.specs.Steps.{Incipient, noTurn, turnAnswer, bubbleTask, dewChecked};
 use thermo_types::Temperature;
 use thermo_types::Verdict;
 
@@ -25,7 +25,7 @@ pub struct BubblePoint {
 }
 
 // max_i |ln(y_i p) - ln(x_i γ_i p_i^sat)|.
-pub struct Residual {
+pub struct ResidualAnswer {
     pub verdict: Verdict,
     pub value: f64,
 }
@@ -148,7 +148,8 @@ fn divided(w: &[f64; 8], s: f64, n: usize) -> [f64; 8]
     x
 }
 
-fn bubble_of(x: &[f64; 8], lg: &[f64; 8], ps: &[f64; 8], n: usize) -> BubblePoint
+// The bubble point of x whose ln γ are at hand: 25.
+fn bubble_from(x: &[f64; 8], lg: &[f64; 8], ps: &[f64; 8], n: usize) -> BubblePoint
     requires { ⌜ n ≤ 8 ⌝ }
     ensures { λ r. ⌜ r ≡ bubbleAnswer (bubbleFrom (now (x .entry)) (now (lg .entry)) (now (ps .entry)) n) ⌝ }
 {
@@ -168,13 +169,6 @@ fn bubble_of(x: &[f64; 8], lg: &[f64; 8], ps: &[f64; 8], n: usize) -> BubblePoin
     }
 }
 
-// The bubble point of x whose ln γ are at hand: 25.
-pub fn bubble_from(x: &[f64; 8], lg: &[f64; 8], ps: &[f64; 8], n: usize) -> BubblePoint
-    ensures { λ r. ⌜ r ≡ bubbleAnswer (bubbleFrom (now (x .entry)) (now (lg .entry)) (now (ps .entry)) (places n)) ⌝ }
-{
-    bubble_of(x, lg, ps, floats::places(n))
-}
-
 // The bubble point of x: what `activity` refuses, then 25.
 pub fn bubble_at(
     table: &[f64; 512],
@@ -191,7 +185,7 @@ pub fn bubble_at(
     let verdict = thermo_models::activity(table, alphas, n, t, x, &mut lg, &mut sl);
     match verdict {
         Verdict::Refused(number) => no_bubble(number),
-        Verdict::Passed => bubble_from(x, &lg, ps, n),
+        Verdict::Passed => bubble_from(x, &lg, ps, floats::places(n)),
     }
 }
 
@@ -236,20 +230,45 @@ pub fn residual_with(
     x: &[f64; 8],
     y: &[f64; 8],
     n: usize,
-) -> Residual
+) -> ResidualAnswer
     ensures { λ r. ⌜ r ≡ residualAnswer (residualWith (now (lg .entry)) (now (ps .entry)) p (now (x .entry)) (now (y .entry)) (places n)) ⌝ }
 {
     let r = largest_gap(lg, ps, p, x, y, floats::places(n));
     if floats::is_finite(r) {
-        Residual {
+        ResidualAnswer {
             verdict: Verdict::Passed,
             value: r,
         }
     } else {
-        Residual {
+        ResidualAnswer {
             verdict: Verdict::Refused(25),
             value: 0.0,
         }
+    }
+}
+
+// The residual of x and y at p: what `activity` refuses at x, then 25.
+pub fn residual(
+    table: &[f64; 512],
+    alphas: Verdict,
+    n: usize,
+    t: Temperature,
+    p: f64,
+    x: &[f64; 8],
+    y: &[f64; 8],
+    ps: &[f64; 8],
+) -> ResidualAnswer
+    ensures { λ r. ⌜ r ≡ residualAnswer (residual (activityOn (now (table .entry)) alphas (places n) (t .0)) (now (ps .entry)) (places n) p (now (x .entry)) (now (y .entry))) ⌝ }
+{
+    let mut lg = [0.0; 8];
+    let mut sl = [0.0; 8];
+    let verdict = thermo_models::activity(table, alphas, n, t, x, &mut lg, &mut sl);
+    match verdict {
+        Verdict::Refused(number) => ResidualAnswer {
+            verdict: Verdict::Refused(number),
+            value: 0.0,
+        },
+        Verdict::Passed => residual_with(&lg, ps, p, x, y, n),
     }
 }
 
@@ -442,63 +461,7 @@ pub fn dew_at(
 
 // ---- tasks 2 and 3
 
-// A bubble point's pressure in the domain (23), then its residual.
-fn bubble_checked(
-    x: &[f64; 8],
-    lg: &[f64; 8],
-    ps: &[f64; 8],
-    n: usize,
-    t: Temperature,
-    p: f64,
-    y: &[f64; 8],
-) -> ActivitySaturation
-    ensures { λ r. ⌜ r ≡ saturationAnswer (bubbleChecked (now (x .entry)) (now (lg .entry)) (now (ps .entry)) (places n) (t .0) p (now (y .entry))) ⌝ }
-{
-    if !thermo_models::check_pressure(p) {
-        return no_saturation(23);
-    }
-    let r = residual_with(lg, ps, p, x, y, n);
-    let verdict = r.verdict;
-    match verdict {
-        Verdict::Refused(number) => no_saturation(number),
-        Verdict::Passed => {
-            let liquid = *x;
-            let vapor = *y;
-            ActivitySaturation {
-                verdict: Verdict::Passed,
-                temperature: t.value(),
-                pressure: p,
-                liquid: liquid,
-                vapor: vapor,
-                residual: r.value,
-                iterations: 0,
-            }
-        }
-    }
-}
-
-// From ln γ of x.
-fn bubble_with(
-    x: &[f64; 8],
-    lg: &[f64; 8],
-    ps: &[f64; 8],
-    n: usize,
-    t: Temperature,
-) -> ActivitySaturation
-    ensures { λ r. ⌜ r ≡ saturationAnswer (bubbleWith (now (x .entry)) (now (lg .entry)) (now (ps .entry)) (places n) (t .0)) ⌝ }
-{
-    let b = bubble_from(x, lg, ps, n);
-    let verdict = b.verdict;
-    match verdict {
-        Verdict::Refused(number) => no_saturation(number),
-        Verdict::Passed => {
-            let y = b.vapor;
-            bubble_checked(x, lg, ps, n, t, b.pressure, &y)
-        }
-    }
-}
-
-// From the vapor pressures. The activity at x serves the bubble point and its residual.
+// From the vapor pressures: the bubble point, its pressure in the domain (23), its residual.
 fn bubble_pressure(
     tau: &[f64; 256],
     alpha: &[f64; 128],
@@ -507,16 +470,34 @@ fn bubble_pressure(
     x: &[f64; 8],
     ps: &[f64; 8],
 ) -> ActivitySaturation
-    ensures { λ r. ⌜ r ≡ saturationAnswer (bind (activityOf (now (tau .entry)) (now (alpha .entry)) (places n) (t .0) (now (x .entry))) (λ a. bubbleWith (now (x .entry)) (a .lnGamma) (now (ps .entry)) (places n) (t .0))) ⌝ }
+    ensures { λ r. ⌜ r ≡ saturationAnswer (bubbleTask (activityOf (now (tau .entry)) (now (alpha .entry)) (places n) (t .0)) (now (ps .entry)) (places n) (t .0) (now (x .entry))) ⌝ }
 {
     let mut table = [0.0; 512];
-    let mut lg = [0.0; 8];
-    let mut sl = [0.0; 8];
     let alphas = thermo_models::tables(tau, alpha, n, t, &mut table);
-    let verdict = thermo_models::activity(&table, alphas, n, t, x, &mut lg, &mut sl);
+    let b = bubble_at(&table, alphas, n, t, x, ps);
+    let verdict = b.verdict;
     match verdict {
+        Verdict::Refused(number) => return no_saturation(number),
+        Verdict::Passed => {}
+    }
+    let p = b.pressure;
+    if !thermo_models::check_pressure(p) {
+        return no_saturation(23);
+    }
+    let vapor = b.vapor;
+    let r = residual(&table, alphas, n, t, p, x, &vapor, ps);
+    let finite = r.verdict;
+    match finite {
         Verdict::Refused(number) => no_saturation(number),
-        Verdict::Passed => bubble_with(x, &lg, ps, n, t),
+        Verdict::Passed => ActivitySaturation {
+            verdict: Verdict::Passed,
+            temperature: t.value(),
+            pressure: p,
+            liquid: *x,
+            vapor: vapor,
+            residual: r.value,
+            iterations: 0,
+        },
     }
 }
 

@@ -6,7 +6,6 @@ use mathlib.Core.List.{List}
 use native.Mathlib.Omega.{arith}
 use lib.Ieee.{Float, lt}
 use Rattle.floats.specs.Arithmetic.{_⊕_, _⊖_, _⊗_, _⊘_, 0f}
-use Rattle.floats.specs.Small.{maxOf, absOf}
 use Rattle.floats.specs.Fold.{foldTo, sumTo}
 use Rattle.floats.specs.Vector.{at}
 use Rattle.floats.specs.Outcome.{Out, ok, no, bind, need}
@@ -18,14 +17,18 @@ use Rattle.thermo_types.specs.declared.NewTemperature.{NewTemperature}
 use Rattle.thermo_types.specs.declared.NewTemperature.the-variants.{Valid, No}
 use Rattle.thermo_types.specs.Quantities.{positiveOf, newTemperature}
 use Rattle.thermo_models.specs.Model.{Model, Liquids, pressureInDomain}
-use Rattle.saturation.specs.Saturation.{Dew, bubbleFrom, bubbleAt, residual, residualWith}
+use Rattle.saturation.specs.Saturation as at-t
 use Rattle.saturation.specs.Answers.{saturationAnswer}
 use Rattle.saturation.specs.declared.ActivitySaturation.{ActivitySaturation}
 use Rattle.saturation_temperature.specs.Search.{solveTemperature}
 use Rattle.saturation_temperature.specs.Boiling.{weightSum, weightSlope, dewSlope, bubblePoint, bubbleTemperature, dewPoint, dewTemperature}
 use Rattle.saturation_temperature.specs.Answers.{pointAnswer}
 use Rattle.saturation_temperature.specs.Steps.{activityIn, puresIn, Weighed, bubbleValue, dewValue, bubbleSaturation, dewSaturation, bubbleFound, dewFound}
+use Rattle.saturation_temperature.specs.Curves.{pointOf, foundOf}
 use Rattle.saturation_temperature.specs.declared.Weights.{Weights}
+use Rattle.saturation_temperature.specs.declared.PointAnswer.{PointAnswer}
+use Rattle.saturation_temperature.specs.declared.Curve.{Curve}
+use Rattle.saturation_temperature.specs.declared.Curve.the-variants.{Bubble, Dew}
 
 -- ---- the answer g of an outcome that goes on by k
 module _ {A B C : Type 0} (g : Out B → C) (o : Out A) (k : A → Out B) {r : C} where
@@ -74,51 +77,35 @@ module _ (x lg sl ps dps : List Float) where
   bubble-value-is p e h a b = rw (← e, a, b, h .sum, h .slope)
 
 -- ---- the slope of the dew temperature
-pub dew-value-is : (p : Float) (d : Dew) (ps dps : List Float) {m n : ℕ} {l q s : Float} → m ≡ n → s ≡ sumTo (λ i. at (d .liquid) i ⊗ (at (d .activity .slopes) i ⊕ at dps i)) m → l ≡ lnOf (d .pressure) → q ≡ lnOf p
+pub dew-value-is : (p : Float) (d : at-t.Dew) (ps dps : List Float) {m n : ℕ} {l q s : Float} → m ≡ n → s ≡ sumTo (λ i. at (d .liquid) i ⊗ (at (d .activity .slopes) i ⊕ at dps i)) m → l ≡ lnOf (d .pressure) → q ≡ lnOf p
     → record { verdict = Passed; value = l ⊖ q; slope = s } ≡ pointAnswer (ok (dewValue p n (puresIn ps dps) d))
 unfolding pointAnswer dewValue dewSlope
 dew-value-is p d ps dps e h a b = rw (← e, a, b, h)
 
+-- ---- a refusal on either curve: of the temperature tried, and of the pure liquids at the temperature found
+module _ (E : Model) (L : Liquids) (n : ℕ) (p : Float) (z : List Float) (tolerance t : Float) {m : ℕ} where
+  pub point-none : (curve : Curve) {r : PointAnswer} → positiveOf t 13 ≡ no m → r ≡ pointAnswer (no m) → r ≡ pointAnswer (pointOf E L n curve p z tolerance t)
+  unfolding pointOf bubblePoint dewPoint
+  point-none Bubble e q = answer-no pointAnswer _ _ e q
+  point-none (Dew limit) e q = answer-no pointAnswer _ _ e q
+
+  pub found-none : (curve : Curve) (iterations : ℕ) {r : ActivitySaturation} → L t ≡ no m → r ≡ saturationAnswer (no m) → r ≡ saturationAnswer (foundOf E L n curve p z tolerance iterations t)
+  unfolding foundOf bubbleFound dewFound
+  found-none Bubble iterations e q = answer-no saturationAnswer _ _ e q
+  found-none (Dew limit) iterations e q = answer-no saturationAnswer _ _ e q
+
 -- ---- the whole: what Boiling.antt writes in one piece
-bind-cong : {A B : Type 0} (o : Out A) (k h : A → Out B) → ((a : A) → k a ≡ h a) → bind o k ≡ bind o h
-unfolding bind
-bind-cong (ok a) k h e = e a
-bind-cong (no m) k h e = refl
-
--- the same outcome asked twice is asked once
-twice : {A B C D : Type 0} (o : Out A) (F : A → Out B) (G : A → B → Out C) (H : B → C → Out D) → bind (bind o F) (λ b. bind (bind o (λ a. G a b)) (H b)) ≡ bind o (λ a. bind (F a) (λ b. bind (G a b) (H b)))
-unfolding bind
-twice (ok a) F G H = refl
-twice (no m) F G H = refl
-
 module _ (E : Model) (L : Liquids) (n : ℕ) (p : Float) where
-  bubble-whole : (x : List Float) (tolerance : Float) (limit : ℕ) (lo hi : Float)
-      → bubbleTemperature E L n p x tolerance limit lo hi ≡ need (pressureInDomain p) 23 (bind (solveTemperature (bubblePoint E L n p x) tolerance lo hi limit) (λ q. bind (positiveOf (q .temperature) 13) (bubbleFound E L n p x (q .iterations))))
-  unfolding bubbleTemperature bubbleFound bubbleSaturation bubbleAt residual
-  bubble-whole x tolerance limit lo hi =
-      ap (need (pressureInDomain p) 23)
-      (bind-cong (solveTemperature (bubblePoint E L n p x) tolerance lo hi limit) _ _ (λ q.
-      bind-cong (positiveOf (q .temperature) 13) _ _ (λ T.
-      bind-cong (L T) _ _ (λ pure.
-      twice (E T x) (λ a. bubbleFrom x (a .lnGamma) (pure .pressure) n) (λ a b. residualWith (a .lnGamma) (pure .pressure) p x (b .vapor) n) (λ b r. ok (record {
-        temperature = T;
-        pressure = p;
-        liquid = x;
-        vapor = b .vapor;
-        residual = maxOf r (absOf (lnOf (b .pressure ⊘ p)));
-        iterations = q .iterations;
-      }))))))
-
   -- the given pressure: the code's test is `not` of what `check_pressure` ensures
   module _ {b : Bool} (c : b ≡ pressureInDomain p) {r : ActivitySaturation} where
     module _ (x : List Float) (tolerance : Float) (limit : ℕ) (lo hi : Float) where
       pub bubble-outside : not b ≡ true → r ≡ saturationAnswer (no 23) → r ≡ saturationAnswer (bubbleTemperature E L n p x tolerance limit lo hi)
-      unfolding need
-      bubble-outside h e = rw (bubble-whole x tolerance limit lo hi, was-no h c) e
+      unfolding bubbleTemperature need
+      bubble-outside h e = rw (was-no h c) e
 
       pub bubble-inside : not b ≡ false → r ≡ saturationAnswer (bind (solveTemperature (bubblePoint E L n p x) tolerance lo hi limit) (λ q. bind (positiveOf (q .temperature) 13) (bubbleFound E L n p x (q .iterations)))) → r ≡ saturationAnswer (bubbleTemperature E L n p x tolerance limit lo hi)
-      unfolding need
-      bubble-inside h e = rw (bubble-whole x tolerance limit lo hi, was-yes h c) e
+      unfolding bubbleTemperature need bubbleFound bubbleSaturation
+      bubble-inside h e = rw (was-yes h c) e
 
     module _ (y : List Float) (tolerance : Float) (limit outer : ℕ) (lo hi : Float) where
       pub dew-outside : not b ≡ true → r ≡ saturationAnswer (no 23) → r ≡ saturationAnswer (dewTemperature E L n p y tolerance limit outer lo hi)

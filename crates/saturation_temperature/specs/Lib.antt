@@ -3,3 +3,4 @@ pub mod Search
 pub mod Boiling
 pub mod Answers
 pub mod Steps
+pub mod Curves

@@ -8,7 +8,7 @@ use Rattle.floats.specs.Small.{maxOf, absOf}
 use Rattle.floats.specs.Outcome.{Out, ok, bind}
 use Rattle.numerics.specs.Numerics.{lnOf}
 use Rattle.thermo_models.specs.Model.{Activity, Pures, Model, Liquids}
-use Rattle.saturation.specs.Saturation.{Saturation, Dew, bubbleFrom, residualWith, dewAt}
+use Rattle.saturation.specs.Saturation.{Saturation, Dew, bubbleAt, residual, residualWith, dewAt}
 use Rattle.saturation_temperature.specs.Search.{Point}
 use Rattle.saturation_temperature.specs.Boiling.{weightSum, weightSlope, dewSlope}
 use Rattle.saturation_temperature.specs.declared.Weights.{Weights}
@@ -33,10 +33,10 @@ unfoldable pub dewValue : Float → ℕ → Pures → Dew → Point
 dewValue p n pure d = record { value = lnOf (d .pressure) ⊖ lnOf p; slope = dewSlope d pure n }
 
 -- the answer at the temperature found, from there on
-unfoldable pub bubbleSaturation : Float → List Float → ℕ → Float → ℕ → Pures → Activity → Out Saturation
-bubbleSaturation p x n T iterations pure a =
-    bind (bubbleFrom x (a .lnGamma) (pure .pressure) n) (λ b.
-    bind (residualWith (a .lnGamma) (pure .pressure) p x (b .vapor) n) (λ r.
+unfoldable pub bubbleSaturation : (List Float → Out Activity) → List Float → ℕ → Float → Float → List Float → ℕ → Out Saturation
+bubbleSaturation E ps n T p x iterations =
+    bind (bubbleAt E ps n x) (λ b.
+    bind (residual E ps n p x (b .vapor)) (λ r.
     ok (record {
       temperature = T;
       pressure = p;
@@ -68,7 +68,7 @@ module _ (E : Model) (L : Liquids) (n : ℕ) where
       bind (L T) (λ pure. bind (dewAt (E T) (pure .pressure) n y tolerance limit) (λ d. ok (dewValue p n pure d)))
 
   unfoldable pub bubbleFound : Float → List Float → ℕ → Float → Out Saturation
-  bubbleFound p x iterations T = bind (L T) (λ pure. bind (E T x) (bubbleSaturation p x n T iterations pure))
+  bubbleFound p x iterations T = bind (L T) (λ pure. bubbleSaturation (E T) (pure .pressure) n T p x iterations)
 
   unfoldable pub dewFound : Float → List Float → Float → ℕ → ℕ → Float → Out Saturation
   dewFound p y tolerance limit outer T =

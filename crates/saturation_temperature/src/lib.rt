@@ -16,15 +16,22 @@ ghost use Rattle.thermo_models.specs.Domain.{pureLiquidsOf};
 ghost use Rattle.saturation.specs.Saturation.{Dew, dewAt};
 ghost use Rattle.saturation.specs.Answers.{dewAnswer, saturationAnswer};
 ghost use Rattle.saturation_temperature.specs.Search.{Point, Root, middle, stepOf, collapsed, searchFrom, solveTemperature};
-ghost use Rattle.saturation_temperature.specs.Boiling.{bubblePoint, bubbleTemperature, dewPoint, dewTemperature};
+ghost use Rattle.saturation_temperature.specs.Boiling.{bubbleTemperature, dewTemperature};
 ghost use Rattle.saturation_temperature.specs.Answers.{pointAnswer, rootAnswer, bracketOf, stepIn, remaining};
-ghost use Rattle.saturation_temperature.specs.Steps.{activityIn, puresIn, Weighed, bubbleValue, dewValue, bubblePointAt, dewPointAt, bubbleSaturation, dewSaturation, bubbleFound, dewFound};
+ghost use Rattle.saturation_temperature.specs.Steps.{activityIn, puresIn, Weighed, bubbleValue, dewValue, bubblePointAt, dewPointAt, bubbleSaturation, dewSaturation};
+ghost use Rattle.saturation_temperature.specs.Curves.{pointOf, foundOf};
 use saturation::ActivitySaturation;
 use saturation::DewPoint;
 use thermo_types::NewTemperature;
 use thermo_types::Pressure;
 use thermo_types::Temperature;
 use thermo_types::Verdict;
+
+// The saturation curve whose temperature is sought; a dew point has its own limit of iterations.
+enum Curve {
+    Bubble,
+    Dew(u64),
+}
 
 // f(T) = ln p_sat(T) - ln p, and its slope, 1/K; zeros where it is refused.
 struct PointAnswer {
@@ -313,7 +320,7 @@ fn bubble_value(
     }
 }
 
-// f at T: the activity of the feed (24, 25) comes before the pure liquids.
+// f(T) = ln Σ w_i - ln p: the activity of the feed (24, 25) comes before the pure liquids.
 fn bubble_point_at(
     book: &[u8],
     tau: &[f64; 256],
@@ -336,92 +343,28 @@ fn bubble_point_at(
     }
 }
 
-// f(T) = ln Σ w_i - ln p
-fn bubble_point(
-    book: &[u8],
+// With the pure liquids at T: the bubble point, and its residual at the given pressure.
+fn bubble_with(
     tau: &[f64; 256],
     alpha: &[f64; 128],
     n: usize,
-    p: f64,
-    x: &[f64; 8],
-    t: f64,
-) -> PointAnswer
-    ensures { λ r. ⌜ r ≡ pointAnswer (bubblePoint (activityOf (now (tau .entry)) (now (alpha .entry)) (places n)) (pureLiquidsOf (now (book .entry)) (places n)) (places n) p (now (x .entry)) t) ⌝ }
-{
-    let tried = Temperature::new(t);
-    match tried {
-        NewTemperature::No(number) => no_point(number),
-        NewTemperature::Valid(kelvin) => bubble_point_at(book, tau, alpha, n, p, x, kelvin),
-    }
-}
-
-fn bubble_ends(
-    book: &[u8],
-    tau: &[f64; 256],
-    alpha: &[f64; 128],
-    n: usize,
-    p: f64,
-    x: &[f64; 8],
-    tolerance: f64,
-    lo: f64,
-    hi: f64,
-) -> SearchState
-    ensures { λ r. ⌜ ((limit : ℕ) → remaining (bubblePoint (activityOf (now (tau .entry)) (now (alpha .entry)) (places n)) (pureLiquidsOf (now (book .entry)) (places n)) (places n) p (now (x .entry))) tolerance limit 0 r ≡ solveTemperature (bubblePoint (activityOf (now (tau .entry)) (now (alpha .entry)) (places n)) (pureLiquidsOf (now (book .entry)) (places n)) (places n) p (now (x .entry))) tolerance lo hi limit) ⌝ }
-{
-    let a = bubble_point(book, tau, alpha, n, p, x, lo);
-    let verdict = a.verdict;
-    match verdict {
-        Verdict::Refused(number) => stopped(number),
-        Verdict::Passed => {
-            let b = bubble_point(book, tau, alpha, n, p, x, hi);
-            start(a, b, lo, hi, tolerance)
-        }
-    }
-}
-
-fn bubble_root(
-    book: &[u8],
-    tau: &[f64; 256],
-    alpha: &[f64; 128],
-    n: usize,
-    p: f64,
-    x: &[f64; 8],
-    tolerance: f64,
-    limit: u64,
-    lo: f64,
-    hi: f64,
-) -> RootAnswer
-    ensures { λ r. ⌜ r ≡ rootAnswer (solveTemperature (bubblePoint (activityOf (now (tau .entry)) (now (alpha .entry)) (places n)) (pureLiquidsOf (now (book .entry)) (places n)) (places n) p (now (x .entry))) tolerance lo hi limit) ⌝ }
-{
-    let mut s = bubble_ends(book, tau, alpha, n, p, x, tolerance, lo, hi);
-    let mut done: u64 = 0;
-    while s.going & (done < limit) {
-        let f = bubble_point(book, tau, alpha, n, p, x, s.t);
-        s = turn(f, s, tolerance);
-        done += 1;
-    }
-    root(s, done)
-}
-
-// The bubble point from ln γ of the feed, and its residual at the given pressure.
-fn bubble_answer(
-    lg: &[f64; 8],
     ps: &[f64; 8],
-    n: usize,
     p: f64,
     x: &[f64; 8],
     t: Temperature,
     iterations: u64,
 ) -> ActivitySaturation
-    ensures { λ r. ⌜ ((sl dps : List Float) → r ≡ saturationAnswer (bubbleSaturation p (now (x .entry)) (places n) (t .0) iterations (puresIn (now (ps .entry)) dps) (activityIn (now (lg .entry)) sl))) ⌝ }
+    ensures { λ r. ⌜ r ≡ saturationAnswer (bubbleSaturation (activityOf (now (tau .entry)) (now (alpha .entry)) (places n) (t .0)) (now (ps .entry)) (places n) (t .0) p (now (x .entry)) iterations) ⌝ }
 {
-    let b = saturation::bubble_from(x, lg, ps, n);
+    let mut table = [0.0; 512];
+    let alphas = thermo_models::tables(tau, alpha, n, t, &mut table);
+    let b = saturation::bubble_at(&table, alphas, n, t, x, ps);
     let verdict = b.verdict;
     match verdict {
         Verdict::Refused(number) => refused(number),
         Verdict::Passed => {
             let vapor = b.vapor;
-            let gap = saturation::residual_with(lg, ps, p, x, &vapor, n);
+            let gap = saturation::residual(&table, alphas, n, t, p, x, &vapor, ps);
             let finite = gap.verdict;
             match finite {
                 Verdict::Refused(number) => refused(number),
@@ -437,102 +380,6 @@ fn bubble_answer(
             }
         }
     }
-}
-
-// With the pure liquids at T: the activity of the feed, once for the bubble point and its residual.
-fn bubble_with(
-    tau: &[f64; 256],
-    alpha: &[f64; 128],
-    n: usize,
-    ps: &[f64; 8],
-    p: f64,
-    x: &[f64; 8],
-    t: Temperature,
-    iterations: u64,
-) -> ActivitySaturation
-    ensures { λ r. ⌜ ((dps : List Float) → r ≡ saturationAnswer (bind (activityOf (now (tau .entry)) (now (alpha .entry)) (places n) (t .0) (now (x .entry))) (bubbleSaturation p (now (x .entry)) (places n) (t .0) iterations (puresIn (now (ps .entry)) dps)))) ⌝ }
-{
-    let mut table = [0.0; 512];
-    let alphas = thermo_models::tables(tau, alpha, n, t, &mut table);
-    let mut lg = [0.0; 8];
-    let mut sl = [0.0; 8];
-    let verdict = thermo_models::activity(&table, alphas, n, t, x, &mut lg, &mut sl);
-    match verdict {
-        Verdict::Refused(number) => refused(number),
-        Verdict::Passed => bubble_answer(&lg, ps, n, p, x, t, iterations),
-    }
-}
-
-fn bubble_found(
-    book: &[u8],
-    tau: &[f64; 256],
-    alpha: &[f64; 128],
-    n: usize,
-    p: f64,
-    x: &[f64; 8],
-    t: Temperature,
-    iterations: u64,
-) -> ActivitySaturation
-    ensures { λ r. ⌜ r ≡ saturationAnswer (bubbleFound (activityOf (now (tau .entry)) (now (alpha .entry)) (places n)) (pureLiquidsOf (now (book .entry)) (places n)) (places n) p (now (x .entry)) iterations (t .0)) ⌝ }
-{
-    let mut ps = [0.0; 8];
-    let mut dps = [0.0; 8];
-    let verdict = thermo_models::pure_liquids(book, n, t, &mut ps, &mut dps);
-    match verdict {
-        Verdict::Refused(number) => refused(number),
-        Verdict::Passed => bubble_with(tau, alpha, n, &ps, p, x, t, iterations),
-    }
-}
-
-// The answer at the root, or the search's refusal.
-fn bubble_at_root(
-    book: &[u8],
-    tau: &[f64; 256],
-    alpha: &[f64; 128],
-    n: usize,
-    p: f64,
-    x: &[f64; 8],
-    root: RootAnswer,
-) -> ActivitySaturation
-    ensures { λ r. ⌜ ((o : Out Root) → root ≡ rootAnswer o → r ≡ saturationAnswer (bind o (λ q. bind (positiveOf (q .temperature) 13) (bubbleFound (activityOf (now (tau .entry)) (now (alpha .entry)) (places n)) (pureLiquidsOf (now (book .entry)) (places n)) (places n) p (now (x .entry)) (q .iterations))))) ⌝ }
-{
-    let verdict = root.verdict;
-    match verdict {
-        Verdict::Refused(number) => refused(number),
-        Verdict::Passed => {
-            let found = Temperature::new(root.temperature);
-            match found {
-                NewTemperature::No(number) => refused(number),
-                NewTemperature::Valid(t) => {
-                    bubble_found(book, tau, alpha, n, p, x, t, root.iterations)
-                }
-            }
-        }
-    }
-}
-
-// Bubble temperature at p: ln Σ x_i γ_i p_i^sat = ln p on the bracket from lo to hi, K.
-pub fn activity_bubble_temperature(
-    book: &[u8],
-    tau: &[f64; 256],
-    alpha: &[f64; 128],
-    n: usize,
-    p: Pressure,
-    x: &[f64; 8],
-    tolerance: f64,
-    max_temperature_iterations: u64,
-    lo: f64,
-    hi: f64,
-) -> ActivitySaturation
-    ensures { λ r. ⌜ r ≡ saturationAnswer (bubbleTemperature (activityOf (now (tau .entry)) (now (alpha .entry)) (places n)) (pureLiquidsOf (now (book .entry)) (places n)) (places n) (p .0) (now (x .entry)) tolerance «max_temperature_iterations» lo hi) ⌝ }
-{
-    let pressure = p.value();
-    if !thermo_models::check_pressure(pressure) {
-        return refused(23);
-    }
-    let limit = max_temperature_iterations;
-    let root = bubble_root(book, tau, alpha, n, pressure, x, tolerance, limit, lo, hi);
-    bubble_at_root(book, tau, alpha, n, pressure, x, root)
 }
 
 // ---- dew temperature
@@ -582,7 +429,7 @@ fn dew_point_with(
     }
 }
 
-// f at T: the pure liquids (22, 25) come first.
+// f(T) = ln p_dew(T) - ln p: the pure liquids (22, 25) come first.
 fn dew_point_at(
     book: &[u8],
     tau: &[f64; 256],
@@ -603,79 +450,6 @@ fn dew_point_at(
         Verdict::Refused(number) => no_point(number),
         Verdict::Passed => dew_point_with(tau, alpha, n, &ps, &dps, p, y, tolerance, limit, t),
     }
-}
-
-// f(T) = ln p_dew(T) - ln p
-fn dew_point(
-    book: &[u8],
-    tau: &[f64; 256],
-    alpha: &[f64; 128],
-    n: usize,
-    p: f64,
-    y: &[f64; 8],
-    tolerance: f64,
-    limit: u64,
-    t: f64,
-) -> PointAnswer
-    ensures { λ r. ⌜ r ≡ pointAnswer (dewPoint (activityOf (now (tau .entry)) (now (alpha .entry)) (places n)) (pureLiquidsOf (now (book .entry)) (places n)) (places n) p (now (y .entry)) tolerance limit t) ⌝ }
-{
-    let tried = Temperature::new(t);
-    match tried {
-        NewTemperature::No(number) => no_point(number),
-        NewTemperature::Valid(kelvin) => {
-            dew_point_at(book, tau, alpha, n, p, y, tolerance, limit, kelvin)
-        }
-    }
-}
-
-fn dew_ends(
-    book: &[u8],
-    tau: &[f64; 256],
-    alpha: &[f64; 128],
-    n: usize,
-    p: f64,
-    y: &[f64; 8],
-    tolerance: f64,
-    limit: u64,
-    lo: f64,
-    hi: f64,
-) -> SearchState
-    ensures { λ r. ⌜ ((outer : ℕ) → remaining (dewPoint (activityOf (now (tau .entry)) (now (alpha .entry)) (places n)) (pureLiquidsOf (now (book .entry)) (places n)) (places n) p (now (y .entry)) tolerance limit) tolerance outer 0 r ≡ solveTemperature (dewPoint (activityOf (now (tau .entry)) (now (alpha .entry)) (places n)) (pureLiquidsOf (now (book .entry)) (places n)) (places n) p (now (y .entry)) tolerance limit) tolerance lo hi outer) ⌝ }
-{
-    let a = dew_point(book, tau, alpha, n, p, y, tolerance, limit, lo);
-    let verdict = a.verdict;
-    match verdict {
-        Verdict::Refused(number) => stopped(number),
-        Verdict::Passed => {
-            let b = dew_point(book, tau, alpha, n, p, y, tolerance, limit, hi);
-            start(a, b, lo, hi, tolerance)
-        }
-    }
-}
-
-fn dew_root(
-    book: &[u8],
-    tau: &[f64; 256],
-    alpha: &[f64; 128],
-    n: usize,
-    p: f64,
-    y: &[f64; 8],
-    tolerance: f64,
-    limit: u64,
-    outer: u64,
-    lo: f64,
-    hi: f64,
-) -> RootAnswer
-    ensures { λ r. ⌜ r ≡ rootAnswer (solveTemperature (dewPoint (activityOf (now (tau .entry)) (now (alpha .entry)) (places n)) (pureLiquidsOf (now (book .entry)) (places n)) (places n) p (now (y .entry)) tolerance limit) tolerance lo hi outer) ⌝ }
-{
-    let mut s = dew_ends(book, tau, alpha, n, p, y, tolerance, limit, lo, hi);
-    let mut done: u64 = 0;
-    while s.going & (done < outer) {
-        let f = dew_point(book, tau, alpha, n, p, y, tolerance, limit, s.t);
-        s = turn(f, s, tolerance);
-        done += 1;
-    }
-    root(s, done)
 }
 
 // From the dew point on: its residual at the given pressure. The count wraps past 2^64, which no limit of a question reaches.
@@ -735,42 +509,126 @@ fn dew_with(
     dew_answer(d, ps, n, p, y, t, outer)
 }
 
-fn dew_found(
+// ---- both curves
+
+// f(T) of a curve: `Temperature::new` (13) first.
+fn curve_point(
+    curve: Curve,
     book: &[u8],
     tau: &[f64; 256],
     alpha: &[f64; 128],
     n: usize,
     p: f64,
-    y: &[f64; 8],
+    z: &[f64; 8],
+    tolerance: f64,
+    t: f64,
+) -> PointAnswer
+    ensures { λ r. ⌜ r ≡ pointAnswer (pointOf (activityOf (now (tau .entry)) (now (alpha .entry)) (places n)) (pureLiquidsOf (now (book .entry)) (places n)) (places n) curve p (now (z .entry)) tolerance t) ⌝ }
+{
+    let tried = Temperature::new(t);
+    match tried {
+        NewTemperature::No(number) => no_point(number),
+        NewTemperature::Valid(kelvin) => match curve {
+            Curve::Bubble => bubble_point_at(book, tau, alpha, n, p, z, kelvin),
+            Curve::Dew(limit) => dew_point_at(book, tau, alpha, n, p, z, tolerance, limit, kelvin),
+        },
+    }
+}
+
+// f at both ends of the bracket.
+fn curve_ends(
+    curve: Curve,
+    book: &[u8],
+    tau: &[f64; 256],
+    alpha: &[f64; 128],
+    n: usize,
+    p: f64,
+    z: &[f64; 8],
+    tolerance: f64,
+    lo: f64,
+    hi: f64,
+) -> SearchState
+    ensures { λ r. ⌜ ((limit : ℕ) → remaining (pointOf (activityOf (now (tau .entry)) (now (alpha .entry)) (places n)) (pureLiquidsOf (now (book .entry)) (places n)) (places n) curve p (now (z .entry)) tolerance) tolerance limit 0 r ≡ solveTemperature (pointOf (activityOf (now (tau .entry)) (now (alpha .entry)) (places n)) (pureLiquidsOf (now (book .entry)) (places n)) (places n) curve p (now (z .entry)) tolerance) tolerance lo hi limit) ⌝ }
+{
+    let a = curve_point(curve, book, tau, alpha, n, p, z, tolerance, lo);
+    let verdict = a.verdict;
+    match verdict {
+        Verdict::Refused(number) => stopped(number),
+        Verdict::Passed => {
+            let b = curve_point(curve, book, tau, alpha, n, p, z, tolerance, hi);
+            start(a, b, lo, hi, tolerance)
+        }
+    }
+}
+
+// Safeguarded Newton on f(T) = 0 over the bracket from lo to hi, K: 26 where the ends don't bracket the root, 27 where the limit is used up.
+fn solve_temperature(
+    curve: Curve,
+    book: &[u8],
+    tau: &[f64; 256],
+    alpha: &[f64; 128],
+    n: usize,
+    p: f64,
+    z: &[f64; 8],
     tolerance: f64,
     limit: u64,
+    lo: f64,
+    hi: f64,
+) -> RootAnswer
+    ensures { λ r. ⌜ r ≡ rootAnswer (solveTemperature (pointOf (activityOf (now (tau .entry)) (now (alpha .entry)) (places n)) (pureLiquidsOf (now (book .entry)) (places n)) (places n) curve p (now (z .entry)) tolerance) tolerance lo hi limit) ⌝ }
+{
+    let mut s = curve_ends(curve, book, tau, alpha, n, p, z, tolerance, lo, hi);
+    let mut done: u64 = 0;
+    while s.going & (done < limit) {
+        let f = curve_point(curve, book, tau, alpha, n, p, z, tolerance, s.t);
+        s = turn(f, s, tolerance);
+        done += 1;
+    }
+    root(s, done)
+}
+
+// The answer at the temperature found: the pure liquids (22, 25), then the curve's own point.
+fn found_at(
+    curve: Curve,
+    book: &[u8],
+    tau: &[f64; 256],
+    alpha: &[f64; 128],
+    n: usize,
+    p: f64,
+    z: &[f64; 8],
+    tolerance: f64,
     t: Temperature,
-    outer: u64,
+    iterations: u64,
 ) -> ActivitySaturation
-    ensures { λ r. ⌜ r ≡ saturationAnswer (dewFound (activityOf (now (tau .entry)) (now (alpha .entry)) (places n)) (pureLiquidsOf (now (book .entry)) (places n)) (places n) p (now (y .entry)) tolerance limit outer (t .0)) ⌝ }
+    ensures { λ r. ⌜ r ≡ saturationAnswer (foundOf (activityOf (now (tau .entry)) (now (alpha .entry)) (places n)) (pureLiquidsOf (now (book .entry)) (places n)) (places n) curve p (now (z .entry)) tolerance iterations (t .0)) ⌝ }
 {
     let mut ps = [0.0; 8];
     let mut dps = [0.0; 8];
     let verdict = thermo_models::pure_liquids(book, n, t, &mut ps, &mut dps);
     match verdict {
         Verdict::Refused(number) => refused(number),
-        Verdict::Passed => dew_with(tau, alpha, n, &ps, p, y, tolerance, limit, t, outer),
+        Verdict::Passed => match curve {
+            Curve::Bubble => bubble_with(tau, alpha, n, &ps, p, z, t, iterations),
+            Curve::Dew(limit) => {
+                dew_with(tau, alpha, n, &ps, p, z, tolerance, limit, t, iterations)
+            }
+        },
     }
 }
 
 // The answer at the root, or the search's refusal.
-fn dew_at_root(
+fn at_root(
+    curve: Curve,
     book: &[u8],
     tau: &[f64; 256],
     alpha: &[f64; 128],
     n: usize,
     p: f64,
-    y: &[f64; 8],
+    z: &[f64; 8],
     tolerance: f64,
-    limit: u64,
     root: RootAnswer,
 ) -> ActivitySaturation
-    ensures { λ r. ⌜ ((o : Out Root) → root ≡ rootAnswer o → r ≡ saturationAnswer (bind o (λ q. bind (positiveOf (q .temperature) 13) (dewFound (activityOf (now (tau .entry)) (now (alpha .entry)) (places n)) (pureLiquidsOf (now (book .entry)) (places n)) (places n) p (now (y .entry)) tolerance limit (q .iterations))))) ⌝ }
+    ensures { λ r. ⌜ ((o : Out Root) → root ≡ rootAnswer o → r ≡ saturationAnswer (bind o (λ q. bind (positiveOf (q .temperature) 13) (foundOf (activityOf (now (tau .entry)) (now (alpha .entry)) (places n)) (pureLiquidsOf (now (book .entry)) (places n)) (places n) curve p (now (z .entry)) tolerance (q .iterations))))) ⌝ }
 {
     let verdict = root.verdict;
     match verdict {
@@ -780,22 +638,49 @@ fn dew_at_root(
             match found {
                 NewTemperature::No(number) => refused(number),
                 NewTemperature::Valid(t) => {
-                    dew_found(
-                        book,
-                        tau,
-                        alpha,
-                        n,
-                        p,
-                        y,
-                        tolerance,
-                        limit,
-                        t,
-                        root.iterations,
-                    )
+                    let iterations = root.iterations;
+                    found_at(curve, book, tau, alpha, n, p, z, tolerance, t, iterations)
                 }
             }
         }
     }
+}
+
+// Bubble temperature at p: ln Σ x_i γ_i p_i^sat = ln p on the bracket from lo to hi, K.
+pub fn activity_bubble_temperature(
+    book: &[u8],
+    tau: &[f64; 256],
+    alpha: &[f64; 128],
+    n: usize,
+    p: Pressure,
+    x: &[f64; 8],
+    tolerance: f64,
+    max_temperature_iterations: u64,
+    lo: f64,
+    hi: f64,
+) -> ActivitySaturation
+    ensures { λ r. ⌜ r ≡ saturationAnswer (bubbleTemperature (activityOf (now (tau .entry)) (now (alpha .entry)) (places n)) (pureLiquidsOf (now (book .entry)) (places n)) (places n) (p .0) (now (x .entry)) tolerance «max_temperature_iterations» lo hi) ⌝ }
+{
+    let pressure = p.value();
+    if !thermo_models::check_pressure(pressure) {
+        return refused(23);
+    }
+    let curve = Curve::Bubble;
+    let limit = max_temperature_iterations;
+    let root = solve_temperature(
+        curve,
+        book,
+        tau,
+        alpha,
+        n,
+        pressure,
+        x,
+        tolerance,
+        limit,
+        lo,
+        hi,
+    );
+    at_root(curve, book, tau, alpha, n, pressure, x, tolerance, root)
 }
 
 // Dew temperature at p: ln p_dew(T) = ln p on the bracket from lo to hi, K.
@@ -818,9 +703,10 @@ pub fn activity_dew_temperature(
     if !thermo_models::check_pressure(pressure) {
         return refused(23);
     }
-    let limit = max_iterations;
-    let outer = max_temperature_iterations;
-    let root = dew_root(
+    let curve = Curve::Dew(max_iterations);
+    let limit = max_temperature_iterations;
+    let root = solve_temperature(
+        curve,
         book,
         tau,
         alpha,
@@ -829,9 +715,8 @@ pub fn activity_dew_temperature(
         y,
         tolerance,
         limit,
-        outer,
         lo,
         hi,
     );
-    dew_at_root(book, tau, alpha, n, pressure, y, tolerance, limit, root)
+    at_root(curve, book, tau, alpha, n, pressure, y, tolerance, root)
 }

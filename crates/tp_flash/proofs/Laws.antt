@@ -29,10 +29,10 @@ use Rattle.saturation.specs.Answers.{bubbleAnswer, dewAnswer}
 use Rattle.saturation.proofs.Answers.{bubble-passed, bubble-refused}
 use Rattle.saturation.specs.declared.BubblePoint.{BubblePoint}
 use Rattle.saturation.specs.declared.DewPoint.{DewPoint}
-use Rattle.liquid_stability.specs.Stability.{Trials, stabilityOf, stabilityAnswer, noTrials}
+use Rattle.liquid_stability.specs.Stability.{Trials, stabilityAnswer, noTrials}
 use Rattle.liquid_stability.specs.declared.LiquidStability.{LiquidStability}
 use Rattle.tp_flash.specs.Split.{Split, Turn, kValues, phaseOf, splitGap, balanceOf, riceLimit, turnAt, splitTurn, splitFrom}
-use Rattle.tp_flash.specs.Answers.{noSplit, splitPoint, splitAnswer, noTurn, turnAnswer, splitIn, stopsAt, requireStable, andFractions, dewPressureAnswer}
+use Rattle.tp_flash.specs.Answers.{noSplit, splitPoint, splitAnswer, noTurn, turnAnswer, splitIn, stopsAt, andFractions, dewPressureAnswer}
 use Rattle.tp_flash.specs.Tp.{gammaPhi, finiteTrials, inside, nearEdge, stableLiquid, dewOf, asVapor, asLiquid, asBoth, boundaryOf, fromSplit, splitFeed, betweenOf, fromDew, phasesOf, tpFlash, flashAnswer}
 use Rattle.tp_flash.specs.declared.SplitPoint.{SplitPoint}
 use Rattle.tp_flash.specs.declared.SplitTurn.{SplitTurn}
@@ -187,31 +187,32 @@ loop-start E ps n p z tolerance limit lg =
 abbrev trialsIn : LiquidStability → Trials
 trialsIn s = record { stable = s .stable; count = s .count; trials = s .trials }
 
-stable-says : (b : Bool) (a : Trials) → requireStable Passed b ≡ verdictOf (need b 29 (ok a))
-unfolding requireStable need verdictOf
-stable-says true a = refl
-stable-says false a = refl
+-- `require_stable_liquid` from the outcome o of the trials
+module _ {s : LiquidStability} where
+  pub stable-refused : (o : Out Trials) {m : ℕ} → s ≡ stabilityAnswer o → s .verdict ≡ Refused m → s ≡ stabilityAnswer (bind o (λ a. need (a .stable) 29 (ok a)))
+  unfolding stabilityAnswer bind
+  stable-refused (ok a) e q = let z : _≡_ {A = ℕ} 0 1 = cc in absurd (omega arith)
+  stable-refused (no r) e q = e
 
-stable-passed : (b : Bool) → requireStable Passed b ≡ Passed → b ≡ true
-unfolding requireStable
-stable-passed true e = refl
-stable-passed false e = let z : _≡_ {A = ℕ} 0 1 = cc in absurd (omega arith)
+  pub stable-yes : (o : Out Trials) → s ≡ stabilityAnswer o → s .verdict ≡ Passed → s .stable ≡ true → s ≡ stabilityAnswer (bind o (λ a. need (a .stable) 29 (ok a)))
+  unfolding stabilityAnswer bind
+  stable-yes (ok a) e q h = e ∙ sym (ap stabilityAnswer (need-yes _ _ (rw e at h)))
+  stable-yes (no r) e q h = let z : _≡_ {A = ℕ} 0 1 = cc in absurd (omega arith)
 
-module _ {s : LiquidStability} {v : Verdict} (q : v ≡ requireStable (s .verdict) (s .stable)) where
-  require-is : (o : Out Trials) → s ≡ stabilityAnswer o → v ≡ verdictOf (bind o (λ s. need (s .stable) 29 (ok s)))
-  unfolding stabilityAnswer bind verdictOf requireStable
-  require-is (ok a) e = (rw e at q) ∙ stable-says (a .stable) a
-  require-is (no r) e = rw e at q
+  pub stable-no : (o : Out Trials) {r : LiquidStability} → s ≡ stabilityAnswer o → s .verdict ≡ Passed → s .stable ≡ false → r ≡ stabilityAnswer (no 29) → r ≡ stabilityAnswer (bind o (λ a. need (a .stable) 29 (ok a)))
+  unfolding stabilityAnswer bind
+  stable-no (ok a) e q h z = z ∙ sym (ap stabilityAnswer (need-no _ _ (rw e at h)))
+  stable-no (no r) e q h z = let z : _≡_ {A = ℕ} 0 1 = cc in absurd (omega arith)
 
-  require-ok : (o : Out Trials) → s ≡ stabilityAnswer o → v ≡ Passed → bind o (λ s. need (s .stable) 29 (ok s)) ≡ ok (trialsIn s)
-  unfolding stabilityAnswer bind requireStable
-  require-ok (ok a) e p =
-      let h : a .stable ≡ true = stable-passed (a .stable) (sym (rw e at q) ∙ p) in
-      need-yes _ _ h ∙ rw e
-  require-ok (no r) e p =
-      let h : Refused r ≡ Passed = sym (rw e at q) ∙ p in
-      let z : _≡_ {A = ℕ} 0 1 = cc in
-      absurd (omega arith)
+  require-is : (o : Out Trials) → s ≡ stabilityAnswer o → s .verdict ≡ verdictOf o
+  unfolding stabilityAnswer verdictOf
+  require-is (ok a) e = rw e
+  require-is (no r) e = rw e
+
+  require-ok : (o : Out Trials) → s ≡ stabilityAnswer o → s .verdict ≡ Passed → o ≡ ok (trialsIn s)
+  unfolding stabilityAnswer
+  require-ok (ok a) e q = rw e
+  require-ok (no r) e q = let z : _≡_ {A = ℕ} 0 1 = cc in absurd (omega arith)
 
 three-same : {A B : Type 0} (p q r : Bool) (a : A) (b : B) → verdictOf (need p 15 (need q 16 (need r 18 (ok a)))) ≡ verdictOf (need p 15 (need q 16 (need r 18 (ok b))))
 unfolding need verdictOf
@@ -272,26 +273,26 @@ module _ (n : ℕ) (z : List Float) (bubble dew : Float) (notes : ℕ) {v : Verd
   vapor-passed q = rw (fractions-passed n (at z) n _ (sym q ∙ ev))
 
 module _ (E : List Float → Out Activity) (n : ℕ) (threshold : Float) (limit : ℕ) (z : List Float) (bubble dew : Float) where
-  module _ {s : LiquidStability} (es : s ≡ stabilityAnswer (stabilityOf E threshold n z limit)) {v : Verdict} (ev : v ≡ requireStable (s .verdict) (s .stable)) {w : Verdict} (ew : w ≡ andFractions v z n) (notes : ℕ) where
+  module _ {s : LiquidStability} (es : s ≡ stabilityAnswer (stableLiquid E n threshold limit z)) {w : Verdict} (ew : w ≡ andFractions (s .verdict) z n) (notes : ℕ) where
     pub liquid-refused : {m : ℕ} {r : ActivityTpFlash} → w ≡ Refused m → r ≡ flashAnswer (no m) → r ≡ flashAnswer (asLiquid E n threshold limit z bubble dew notes)
-    unfolding asLiquid stableLiquid
-    liquid-refused q e = e ∙ sym (ap flashAnswer (verdict-no _ (sym q ∙ and-is _ _ z n (require-is ev _ es) ew)))
+    unfolding asLiquid
+    liquid-refused q e = e ∙ sym (ap flashAnswer (verdict-no _ (sym q ∙ and-is _ _ z n (require-is _ es) ew)))
 
     pub liquid-passed : w ≡ Passed → flashAnswer (ok (record { phases = Liquid; bubble = bubble; dew = dew; iterations = 0; residual = 0f; balance = 0f; vaporFraction = 0f; notes = notes; liquid = z; vapor = zeros8; tested = true; trials = trialsIn s })) ≡ flashAnswer (asLiquid E n threshold limit z bubble dew notes)
-    unfolding asLiquid stableLiquid
-    liquid-passed q = sym (ap flashAnswer (bind-yes _ (require-ok ev _ es (and-passed v z n ew q)) ∙ and-open v z n _ ew q))
+    unfolding asLiquid
+    liquid-passed q = sym (ap flashAnswer (bind-yes _ (require-ok _ es (and-passed (s .verdict) z n ew q)) ∙ and-open (s .verdict) z n _ ew q))
 
-  module _ (p : SplitPoint) {s : LiquidStability} (es : s ≡ stabilityAnswer (stabilityOf E threshold n (p .liquid) limit)) {v : Verdict} (ev : v ≡ requireStable (s .verdict) (s .stable)) {u : Verdict} (eu : u ≡ andFractions v (p .vapor) n) {w : Verdict} (ew : w ≡ andFractions u (p .liquid) n) where
+  module _ (p : SplitPoint) {s : LiquidStability} (es : s ≡ stabilityAnswer (stableLiquid E n threshold limit (p .liquid))) {u : Verdict} (eu : u ≡ andFractions (s .verdict) (p .vapor) n) {w : Verdict} (ew : w ≡ andFractions u (p .liquid) n) where
     pub both-refused : {m : ℕ} {r : ActivityTpFlash} → w ≡ Refused m → r ≡ flashAnswer (no m) → r ≡ flashAnswer (asBoth E n threshold limit z bubble dew (splitIn p))
-    unfolding asBoth stableLiquid splitIn
-    both-refused q e = e ∙ sym (ap flashAnswer (verdict-no _ (sym q ∙ both-are _ _ (p .vapor) (p .liquid) n (require-is ev _ es) eu ew)))
+    unfolding asBoth splitIn
+    both-refused q e = e ∙ sym (ap flashAnswer (verdict-no _ (sym q ∙ both-are _ _ (p .vapor) (p .liquid) n (require-is _ es) eu ew)))
 
     pub both-passed : {b : Float} → b ≡ balanceOf (p .«vapor_fraction») (p .liquid) (p .vapor) z n → w ≡ Passed
         → flashAnswer (ok (record { phases = Both; bubble = bubble; dew = dew; iterations = p .iterations; residual = p .residual; balance = b; vaporFraction = p .«vapor_fraction»; notes = finiteTrials; liquid = p .liquid; vapor = p .vapor; tested = true; trials = trialsIn s })) ≡ flashAnswer (asBoth E n threshold limit z bubble dew (splitIn p))
-    unfolding asBoth stableLiquid splitIn
+    unfolding asBoth splitIn
     both-passed eb q =
         let h : u ≡ Passed = and-passed u (p .liquid) n ew q in
-        rw eb (sym (ap flashAnswer (bind-yes _ (require-ok ev _ es (and-passed v (p .vapor) n eu h)) ∙ and-open v (p .vapor) n _ eu h ∙ and-open u (p .liquid) n _ ew q)))
+        rw eb (sym (ap flashAnswer (bind-yes _ (require-ok _ es (and-passed (s .verdict) (p .vapor) n eu h)) ∙ and-open (s .verdict) (p .vapor) n _ eu h ∙ and-open u (p .liquid) n _ ew q)))
 
   -- ---- a converged split
   module _ (p : SplitPoint) {w f : Bool} (ew : w ≡ inside (p .«vapor_fraction»)) (ef : f ≡ nearEdge (p .«vapor_fraction»)) where

@@ -50,12 +50,6 @@ unfoldable pub stopsAt : Verdict → Float → Float → Bool
 stopsAt Passed residual tolerance = le residual tolerance
 stopsAt (Refused r) residual tolerance = true
 
--- 29 for a liquid that isn't stable in its trials
-unfoldable pub requireStable : Verdict → Bool → Verdict
-requireStable Passed true = Passed
-requireStable Passed false = Refused 29
-requireStable (Refused r) stable = Refused r
-
 -- a verdict, then that of x as mole fractions
 unfoldable pub andFractions : Verdict → List Float → ℕ → Verdict
 andFractions Passed x n = verdictOf (withFractions (at x) n (ok n))

@@ -9,10 +9,10 @@ ghost use Rattle.floats.specs.Outcome.{no};
 ghost use Rattle.numerics.specs.Numerics.{expOf, lnOf};
 ghost use Rattle.thermo_models.specs.Activity.{activityOn, activityOf};
 ghost use Rattle.thermo_models.specs.Domain.{pureLiquidsOf, temperatureInDomain};
-ghost use Rattle.liquid_stability.specs.Stability.{noTrial, stabilityOf, stabilityAnswer};
+ghost use Rattle.liquid_stability.specs.Stability.{noTrial, stabilityAnswer};
 ghost use Rattle.tp_flash.specs.Split.{kValues, phaseOf, splitGap, balanceOf, turnAt, splitTurn, splitFrom};
-ghost use Rattle.tp_flash.specs.Answers.{noSplit, splitPoint, splitAnswer, noTurn, turnAnswer, splitIn, stopsAt, requireStable, andFractions, phasesWith, dewPressureAnswer};
-ghost use Rattle.tp_flash.specs.Tp.{inside, nearEdge, asLiquid, asVapor, asBoth, boundaryOf, fromSplit, splitFeed, betweenOf, dewOf, fromDew, phasesOf, tpFlash, flashAnswer};
+ghost use Rattle.tp_flash.specs.Answers.{noSplit, splitPoint, splitAnswer, noTurn, turnAnswer, splitIn, stopsAt, andFractions, phasesWith, dewPressureAnswer};
+ghost use Rattle.tp_flash.specs.Tp.{inside, nearEdge, stableLiquid, asLiquid, asVapor, asBoth, boundaryOf, fromSplit, splitFeed, betweenOf, dewOf, fromDew, phasesOf, tpFlash, flashAnswer};
 use liquid_stability::LiquidStability;
 use liquid_stability::LiquidStabilityTrial;
 use rachford_rice::RachfordRiceOutcome;
@@ -389,22 +389,6 @@ fn no_flash(number: u64) -> ActivityTpFlash
     }
 }
 
-// 29 for a liquid that isn't stable in its trials.
-fn require_stable(verdict: Verdict, stable: bool) -> Verdict
-    ensures { λ r. ⌜ r ≡ requireStable verdict stable ⌝ }
-{
-    match verdict {
-        Verdict::Refused(number) => Verdict::Refused(number),
-        Verdict::Passed => {
-            if stable {
-                Verdict::Passed
-            } else {
-                Verdict::Refused(29)
-            }
-        }
-    }
-}
-
 // A verdict, then that of x as mole fractions.
 fn and_fractions(verdict: Verdict, x: &[f64; 8], n: usize) -> Verdict
     ensures { λ r. ⌜ r ≡ andFractions verdict (now (x .entry)) (places n) ⌝ }
@@ -412,6 +396,19 @@ fn and_fractions(verdict: Verdict, x: &[f64; 8], n: usize) -> Verdict
     match verdict {
         Verdict::Refused(number) => Verdict::Refused(number),
         Verdict::Passed => thermo_types::with_fractions(x, n),
+    }
+}
+
+fn no_stability(number: u64) -> LiquidStability
+    ensures { λ r. ⌜ r ≡ stabilityAnswer (no number) ⌝ }
+{
+    let trial = no_trial();
+    let trials = [trial; 8];
+    LiquidStability {
+        verdict: Verdict::Refused(number),
+        stable: false,
+        count: 0,
+        trials: trials,
     }
 }
 
@@ -431,8 +428,8 @@ fn as_vapor(n: usize, z: &[f64; 8], saturated: Saturated, notes: u64) -> Activit
     }
 }
 
-// The trials of the liquid x.
-fn trials_of(
+// The trials of the liquid x: 29 where they find a split.
+fn require_stable_liquid(
     table: &[f64; 512],
     alphas: Verdict,
     n: usize,
@@ -440,9 +437,9 @@ fn trials_of(
     options: FlashOptions,
     x: &[f64; 8],
 ) -> LiquidStability
-    ensures { λ r. ⌜ r ≡ stabilityAnswer (stabilityOf (activityOn (now (table .entry)) alphas (places n) (t .0)) (options .threshold) (places n) (now (x .entry)) (options .«max_iterations»)) ⌝ }
+    ensures { λ r. ⌜ r ≡ stabilityAnswer (stableLiquid (activityOn (now (table .entry)) alphas (places n) (t .0)) (places n) (options .threshold) (options .«max_iterations») (now (x .entry))) ⌝ }
 {
-    liquid_stability::liquid_stability(
+    let s = liquid_stability::liquid_stability(
         table,
         alphas,
         n,
@@ -450,7 +447,12 @@ fn trials_of(
         x,
         options.threshold,
         options.max_iterations,
-    )
+    );
+    let verdict = s.verdict;
+    match verdict {
+        Verdict::Refused(_) => s,
+        Verdict::Passed => { if s.stable { s } else { no_stability(29) } }
+    }
 }
 
 // The feed as one liquid: its trials (29), then its fractions.
@@ -466,9 +468,8 @@ fn as_liquid(
 ) -> ActivityTpFlash
     ensures { λ r. ⌜ r ≡ flashAnswer (asLiquid (activityOn (now (table .entry)) alphas (places n) (t .0)) (places n) (options .threshold) (options .«max_iterations») (now (z .entry)) (saturated .bubble) (saturated .dew) notes) ⌝ }
 {
-    let stability = trials_of(table, alphas, n, t, options, z);
-    let answered = stability.verdict;
-    let tested = require_stable(answered, stability.stable);
+    let stability = require_stable_liquid(table, alphas, n, t, options, z);
+    let tested = stability.verdict;
     let verdict = and_fractions(tested, z, n);
     match verdict {
         Verdict::Refused(number) => no_flash(number),
@@ -501,9 +502,8 @@ fn as_both(
     let x = split.liquid;
     let y = split.vapor;
     let beta = split.vapor_fraction;
-    let stability = trials_of(table, alphas, n, t, options, &x);
-    let answered = stability.verdict;
-    let tested = require_stable(answered, stability.stable);
+    let stability = require_stable_liquid(table, alphas, n, t, options, &x);
+    let tested = stability.verdict;
     let passed = and_fractions(tested, &y, n);
     let verdict = and_fractions(passed, &x, n);
     match verdict {

@@ -16,23 +16,23 @@ refused-requires c κs = search needs
 enum-told : tie.Need-enum-told
 enum-told c = search needs
 
-residual-requires : tie.Need-residual-requires
-residual-requires c κs = search needs
+rachford-rice-residual-requires : tie.Need-rachford-rice-residual-requires
+rachford-rice-residual-requires c κs = search needs
 
 one-phase-requires : tie.Need-one-phase-requires
 one-phase-requires c κs = search needs
 
 returns : tie.Need-returns
-returns c = classify-liquid _ _ _ _ (c .before .before .before .before .before .validate .ensures) (c .before .before .before .enum-told .given .1) (c .before .before .residual .ensures) (c .before .if1 .taken) (c .one-phase .ensures)
+returns c = classify-liquid _ _ _ _ (c .before .before .before .before .before .validate .ensures) (c .before .before .before .enum-told .given .1) (c .before .before .rachford-rice-residual .ensures) (c .before .if1 .taken) (c .one-phase .ensures)
 
-residual-requires-2 : tie.Need-residual-requires-2
-residual-requires-2 c κs = search needs
+rachford-rice-residual-requires-2 : tie.Need-rachford-rice-residual-requires-2
+rachford-rice-residual-requires-2 c κs = search needs
 
 one-phase-requires-2 : tie.Need-one-phase-requires-2
 one-phase-requires-2 c κs = search needs
 
 returns-2 : tie.Need-returns-2
-returns-2 c = classify-vapor _ _ _ _ (c .before .before .before .before .before .before .before .validate .ensures) (c .before .before .before .before .before .enum-told .given .1) (c .before .before .before .before .residual .ensures) (c .before .before .before .if1 .left) (c .before .before .residual2 .ensures) (c .before .if2 .taken) (c .one-phase2 .ensures)
+returns-2 c = classify-vapor _ _ _ _ (c .before .before .before .before .before .before .before .validate .ensures) (c .before .before .before .before .before .enum-told .given .1) (c .before .before .before .before .rachford-rice-residual .ensures) (c .before .before .before .if1 .left) (c .before .before .rachford-rice-residual2 .ensures) (c .before .if2 .taken) (c .one-phase2 .ensures)
 
 between-requires : tie.Need-between-requires
 between-requires c κs = search needs
@@ -41,7 +41,7 @@ returns-3 : tie.Need-returns-3
 returns-3 c = classify-refused _ _ _ _ (c .before .before .before .before .validate .ensures) (c .before .before .verdict .given .1) (c .refused .ensures)
 
 returns-4 : tie.Need-returns-4
-returns-4 c = classify-both _ _ _ _ (c .before .before .before .before .before .before .before .validate .ensures) (c .before .before .before .before .before .enum-told .given .1) (c .before .before .before .before .residual .ensures) (c .before .before .before .if1 .left) (c .before .before .residual2 .ensures) (c .before .if2 .left) (c .between .ensures)
+returns-4 c = classify-both _ _ _ _ (c .before .before .before .before .before .before .before .validate .ensures) (c .before .before .before .before .before .enum-told .given .1) (c .before .before .before .before .rachford-rice-residual .ensures) (c .before .before .before .if1 .left) (c .before .before .rachford-rice-residual2 .ensures) (c .before .if2 .left) (c .between .ensures)
 
 pub classify-spec : {M : Type 1} → statement M
 classify-spec =
@@ -51,10 +51,10 @@ classify-spec =
     enum-known-verdict
     refused-requires
     enum-told
-    residual-requires
+    rachford-rice-residual-requires
     one-phase-requires
     returns
-    residual-requires-2
+    rachford-rice-residual-requires-2
     one-phase-requires-2
     returns-2
     between-requires

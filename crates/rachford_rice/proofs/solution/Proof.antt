@@ -16,14 +16,14 @@ normalize-requires c κs = search needs
 normalize-requires-2 : tie.Need-normalize-requires-2
 normalize-requires-2 c κs = search needs
 
-residual-requires : tie.Need-residual-requires
-residual-requires c κs = search needs
+rachford-rice-residual-requires : tie.Need-rachford-rice-residual-requires
+rachford-rice-residual-requires c κs = search needs
 
 abs-requires : tie.Need-abs-requires
 abs-requires c κs = search needs
 
 returns : tie.Need-returns
-returns c = solution-is _ _ _ (c .before .before .before .before .before .before .before .before .before .pre) _ (c .before .before .before .before .before .before .before .before .liquid-parts .ensures) (c .before .before .before .before .vapor-parts .ensures) _ (c .before .before .before .before .before .before .normalize .ensures) (c .before .before .normalize2 .ensures) (c .before .residual .ensures) (c .abs .ensures)
+returns c = solution-is _ _ _ (c .before .before .before .before .before .before .before .before .before .pre) _ (c .before .before .before .before .before .before .before .before .liquid-parts .ensures) (c .before .before .before .before .vapor-parts .ensures) _ (c .before .before .before .before .before .before .normalize .ensures) (c .before .before .normalize2 .ensures) (c .before .rachford-rice-residual .ensures) (c .abs .ensures)
 
 pub solution-spec : {M : Type 1} → statement M
 solution-spec =
@@ -33,6 +33,6 @@ solution-spec =
     normalize-requires
     vapor-parts-requires
     normalize-requires-2
-    residual-requires
+    rachford-rice-residual-requires
     abs-requires
     returns)

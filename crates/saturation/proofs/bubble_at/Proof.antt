@@ -16,6 +16,9 @@ no-bubble-requires c κs = search needs
 enum-told : tie.Need-enum-told
 enum-told c = search needs
 
+places-requires : tie.Need-places-requires
+places-requires c κs = search needs
+
 bubble-from-requires : tie.Need-bubble-from-requires
 bubble-from-requires c κs = search needs
 
@@ -23,7 +26,7 @@ returns : tie.Need-returns
 returns c = bubble-at-refused _ _ _ _ (c .before .before .before .before .activity .ensures) (c .before .before .verdict .given .1) (c .no-bubble .ensures)
 
 returns-2 : tie.Need-returns-2
-returns-2 c = bubble-at-passed _ _ _ _ (c .before .before .before .before .activity .ensures) (c .before .before .enum-told .given .1) (c .bubble-from .ensures)
+returns-2 c = bubble-at-passed _ _ _ _ (c .before .before .before .before .before .activity .ensures) (c .before .before .before .enum-told .given .1) (rw (← c .before .places .ensures) (c .bubble-from .ensures))
 
 pub bubble-at-spec : {M : Type 1} → statement M
 bubble-at-spec =
@@ -33,6 +36,7 @@ bubble-at-spec =
     enum-known-verdict
     no-bubble-requires
     enum-told
+    places-requires
     bubble-from-requires
     returns
     returns-2)

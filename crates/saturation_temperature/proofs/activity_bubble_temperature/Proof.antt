@@ -1,5 +1,6 @@
 -- `saturation_temperature::activity_bubble_temperature` meets its contract. Assumes nothing.
 use borrow.Author.Needs.{needs}
+use Rattle.saturation_temperature.specs.Curves.{pointOf, foundOf}
 use Rattle.saturation_temperature.proofs.Points.{bubble-outside, bubble-inside}
 use Rattle.saturation_temperature.proofs.activity_bubble_temperature.Statement.{statement}
 use Rattle.saturation_temperature.proofs.activity_bubble_temperature.Tie as tie
@@ -16,14 +17,15 @@ refused-requires c κs = search needs
 returns : tie.Need-returns
 returns c = bubble-outside _ _ _ _ (rw (c .before .before .before .value .ensures) at (c .before .before .check-pressure .ensures)) _ _ _ _ _ (c .before .if1 .taken) (c .refused .ensures)
 
-bubble-root-requires : tie.Need-bubble-root-requires
-bubble-root-requires c κs = search needs
+solve-temperature-requires : tie.Need-solve-temperature-requires
+solve-temperature-requires c κs = search needs
 
-bubble-at-root-requires : tie.Need-bubble-at-root-requires
-bubble-at-root-requires c κs = search needs
+at-root-requires : tie.Need-at-root-requires
+at-root-requires c κs = search needs
 
 returns-2 : tie.Need-returns-2
-returns-2 c = bubble-inside _ _ _ _ (rw (c .before .before .before .before .value .ensures) at (c .before .before .before .check-pressure .ensures)) _ _ _ _ _ (c .before .before .if1 .left) (rw (c .before .before .before .before .value .ensures) at (c .bubble-at-root .ensures _ (c .before .bubble-root .ensures)))
+unfolding pointOf foundOf
+returns-2 c = bubble-inside _ _ _ _ (rw (c .before .before .before .before .value .ensures) at (c .before .before .before .check-pressure .ensures)) _ _ _ _ _ (c .before .before .if1 .left) (rw (c .before .before .before .before .value .ensures) at (c .at-root .ensures _ (c .before .solve-temperature .ensures)))
 
 pub activity-bubble-temperature-spec : {M : Type 1} → statement M
 activity-bubble-temperature-spec =
@@ -33,6 +35,6 @@ activity-bubble-temperature-spec =
     check-pressure-requires
     refused-requires
     returns
-    bubble-root-requires
-    bubble-at-root-requires
+    solve-temperature-requires
+    at-root-requires
     returns-2)

@@ -1,5 +1,6 @@
 -- `saturation_temperature::activity_dew_temperature` meets its contract. Assumes nothing.
 use borrow.Author.Needs.{needs}
+use Rattle.saturation_temperature.specs.Curves.{pointOf, foundOf}
 use Rattle.saturation_temperature.proofs.Points.{dew-outside, dew-inside}
 use Rattle.saturation_temperature.proofs.activity_dew_temperature.Statement.{statement}
 use Rattle.saturation_temperature.proofs.activity_dew_temperature.Tie as tie
@@ -16,14 +17,15 @@ refused-requires c κs = search needs
 returns : tie.Need-returns
 returns c = dew-outside _ _ _ _ (rw (c .before .before .before .value .ensures) at (c .before .before .check-pressure .ensures)) _ _ _ _ _ _ (c .before .if1 .taken) (c .refused .ensures)
 
-dew-root-requires : tie.Need-dew-root-requires
-dew-root-requires c κs = search needs
+solve-temperature-requires : tie.Need-solve-temperature-requires
+solve-temperature-requires c κs = search needs
 
-dew-at-root-requires : tie.Need-dew-at-root-requires
-dew-at-root-requires c κs = search needs
+at-root-requires : tie.Need-at-root-requires
+at-root-requires c κs = search needs
 
 returns-2 : tie.Need-returns-2
-returns-2 c = dew-inside _ _ _ _ (rw (c .before .before .before .before .value .ensures) at (c .before .before .before .check-pressure .ensures)) _ _ _ _ _ _ (c .before .before .if1 .left) (rw (c .before .before .before .before .value .ensures) at (c .dew-at-root .ensures _ (c .before .dew-root .ensures)))
+unfolding pointOf foundOf
+returns-2 c = dew-inside _ _ _ _ (rw (c .before .before .before .before .value .ensures) at (c .before .before .before .check-pressure .ensures)) _ _ _ _ _ _ (c .before .before .if1 .left) (rw (c .before .before .before .before .value .ensures) at (c .at-root .ensures _ (c .before .solve-temperature .ensures)))
 
 pub activity-dew-temperature-spec : {M : Type 1} → statement M
 activity-dew-temperature-spec =
@@ -33,6 +35,6 @@ activity-dew-temperature-spec =
     check-pressure-requires
     refused-requires
     returns
-    dew-root-requires
-    dew-at-root-requires
+    solve-temperature-requires
+    at-root-requires
     returns-2)

@@ -6,11 +6,8 @@ use Rattle.tp_flash.proofs.Laws.{both-refused, both-passed}
 use Rattle.tp_flash.proofs.as_both.Statement.{statement}
 use Rattle.tp_flash.proofs.as_both.Tie as tie
 
-trials-of-requires : tie.Need-trials-of-requires
-trials-of-requires c κs = search needs
-
-require-stable-requires : tie.Need-require-stable-requires
-require-stable-requires c κs = search needs
+require-stable-liquid-requires : tie.Need-require-stable-liquid-requires
+require-stable-liquid-requires c κs = search needs
 
 and-fractions-requires : tie.Need-and-fractions-requires
 and-fractions-requires c κs = search needs
@@ -34,18 +31,17 @@ balance-requires : tie.Need-balance-requires
 balance-requires c κs = search needs
 
 returns : tie.Need-returns
-returns c = both-refused _ _ _ _ _ _ _ _ (c .before .before .before .before .before .before .before .before .before .trials-of .ensures) (c .before .before .before .before .before .before .before .before .require-stable .ensures) (c .before .before .before .before .before .before .and-fractions .ensures) (c .before .before .before .before .and-fractions2 .ensures) (c .before .before .verdict .given .1) (c .no-flash .ensures)
+returns c = both-refused _ _ _ _ _ _ _ _ (c .before .before .before .before .before .before .before .before .require-stable-liquid .ensures) (c .before .before .before .before .before .before .and-fractions .ensures) (c .before .before .before .before .and-fractions2 .ensures) (c .before .before .verdict .given .1) (c .no-flash .ensures)
 
 returns-2 : tie.Need-returns-2
 unfolding flashAnswer phasesWith
-returns-2 c = rw (c .before .before .before .before .phases-with .ensures) (both-passed _ _ _ _ _ _ _ _ (c .before .before .before .before .before .before .before .before .before .before .before .before .trials-of .ensures) (c .before .before .before .before .before .before .before .before .before .before .before .require-stable .ensures) (c .before .before .before .before .before .before .before .before .before .and-fractions .ensures) (c .before .before .before .before .before .before .before .and-fractions2 .ensures) (c .before .balance .ensures) (c .before .before .before .before .before .enum-told .given .1))
+returns-2 c = rw (c .before .before .before .before .phases-with .ensures) (both-passed _ _ _ _ _ _ _ _ (c .before .before .before .before .before .before .before .before .before .before .before .require-stable-liquid .ensures) (c .before .before .before .before .before .before .before .before .before .and-fractions .ensures) (c .before .before .before .before .before .before .before .and-fractions2 .ensures) (c .before .balance .ensures) (c .before .before .before .before .before .enum-told .given .1))
 
 pub as-both-spec : {M : Type 1} → statement M
 as-both-spec =
     tie.close
     (tie.spec
-    trials-of-requires
-    require-stable-requires
+    require-stable-liquid-requires
     and-fractions-requires
     and-fractions-requires-2
     enum-known-verdict

@@ -6,11 +6,8 @@ use Rattle.tp_flash.proofs.Laws.{liquid-refused, liquid-passed}
 use Rattle.tp_flash.proofs.as_liquid.Statement.{statement}
 use Rattle.tp_flash.proofs.as_liquid.Tie as tie
 
-trials-of-requires : tie.Need-trials-of-requires
-trials-of-requires c κs = search needs
-
-require-stable-requires : tie.Need-require-stable-requires
-require-stable-requires c κs = search needs
+require-stable-liquid-requires : tie.Need-require-stable-liquid-requires
+require-stable-liquid-requires c κs = search needs
 
 and-fractions-requires : tie.Need-and-fractions-requires
 and-fractions-requires c κs = search needs
@@ -28,18 +25,17 @@ phases-with-requires : tie.Need-phases-with-requires
 phases-with-requires c κs = search needs
 
 returns : tie.Need-returns
-returns c = liquid-refused _ _ _ _ _ _ _ (c .before .before .before .before .before .before .trials-of .ensures) (c .before .before .before .before .before .require-stable .ensures) (c .before .before .before .before .and-fractions .ensures) _ (c .before .before .verdict .given .1) (c .no-flash .ensures)
+returns c = liquid-refused _ _ _ _ _ _ _ (c .before .before .before .before .before .require-stable-liquid .ensures) (c .before .before .before .before .and-fractions .ensures) _ (c .before .before .verdict .given .1) (c .no-flash .ensures)
 
 returns-2 : tie.Need-returns-2
 unfolding flashAnswer phasesWith
-returns-2 c = rw (c .before .before .phases-with .ensures) (liquid-passed _ _ _ _ _ _ _ (c .before .before .before .before .before .before .before .trials-of .ensures) (c .before .before .before .before .before .before .require-stable .ensures) (c .before .before .before .before .before .and-fractions .ensures) _ (c .before .before .before .enum-told .given .1))
+returns-2 c = rw (c .before .before .phases-with .ensures) (liquid-passed _ _ _ _ _ _ _ (c .before .before .before .before .before .before .require-stable-liquid .ensures) (c .before .before .before .before .before .and-fractions .ensures) _ (c .before .before .before .enum-told .given .1))
 
 pub as-liquid-spec : {M : Type 1} → statement M
 as-liquid-spec =
     tie.close
     (tie.spec
-    trials-of-requires
-    require-stable-requires
+    require-stable-liquid-requires
     and-fractions-requires
     enum-known-verdict
     no-flash-requires

@@ -1,4 +1,4 @@
--- `rachford_rice::residual` meets its contract. The loop's invariant: the sum so far is g(β) of the entries passed. Assumes nothing.
+-- `rachford_rice::rachford_rice_residual` meets its contract. The loop's invariant: the sum so far is g(β) of the entries passed. Assumes nothing.
 use Prim.Native.Nat.{_≤_, _-_}
 use mathlib.Core.Path.{_≡_, refl}
 use native.Mathlib.Omega.{arith}
@@ -7,8 +7,8 @@ use Rattle.floats.specs.Fold.{foldTo}
 use Rattle.floats.specs.Vector.{at}
 use Rattle.floats.proofs.Folds.{fold-turn, fold-done}
 use Rattle.rachford_rice.specs.Rachford.{residualOf}
-use Rattle.rachford_rice.proofs.residual.Statement.{statement}
-use Rattle.rachford_rice.proofs.residual.Tie as tie
+use Rattle.rachford_rice.proofs.rachford_rice_residual.Statement.{statement}
+use Rattle.rachford_rice.proofs.rachford_rice_residual.Tie as tie
 
 abbrev Inv-loop : tie.InvT-loop
 Inv-loop z k n beta s₀ i₀ s i = (i ≤ n) × (s ≡ residualOf (at z) (at k) i beta)
@@ -49,8 +49,8 @@ returns : tie.Need-returns Inv-loop μ-loop
 unfolding residualOf
 returns c = fold-done _ _ _ _ (omega arith) (c .before .loop .inv .1)
 
-pub residual-spec : {M : Type 1} → statement M
-residual-spec =
+pub rachford-rice-residual-spec : {M : Type 1} → statement M
+rachford-rice-residual-spec =
     tie.close
     (tie.spec
     Inv-loop

@@ -1,10 +1,10 @@
--- `saturation_temperature::bubble_at_root` meets its contract. Assumes nothing.
+-- `saturation_temperature::at_root` meets its contract. Assumes nothing.
 use borrow.Author.Needs.{needs}
 use Rattle.saturation.specs.Answers.{saturationAnswer}
 use Rattle.saturation_temperature.proofs.Searching.{root-passed, root-refused}
 use Rattle.saturation_temperature.proofs.Points.{answer-no, answer-ok, new-valid, new-no}
-use Rattle.saturation_temperature.proofs.bubble_at_root.Statement.{statement}
-use Rattle.saturation_temperature.proofs.bubble_at_root.Tie as tie
+use Rattle.saturation_temperature.proofs.at_root.Statement.{statement}
+use Rattle.saturation_temperature.proofs.at_root.Tie as tie
 
 enum-known-verdict : tie.Need-enum-known-verdict
 enum-known-verdict c = search needs
@@ -27,8 +27,8 @@ refused-requires-2 c κs = search needs
 enum-known-found-2 : tie.Need-enum-known-found-2
 enum-known-found-2 c = search needs
 
-bubble-found-requires : tie.Need-bubble-found-requires
-bubble-found-requires c κs = search needs
+found-at-requires : tie.Need-found-at-requires
+found-at-requires c κs = search needs
 
 returns : tie.Need-returns
 returns c = λ o e. answer-no saturationAnswer o _ (root-refused o e (c .before .before .verdict .given .1)) (c .refused .ensures)
@@ -37,10 +37,10 @@ returns-2 : tie.Need-returns-2
 returns-2 c = λ o e. answer-ok saturationAnswer o _ (root-passed o e (c .before .before .before .before .before .enum-told .given .1)) (answer-no saturationAnswer _ _ (new-no _ (c .before .before .before .before .new .ensures) (c .before .before .found .given .1)) (c .refused2 .ensures))
 
 returns-3 : tie.Need-returns-3
-returns-3 c = λ o e. answer-ok saturationAnswer o _ (root-passed o e (c .before .before .before .before .before .enum-told .given .1)) (answer-ok saturationAnswer _ _ (new-valid _ (c .before .before .before .before .new .ensures) (c .before .before .found2 .given .1)) (c .bubble-found .ensures))
+returns-3 c = λ o e. answer-ok saturationAnswer o _ (root-passed o e (c .before .before .before .before .before .enum-told .given .1)) (answer-ok saturationAnswer _ _ (new-valid _ (c .before .before .before .before .new .ensures) (c .before .before .found2 .given .1)) (c .found-at .ensures))
 
-pub bubble-at-root-spec : {M : Type 1} → statement M
-bubble-at-root-spec =
+pub at-root-spec : {M : Type 1} → statement M
+at-root-spec =
     tie.close
     (tie.spec
     enum-known-verdict
@@ -50,7 +50,7 @@ bubble-at-root-spec =
     enum-known-found
     refused-requires-2
     enum-known-found-2
-    bubble-found-requires
+    found-at-requires
     returns
     returns-2
     returns-3)
