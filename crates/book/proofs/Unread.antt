@@ -18,7 +18,7 @@ use Rattle.book.specs.Named.{pairNamed, named, Agree}
 use Rattle.book.specs.Book.{floatsFinite, headRight, solventRight, rangeRight, termCount, recordRight, recordsRight, casNew, pairRight, rowRight, boundsFinite, pairFinite, alphasEqual, pairsOf, solventsOf, headOf, bookOf}
 
 -- a block's tests read only its named words
-floats-same : (w v : ℕ → ℕ) (f n : ℕ) → ((k : ℕ) → k < n → w (f + k) ≡ v (f + k)) → floatsFinite w f n ≡ floatsFinite v f n
+pub floats-same : (w v : ℕ → ℕ) (f n : ℕ) → ((k : ℕ) → k < n → w (f + k) ≡ v (f + k)) → floatsFinite w f n ≡ floatsFinite v f n
 unfolding floatsFinite
 floats-same w v f n e = all-cong n (λ k l. ap (λ (x : ℕ). isFinite (floatOf x)) (e k l))
 

@@ -8,7 +8,8 @@ use native.Mathlib.Omega.{arith}
 use mathlib.Core.List.{List}
 use lib.ListN.{set, length, getD, length-set}
 use lib.Seq.{getD-set-same, getD-set-other}
-use Rattle.floats.specs.Vector.{fill, fillFrom, fillRows}
+use lib.Ieee.{Float, nan}
+use Rattle.floats.specs.Vector.{at, fill, fillFrom, fillRows, zeros8, vec}
 
 module _ {A : Type 0} where
   pub fillFrom-turn : (f : ℕ → A) (base k : ℕ) (m₀ : List A) {m : List A} {v : A} → v ≡ f k → m ≡ fillFrom f base k m₀ → set m (base + k) v ≡ fillFrom f base (k + 1) m₀
@@ -93,3 +94,7 @@ module _ {A : Type 0} where
       let p : fill f n m ≡ fill h n m = fill-cong f h n m (λ k l. e k (omega arith)) in
       let q : f n ≡ h n = e n (omega arith) in
       rw (p, q)
+
+-- entry i of an array of eight
+pub vec-at : (f : ℕ → Float) (n i : ℕ) → n ≤ 8 → i < n → at (vec f n) i ≡ f i
+vec-at f n i h l = fill-at f n zeros8 nan i h l

@@ -48,3 +48,32 @@ pub bind-inv : {A B : Type 0} (o : Out A) (k : A → Out B) {b : B} → bind o k
 unfolding bind
 bind-inv (ok a) k e = (a, refl, e)
 bind-inv (no r) k e = absurd (refused e)
+
+-- what an outcome's value is like, if it has one
+pub record Each {A : Type 0} (P : A → Type 0) (o : Out A) : Type 0 where
+  pub each : (a : A) → o ≡ ok a → P a
+
+module _ {A : Type 0} (P : A → Type 0) where
+  pub each-ok : {a : A} → P a → Each P (ok a)
+  each-ok {a} p = record { each = λ b e. take-out b e }
+    where
+      take-out : (b : A) → ok a ≡ ok b → P b
+      take-out b e = let q : a ≡ b = cc in rw q at p
+
+  pub each-no : (r : ℕ) → Each P (no r)
+  each-no r = record { each = λ b e. absurd (refused e) }
+
+  pub each-need : (b : Bool) (r : ℕ) {o : Out A} → Each P o → Each P (need b r o)
+  unfolding need
+  each-need true r h = h
+  each-need false r h = each-no r
+
+  pub each-choose : (b : Bool) {o p : Out A} → Each P o → Each P p → Each P (choose b o p)
+  unfolding choose
+  each-choose true h g = h
+  each-choose false h g = g
+
+  pub each-bind : {B : Type 0} (o : Out B) (k : B → Out A) → ((b : B) → o ≡ ok b → Each P (k b)) → Each P (bind o k)
+  unfolding bind
+  each-bind (ok b) k h = h b refl
+  each-bind (no r) k h = each-no r

@@ -37,7 +37,7 @@ pub record Stands (T G : ℕ → ℕ → Jet) (n : ℕ) (m : List Float) : Type 
 jet-is : (j : Jet) {a b c : Float} → a ≡ j .v → b ≡ j .d → c ≡ j .dd → _≡_ {A = Jet} (record { v = a; d = b; dd = c }) j
 jet-is j p q r = rw (p, q, r)
 
-two-is : {a b c d : Float} → a ≡ c → b ≡ d → twoJ a b ≡ twoJ c d
+pub two-is : {a b c d : Float} → a ≡ c → b ≡ d → twoJ a b ≡ twoJ c d
 two-is p q = rw (p, q)
 
 pub rows-stand : (T G : ℕ → ℕ → Jet) (n : ℕ) (old : List Float) → length old ≡ 512 → n ≤ 8 → Stands T G n (tableRows T G n n old)

@@ -24,6 +24,7 @@ use Rattle.nrtl.specs.State.{stateFrom}
 use Rattle.nrtl.specs.On.{twos, firstTwo, sOn, rOn, lnGammaOn, reducedOn}
 use Rattle.nrtl.specs.Answers.{energiesOf, lnGammasOf, slopesOf, Gives}
 use Rattle.nrtl.specs.Steps.{pairOf, sumsOf, sIn, rIn, SumsTo, GammasTo, energiesAt, energiesFinite}
+use Rattle.nrtl.proofs.Tabled.{two-is}
 use Rattle.nrtl.proofs.Tests.{whole, one-test, gives}
 
 -- ---- the array of sums
@@ -40,9 +41,6 @@ sums-at S R (suc n) l i k s n8 il kl =
     (λ (p : i ≡ n). rw p (fillFrom-at (pairOf (S n) (R n)) (n * 4) 4 (sumsOf S R n l) nan k (omega (arith, sums-length S R n l)) kl))
     (λ (p : i < n). fillFrom-before (pairOf (S n) (R n)) (n * 4) 4 (sumsOf S R n l) nan (i * 4 + k) (omega arith) ∙ sums-at S R n l i k s (omega arith) p kl)
     (eq-or-lt-of-le (omega arith))
-
-two-is : {a b c d : Float} → a ≡ c → b ≡ d → twoJ a b ≡ twoJ c d
-two-is p q = rw (p, q)
 
 module _ (S R : ℕ → Jet) (n : ℕ) (n8 : n ≤ 8) (old sums : List Float) (len : length old ≡ 32) (p : sums ≡ sumsOf S R n old) where
   kept : (i k : ℕ) → i < n → k < 4 → at sums (i * 4 + k) ≡ pairOf (S i) (R i) k

@@ -12,7 +12,7 @@ use lib.Ieee.{Float, nan, inf, fin, binary64, up, down, unlike, round, neg, sum,
 use lib.Ieee.Fits.{down-pos}
 use lib.Ieee.Exact.{HasValue, round-exact}
 use lib.Ieee.Order.{round-mono}
-use Rattle.numerics.proofs.Bounds.{Plus, round-plus, round-flip}
+use Rattle.numerics.proofs.Bounds.{Plus, round-plus, round-flip, le-or}
 
 abbrev pub U : ℕ
 U = 1073741824
@@ -44,14 +44,6 @@ grid-value N l = round-exact binary64 false N U N 1044 (lit< tt) l (fine N l) (s
 
     same : (N : ℕ) → N * 2 ^ 1074 ≡ N * 2 ^ 1044 * U
     same N = sym (mul-assoc N (2 ^ 1044) U)
-
-le-or : (X Y : ℕ) → T (ltb X Y || (eqb X Y && true)) → X ≤ Y
-le-or X Y t = go (ltb X Y) (eqb X Y) (ltb→lt X Y) (eqb→eq X Y) t
-  where
-    go : (a b : Bool) → (T a → X < Y) → (T b → X ≡ Y) → T (a || (b && true)) → X ≤ Y
-    go true b p q t = let h = p tt in omega arith
-    go false true p q t = let h = q tt in omega arith
-    go false false p q t = absurd t
 
 cross : (X E Y D H : ℕ) → 0 < D → X * D ≤ Y * E → Y * U ≡ H * D → X * U ≤ H * E
 cross X E Y D H p h w =

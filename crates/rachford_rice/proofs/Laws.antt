@@ -13,7 +13,7 @@ use Rattle.floats.specs.Fold.{foldTo, sumTo, active}
 use Rattle.floats.specs.Vector.{at, vec, zeros8, places}
 use Rattle.floats.specs.Outcome.{Out, ok, no, bind, need, choose}
 use Rattle.floats.proofs.Folds.{fold-turn, fold-done, sum-cong, was-no, was-yes}
-use Rattle.floats.proofs.Fills.{fill-at, fill-cong}
+use Rattle.floats.proofs.Fills.{vec-at, fill-cong}
 use Rattle.floats.proofs.Outcomes.{bind-yes, bind-no}
 use Rattle.thermo_types.specs.Composition.{normalizeOf}
 use Rattle.thermo_types.specs.Verdicts.{verdictOf}
@@ -43,10 +43,6 @@ module _ (z k : ℕ → Float) (β : Float) where
   pub slope-done : (i n : ℕ) {s : Float} → i ≡ n → s ≡ slopeSum i → neg s ≡ slopeOf z k n β
   unfolding slopeSum slopeOf
   slope-done i n e h = ap neg (fold-done _ _ i n e h)
-
--- ---- arrays of eight
-pub vec-at : (f : ℕ → Float) (n i : ℕ) → n ≤ 8 → i < n → at (vec f n) i ≡ f i
-vec-at f n i h l = fill-at f n zeros8 nan i h l
 
 pub normalize-cong : {x f : ℕ → Float} (n : ℕ) → ((i : ℕ) → i < n → x i ≡ f i) → normalizeOf x n ≡ normalizeOf f n
 unfolding normalizeOf

@@ -1,5 +1,4 @@
 -- Laws of the whole call, which other crates may cite. Assumes nothing.
 pub mod Laws
-pub mod Counts
 pub mod Replies
 pub mod Dispatch

@@ -43,7 +43,8 @@ use Rattle.sheet.specs.Tasks.{excessAnswer, saturationSheet, stabilitySh
 use Rattle.sheet.specs.Sheet.{Answers}
 use Rattle.sheet.specs.Steps.{replied, onPassed, finiteReduced}
 use Rattle.sheet.proofs.Laws.{Behind, same-as, refuses, one-block, trial-length, trials-end}
-use Rattle.sheet.proofs.Counts.{Each, Few}
+use Rattle.floats.proofs.Outcomes.{Each}
+use Rattle.liquid_stability.proofs.Counts.{Few}
 
 -- ---- temperatures and pressures
 pub kelvin-no : {made : NewTemperature} (o : Out Float) {r : ℕ} → made ≡ newTemperature o → made ≡ temperature.No r → o ≡ no r

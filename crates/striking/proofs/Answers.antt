@@ -26,7 +26,8 @@ use Rattle.question.specs.declared.Question.{Question}
 use Rattle.replies.specs.Numbers.{statusNumber, phaseNumber}
 use Rattle.replies.specs.Blocks.{bit, stateWords, modelWords, stableWords, Answer}
 use Rattle.sheet.specs.Tasks.{modelOf, liquidsOf, sheet, excessAnswer, saturationSheet, stabilitySheet, flashSheet, riceSheet, task1, task2, task3, task4, task6, task7, task8, task9, taskOf}
-use Rattle.sheet.proofs.Counts.{stability-few, flash-few}
+use Rattle.liquid_stability.proofs.Counts.{stability-few}
+use Rattle.tp_flash.proofs.Counts.{flash-few}
 use Rattle.zeros.specs.Same.{_≈_}
 use Rattle.zeros.proofs.Congruence.{same, ≈refl}
 use Rattle.zeros.proofs.Zero.{Zero}

@@ -18,6 +18,7 @@ use Rattle.floats.proofs.Folds.{all-at, all-cong}
 use Rattle.floats.proofs.Outcomes.{need-yes}
 use Rattle.book.specs.Places.{words, pairCount, blockCount, rowFrom, pairPlace}
 use Rattle.book.specs.Book.{floatsFinite, headRight, solventRight, rangeRight, termCount, recordRight, recordsRight, casNew, pairRight, rowRight, boundsFinite, pairFinite, alphasEqual, pairsOf, solventsOf, headOf, bookOf}
+use Rattle.book.proofs.Unread.{floats-same}
 use Rattle.book.proofs.Accepted.{Accepted, accepted, solvent-stands, records-stand, pair-stands, floats-stand, alphas-stand}
 use Rattle.striking.specs.Places.{cnt}
 use Rattle.striking.specs.Books.{ShorterBook, KeptSolvents, KeptPairs}
@@ -31,10 +32,6 @@ so e = subst T (sym e) tt
 
 all-true : (p : ℕ → Bool) (n : ℕ) → ((k : ℕ) → k < n → p k ≡ true) → allTo p n ≡ true
 all-true p n f = is-true (allTo p n) (all-of p n (λ k l. so (f k l)))
-
-floats-same : (w v : ℕ → ℕ) (f n : ℕ) → ((k : ℕ) → k < n → w (f + k) ≡ v (f + k)) → floatsFinite w f n ≡ floatsFinite v f n
-unfolding floatsFinite
-floats-same w v f n e = all-cong n (λ k l. ap (λ (x : ℕ). isFinite (floatOf x)) (e k l))
 
 one-of : (a b c d e f g : Bool) → a && b && c && d && e && f && g ≡ true → a && true && c && d && e && f && g ≡ true
 one-of true true c d e f g h = h

@@ -13,7 +13,7 @@ use Rattle.floats.specs.Small.{isFinite, absOf}
 use Rattle.floats.specs.Fold.{sumTo, allTo}
 use Rattle.floats.specs.Vector.{at, vec, zeros8}
 use Rattle.floats.specs.Outcome.{Out}
-use Rattle.floats.proofs.Fills.{fill-at}
+use Rattle.floats.proofs.Fills.{vec-at}
 use Rattle.thermo_types.specs.Composition.{tolerance, sumsToOne, withFractions}
 use Rattle.jet.specs.declared.Jet.{Jet}
 use Rattle.jet.specs.Jets.{mulJ, negJ, expJ}
@@ -49,10 +49,7 @@ isFinite-≈ {x} {y} p = isFinite-is x ∙ finite-≈ p ∙ sym (isFinite-is y)
 pub finite-to : {x y : Float} → x ⊑ y → T (isFinite x) → T (isFinite y)
 finite-to {x} {y} p h = subst T (isFinite-≈ (⊑-finite p (is-finite x h))) h
 
--- ---- arrays of eight
-pub at-vec : (f : ℕ → Float) (n i : ℕ) → n ≤ 8 → i < n → at (vec f n) i ≡ f i
-at-vec f n i h l = fill-at f n zeros8 nan i h l
-
+-- ---- places
 pub cnt-le : (keep : ℕ → Bool) (n : ℕ) → cnt keep n ≤ n
 unfolding cnt
 cnt-le keep zero = le-refl 0
@@ -147,7 +144,7 @@ module _ (keep : ℕ → Bool) (n : ℕ) (small : n ≤ 8) (tau alpha tau' alpha
   fewer = le-trans (cnt-le keep n) small
 
   listed : (f f' : ℕ → Float) → ((i : ℕ) → i < n → T (keep i) → f i ≈ f' (cnt keep i)) → (i : ℕ) → i < n → T (keep i) → at (vec f n) i ≈ at (vec f' (cnt keep n)) (cnt keep i)
-  listed f f' r i l p = subst (λ (u : Float). u ≈ at (vec f' (cnt keep n)) (cnt keep i)) (sym (at-vec f n i small l)) (subst (λ (u : Float). f i ≈ u) (sym (at-vec f' (cnt keep n) (cnt keep i) fewer (cnt-lt keep i n p l))) (r i l p))
+  listed f f' r i l p = subst (λ (u : Float). u ≈ at (vec f' (cnt keep n)) (cnt keep i)) (sym (vec-at f n i small l)) (subst (λ (u : Float). f i ≈ u) (sym (vec-at f' (cnt keep n) (cnt keep i) fewer (cnt-lt keep i n p l))) (r i l p))
 
   same-state : Acc (SameExcess keep n) (stateFrom e L n t) (stateFrom e' L' (cnt keep n) t)
   unfolding stateFrom gibbsOf

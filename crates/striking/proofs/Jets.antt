@@ -10,8 +10,9 @@ use Rattle.jet.specs.declared.Jet.{Jet}
 use Rattle.jet.specs.Jets.{constJ, addJ, subJ, mulJ, scaleJ, divJ, sumJetFrom, sumJetTo}
 use Rattle.zeros.specs.Below.{_⊑_, _⊑!_}
 use Rattle.zeros.proofs.Below.{⊑-refl, ⊑-weaken, ⊑-add, ⊑-sub, ⊑-mul, ⊑-div, gone-add, gone-sub, gone-mul-l, gone-mul-r, gone-div}
+use Rattle.zeros.proofs.Numbers.{sum-fits}
 use Rattle.striking.specs.Places.{cnt}
-use Rattle.striking.proofs.Strike.{sumFrom-fits, strike-from, strike-sum}
+use Rattle.striking.proofs.Strike.{strike-from, strike-sum}
 
 abbrev pub zeroJ : Jet
 zeroJ = constJ 0f
@@ -103,7 +104,7 @@ sum-dd a F zero = refl
 sum-dd a F (suc n) = ap (λ (x : Float). x ⊕ F n .dd) (sum-dd a F n)
 
 pub sumJ-fits-v : (a : Jet) (F : ℕ → Jet) (n : ℕ) → T (fits binary64 (a .v)) → T (fits binary64 (sumJetFrom a F n .v))
-sumJ-fits-v a F n h = subst (λ (x : Float). T (fits binary64 x)) (sym (sum-v a F n)) (sumFrom-fits (a .v) (λ k. F k .v) n h)
+sumJ-fits-v a F n h = subst (λ (x : Float). T (fits binary64 x)) (sym (sum-v a F n)) (sum-fits (a .v) (λ k. F k .v) n h)
 
 pub record FitsJ (a : Jet) : Type 0 where
   pub v : T (fits binary64 (a .v))

@@ -15,6 +15,7 @@ use Rattle.floats.specs.Arithmetic.{_⊖_, 0f, 1f}
 use Rattle.floats.specs.Small.{isFinite, absOf, floatOf}
 use Rattle.floats.specs.Fold.{allTo}
 use Rattle.floats.specs.Vector.{at}
+use Rattle.floats.proofs.Fills.{vec-at}
 use Rattle.floats.specs.Outcome.{Out}
 use Rattle.thermo_types.specs.Composition.{tolerance, sumsToOne}
 use Rattle.blocks.specs.Words.{word}
@@ -27,7 +28,7 @@ use Rattle.striking.specs.Accepted.{Acc}
 use Rattle.striking.specs.Related.{Fractions}
 use Rattle.striking.specs.Questions.{keptIn, ShorterQuestion}
 use Rattle.striking.proofs.Acc.{acc-ok, acc-need, strike-all}
-use Rattle.striking.proofs.Excess.{same-sum, at-vec, cnt-le}
+use Rattle.striking.proofs.Excess.{same-sum, cnt-le}
 use Rattle.striking.proofs.Strike.{cnt-lt}
 use Rattle.striking.proofs.Vectors.{vec-fits}
 use Rattle.striking.proofs.Tasks.{feed-fractions}
@@ -174,11 +175,11 @@ module _ (keep : ℕ → Bool) (n : ℕ) (small : n ≤ 8) (q q' : List ℕ) (h 
       ← option 17 (omega arith) (omega arith),
       ← option 18 (omega arith) (omega arith),
     );
-    fractions = λ i l t. at-vec (fraction w) n i small l ∙ ez i l t ∙ sym (at-vec (fraction v) (cnt keep n) (cnt keep i) few (cnt-lt keep i n t l));
-    absent = λ i l t. subst Zero (sym (at-vec (fraction w) n i small l)) (absent i l t);
+    fractions = λ i l t. vec-at (fraction w) n i small l ∙ ez i l t ∙ sym (vec-at (fraction v) (cnt keep n) (cnt keep i) few (cnt-lt keep i n t l));
+    absent = λ i l t. subst Zero (sym (vec-at (fraction w) n i small l)) (absent i l t);
     fit = vec-fits (fraction w) (λ i. ofBits-fits binary64 (w (4 + i))) n;
     fit' = vec-fits (fraction v) (λ i. ofBits-fits binary64 (v (4 + i))) (cnt keep n);
-    ratios = λ i l t. at-vec (ratio w) n i small l ∙ ek i l t ∙ sym (at-vec (ratio v) (cnt keep n) (cnt keep i) few (cnt-lt keep i n t l));
+    ratios = λ i l t. vec-at (ratio w) n i small l ∙ ek i l t ∙ sym (vec-at (ratio v) (cnt keep n) (cnt keep i) few (cnt-lt keep i n t l));
   }
 
   -- questions 11 to 21; a feed that passes has a solvent that is kept

@@ -26,6 +26,7 @@ use Rattle.striking.specs.Words.{ZeroWord, SameWord}
 use Rattle.striking.specs.Sheets.{SameHead, SameTrialBlock, SameSheet}
 use Rattle.striking.proofs.Strike.{cnt-lt}
 use Rattle.striking.proofs.Excess.{cnt-le}
+use Rattle.striking.proofs.Vectors.{new-below}
 use Rattle.striking.proofs.Words.{same-word}
 use Rattle.striking.proofs.Written.{Stands, first-of, last-of, inside, in-row, block-is}
 use Rattle.striking.proofs.Answers.{word-same, SameAnswer}
@@ -115,9 +116,6 @@ abbrev head : ℕ → Answer → ℕ → ℕ
 head task a = wordAt (answerWords task (a .outcome) (a .state) (a .liquid) (a .vapor) (a .model))
 
 module _ (keep : ℕ → Bool) (n : ℕ) (small : n ≤ 8) where
-  under : (i : ℕ) → i < n → T (keep i) → cnt keep i < 8
-  under i l t = le-trans (cnt-lt keep i n t l) (le-trans (cnt-le keep n) small)
-
   module _ (task : ℕ) (a b : Answer) (h : SameAnswer keep n a b) where
     -- words 0 to 13 and 30 to 63
     outside : (k : ℕ) → ((j : ℕ) → j < 8 → 14 + j ≡ k → ⊥) → ((j : ℕ) → j < 8 → 22 + j ≡ k → ⊥) → SameWord (head task a k) (head task b k)
@@ -133,14 +131,14 @@ module _ (keep : ℕ → Bool) (n : ℕ) (small : n ≤ 8) where
     head-same w w' e e' = record {
       front = λ k l. reads k k (omega arith) (omega arith) (outside k (λ j m q. omega arith) (λ j m q. omega arith));
       liquid = record {
-        entry = λ i l t. reads (14 + i) (14 + cnt keep i) (omega arith) (omega (arith, under i l t))
+        entry = λ i l t. reads (14 + i) (14 + cnt keep i) (omega arith) (omega (arith, new-below keep n small i l t))
             (subst (λ (x : ℕ). SameWord x (head task b (14 + cnt keep i))) (sym (answer-liquid task (a .outcome) (a .state) (a .liquid) (a .vapor) (a .model) i (omega arith)))
-            (subst (λ (x : ℕ). SameWord (bitsOf (at (a .liquid) i)) x) (sym (answer-liquid task (b .outcome) (b .state) (b .liquid) (b .vapor) (b .model) (cnt keep i) (under i l t))) (same-word (h .liquid i l t))));
+            (subst (λ (x : ℕ). SameWord (bitsOf (at (a .liquid) i)) x) (sym (answer-liquid task (b .outcome) (b .state) (b .liquid) (b .vapor) (b .model) (cnt keep i) (new-below keep n small i l t))) (same-word (h .liquid i l t))));
       };
       vapor = record {
-        entry = λ i l t. reads (22 + i) (22 + cnt keep i) (omega arith) (omega (arith, under i l t))
+        entry = λ i l t. reads (22 + i) (22 + cnt keep i) (omega arith) (omega (arith, new-below keep n small i l t))
             (subst (λ (x : ℕ). SameWord x (head task b (22 + cnt keep i))) (sym (answer-vapor task (a .outcome) (a .state) (a .liquid) (a .vapor) (a .model) i (omega arith)))
-            (subst (λ (x : ℕ). SameWord (bitsOf (at (a .vapor) i)) x) (sym (answer-vapor task (b .outcome) (b .state) (b .liquid) (b .vapor) (b .model) (cnt keep i) (under i l t))) (same-word (h .vapor i l t))));
+            (subst (λ (x : ℕ). SameWord (bitsOf (at (a .vapor) i)) x) (sym (answer-vapor task (b .outcome) (b .state) (b .liquid) (b .vapor) (b .model) (cnt keep i) (new-below keep n small i l t))) (same-word (h .vapor i l t))));
       };
       back = λ k l m. reads k k (omega arith) (omega arith) (outside k (λ j u q. omega arith) (λ j u q. omega arith));
     }
@@ -182,9 +180,9 @@ module _ (keep : ℕ → Bool) (n : ℕ) (small : n ≤ 8) (t t' : LiquidStabili
     component = ap (cnt keep) old ∙ h .component ∙ sym new;
     front = λ k l m. reads k k (omega arith) (omega arith) (beside k (λ (z : k ≡ 1). omega arith) (λ j u q. omega arith));
     fractions = record {
-      entry = λ i l q. reads (5 + i) (5 + cnt keep i) (omega arith) (omega (arith, under keep n small i l q))
+      entry = λ i l q. reads (5 + i) (5 + cnt keep i) (omega arith) (omega (arith, new-below keep n small i l q))
           (subst (λ (x : ℕ). SameWord x (wordAt (trialWords t') (5 + cnt keep i))) (sym (trial-fraction t i (omega arith)))
-          (subst (λ (x : ℕ). SameWord (bitsOf (at (t .composition) i)) x) (sym (trial-fraction t' (cnt keep i) (under keep n small i l q))) (same-word (h .composition .fraction i l q))));
+          (subst (λ (x : ℕ). SameWord (bitsOf (at (t .composition) i)) x) (sym (trial-fraction t' (cnt keep i) (new-below keep n small i l q))) (same-word (h .composition .fraction i l q))));
     };
     back = λ k l m. reads k k (omega arith) (omega arith) (beside k (λ (z : k ≡ 1). omega arith) (λ j u q. omega arith));
   }
@@ -193,7 +191,7 @@ module _ (keep : ℕ → Bool) (n : ℕ) (small : n ≤ 8) (t t' : LiquidStabili
       reads k k' l l' s = subst (λ (x : ℕ). SameWord x (w' k')) (sym (e k l)) (subst (λ (x : ℕ). SameWord (again (wordAt (trialWords t) k)) x) (sym (e' k' l')) (same-again s))
 
       fewer : t' .component < 8
-      fewer = subst (λ (x : ℕ). x < 8) (h .component) (under keep n small (t .component) (h .below) (h .kept))
+      fewer = subst (λ (x : ℕ). x < 8) (h .component) (new-below keep n small (t .component) (h .below) (h .kept))
 
       old : w 1 ≡ t .component
       old = e 1 (omega arith) ∙ ap again (trial-component t) ∙ word-bytes (t .component) (omega (arith, h .below))

@@ -14,7 +14,8 @@ use Rattle.floats.specs.Arithmetic.{_⊕_}
 use Rattle.floats.specs.Fold.{foldTo, sumFrom}
 use Rattle.striking.specs.Places.{tick, cnt}
 use Rattle.zeros.specs.Same.{plus0, _≈_}
-use Rattle.zeros.proofs.Congruence.{same, add-≈}
+use Rattle.zeros.proofs.Congruence.{same, add-≈, same-test}
+use Rattle.zeros.proofs.Numbers.{sum-fits, sum-plain}
 use Rattle.zeros.proofs.Zero.{Zero, Plain, plain-add, plain-≈, add-zero≡}
 use Rattle.zeros.specs.Below.{_⊑_, _⊑!_}
 use Rattle.zeros.proofs.Below.{⊑-refl, ⊑-add, ⊑-plain, gone-drop}
@@ -41,16 +42,6 @@ strike-fold {S} {S'} keep R f f' s s' (suc n) r kept struck =
 abbrev step : (ℕ → Float) → ℕ → Float → Float
 step f k a = a ⊕ f k
 
-pub sumFrom-fits : (a : Float) (f : ℕ → Float) (n : ℕ) → T (fits binary64 a) → T (fits binary64 (sumFrom a f n))
-unfolding foldTo
-sumFrom-fits a f zero h = h
-sumFrom-fits a f (suc n) h = add-fits binary64 (foldTo (step f) a n) (f n)
-
-pub sumFrom-plain : (a : Float) (f : ℕ → Float) (n : ℕ) → T (fits binary64 a) → Plain a → ((k : ℕ) → k < n → T (fits binary64 (f k))) → Plain (sumFrom a f n)
-unfolding foldTo
-sumFrom-plain a f zero h p q = p
-sumFrom-plain a f (suc n) h p q = plain-add binary64 (foldTo (step f) a n) (f n) (sumFrom-fits a f n h) (q n (omega arith)) (sumFrom-plain a f n h p (λ k l. q k (up-one l)))
-
 module _ (keep : ℕ → Bool) (f f' : ℕ → Float) (n : ℕ) (kept : (k : ℕ) → k < n → T (keep k) → f k ⊑ f' (cnt keep k)) (struck : (k : ℕ) → k < n → T (not (keep k)) → f k ⊑ plus0) where
   pub strike-from : (a a' : Float) → T (fits binary64 a) → a ⊑ a' → sumFrom a f n ⊑ sumFrom a' f' (cnt keep n)
   unfolding foldTo
@@ -63,7 +54,7 @@ module _ (keep : ℕ → Bool) (f f' : ℕ → Float) (n : ℕ) (kept : (k : ℕ
   pub strike-sum : ((k : ℕ) → T (fits binary64 (f k))) → ((k : ℕ) → T (fits binary64 (f' k))) → sumFrom plus0 f n ⊑! sumFrom plus0 f' (cnt keep n)
   strike-sum p q =
       let z : T (fits binary64 plus0) = unfold fits in tt in
-      ⊑-plain (sumFrom-fits plus0 f n z) (sumFrom-fits plus0 f' (cnt keep n) z) (sumFrom-plain plus0 f n z tt (λ k l. p k)) (sumFrom-plain plus0 f' (cnt keep n) z tt (λ k l. q k)) (strike-from plus0 plus0 z (⊑-refl plus0))
+      ⊑-plain (sum-fits plus0 f n z) (sum-fits plus0 f' (cnt keep n) z) (sum-plain plus0 f n z tt (λ k l. p k)) (sum-plain plus0 f' (cnt keep n) z tt (λ k l. q k)) (strike-from plus0 plus0 z (⊑-refl plus0))
 
 -- with struck terms that are zeros, and kept terms equal up to the sign of zero, the two sums are one value, NaN or not
 pub strike-sum≡ : (keep : ℕ → Bool) (f f' : ℕ → Float) (n : ℕ) → ((k : ℕ) → T (fits binary64 (f k))) → ((k : ℕ) → T (fits binary64 (f' k)))
@@ -132,12 +123,6 @@ place keep (suc n) i h = go (keep n) refl h (place keep n i)
     ]
 
 -- the order of kept indices is that of their places
-same-test : (a b : Bool) → (T a → T b) → (T b → T a) → a ≡ b
-same-test true true f g = refl
-same-test true false f g = absurd (f tt)
-same-test false true f g = absurd (g tt)
-same-test false false f g = refl
-
 pub cnt-lt-back : (keep : ℕ → Bool) (i k : ℕ) → T (keep i) → T (keep k) → cnt keep i < cnt keep k → i < k
 cnt-lt-back keep i k p q h = lt-of-not-le (λ (g : k ≤ i). not-le-of-lt h (cnt-mono keep k i g))
 

@@ -12,6 +12,7 @@ use Rattle.floats.specs.Arithmetic.{_⊘_, 0f}
 use Rattle.floats.specs.Fold.{sumTo}
 use Rattle.floats.specs.Vector.{at, vec, fill, zeros8}
 use Rattle.thermo_types.specs.Composition.{normalizeOf}
+use Rattle.floats.proofs.Fills.{vec-at}
 use Rattle.zeros.specs.Same.{_≈_}
 use Rattle.zeros.proofs.Congruence.{≈refl, div-≈}
 use Rattle.zeros.proofs.Zero.{Zero}
@@ -20,7 +21,7 @@ use Rattle.zeros.proofs.Below.{⊑-refl, gone, gone-div}
 use Rattle.striking.specs.Places.{cnt}
 use Rattle.striking.specs.Related.{Fractions}
 use Rattle.striking.proofs.Strike.{cnt-lt, strike-sum≡}
-use Rattle.striking.proofs.Excess.{at-vec, cnt-le}
+use Rattle.striking.proofs.Excess.{cnt-le}
 
 fits-set : (l : List Float) (k : ℕ) (v : Float) → ((i : ℕ) → T (fits binary64 (at l i))) → T (fits binary64 v) → (i : ℕ) → T (fits binary64 (at (set l k v) i))
 fits-set [] k v h p i = h i
@@ -43,8 +44,8 @@ vec-fits f h (suc n) i = fits-set (fill f n zeros8) n (f n) (vec-fits f h n) (h 
 
 pub vec-fractions : (keep : ℕ → Bool) (n : ℕ) (f f' : ℕ → Float) → n ≤ 8 → Fractions keep n f f' → Fractions keep n (at (vec f n)) (at (vec f' (cnt keep n)))
 vec-fractions keep n f f' m h = record {
-  absent = λ i l q. subst (λ (x : Float). x ⊑ 0f) (sym (at-vec f n i m l)) (h .absent i l q);
-  fraction = λ i l q. subst (λ (x : Float). x ≈ at (vec f' (cnt keep n)) (cnt keep i)) (sym (at-vec f n i m l)) (subst (λ (x : Float). f i ≈ x) (sym (at-vec f' (cnt keep n) (cnt keep i) (le-trans (cnt-le keep n) m) (cnt-lt keep i n q l))) (h .fraction i l q));
+  absent = λ i l q. subst (λ (x : Float). x ⊑ 0f) (sym (vec-at f n i m l)) (h .absent i l q);
+  fraction = λ i l q. subst (λ (x : Float). x ≈ at (vec f' (cnt keep n)) (cnt keep i)) (sym (vec-at f n i m l)) (subst (λ (x : Float). f i ≈ x) (sym (vec-at f' (cnt keep n) (cnt keep i) (le-trans (cnt-le keep n) m) (cnt-lt keep i n q l))) (h .fraction i l q));
   fit = vec-fits f (h .fit) n;
   fit' = vec-fits f' (h .fit') (cnt keep n);
 }
@@ -52,14 +53,14 @@ vec-fractions keep n f f' m h = record {
 -- kept entries stand in arrays as they stand in what the arrays are made from
 pub vec-kept : (keep : ℕ → Bool) (n : ℕ) (R : Float → Float → Type 0) (f f' : ℕ → Float) → n ≤ 8 → ((i : ℕ) → i < n → T (keep i) → R (f i) (f' (cnt keep i)))
     → (i : ℕ) → i < n → T (keep i) → R (at (vec f n) i) (at (vec f' (cnt keep n)) (cnt keep i))
-vec-kept keep n R f f' m h i l q = subst (λ (x : Float). R x (at (vec f' (cnt keep n)) (cnt keep i))) (sym (at-vec f n i m l)) (subst (λ (x : Float). R (f i) x) (sym (at-vec f' (cnt keep n) (cnt keep i) (le-trans (cnt-le keep n) m) (cnt-lt keep i n q l))) (h i l q))
+vec-kept keep n R f f' m h i l q = subst (λ (x : Float). R x (at (vec f' (cnt keep n)) (cnt keep i))) (sym (vec-at f n i m l)) (subst (λ (x : Float). R (f i) x) (sym (vec-at f' (cnt keep n) (cnt keep i) (le-trans (cnt-le keep n) m) (cnt-lt keep i n q l))) (h i l q))
 
 -- ---- zeros
 pub zeros-at : (i : ℕ) → i < 8 → at zeros8 i ≡ 0f
 zeros-at i l = getD-replicate 8 i 0f nan l
 
 module _ (keep : ℕ → Bool) (n : ℕ) (small : n ≤ 8) where
-  new-below : (i : ℕ) → i < n → T (keep i) → cnt keep i < 8
+  pub new-below : (i : ℕ) → i < n → T (keep i) → cnt keep i < 8
   new-below i l q = le-trans (cnt-lt keep i n q l) (le-trans (cnt-le keep n) small)
 
   pub zeros-kept : (i : ℕ) → i < n → T (keep i) → at zeros8 i ≈ at zeros8 (cnt keep i)

@@ -253,7 +253,7 @@ zero-or : (n : ℕ) → (n ≡ 0) ⊎ (0 < n)
 zero-or zero = inl refl
 zero-or (suc n) = inr (zero-lt-suc n)
 
-same-test : (a b : Bool) → (T a → T b) → (T b → T a) → a ≡ b
+pub same-test : (a b : Bool) → (T a → T b) → (T b → T a) → a ≡ b
 same-test true true f g = refl
 same-test true false f g = absurd (f tt)
 same-test false true f g = absurd (g tt)

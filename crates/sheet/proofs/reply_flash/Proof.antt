@@ -8,7 +8,7 @@ use lib.ListN.{length}
 use Rattle.floats.specs.Vector.{places}
 use Rattle.sheet.specs.Steps.{from7}
 use Rattle.sheet.proofs.Replies.{flash-sized, flash-says}
-use Rattle.sheet.proofs.Counts.{flash-few}
+use Rattle.tp_flash.proofs.Counts.{flash-few}
 use Rattle.sheet.proofs.Laws.{Behind, entry, behind-none, behind-turn}
 use Rattle.sheet.proofs.reply_flash.Statement.{statement}
 use Rattle.sheet.proofs.reply_flash.Tie as tie

@@ -9,7 +9,7 @@ use Rattle.floats.specs.Vector.{places}
 use Rattle.thermo_models.proofs.Answers.{tabled-fresh}
 use Rattle.sheet.specs.Steps.{from6}
 use Rattle.sheet.proofs.Replies.{stability-sized, stability-says}
-use Rattle.sheet.proofs.Counts.{stability-few}
+use Rattle.liquid_stability.proofs.Counts.{stability-few}
 use Rattle.sheet.proofs.Laws.{Behind, entry, behind-none, behind-turn}
 use Rattle.sheet.proofs.reply_stability.Statement.{statement}
 use Rattle.sheet.proofs.reply_stability.Tie as tie
