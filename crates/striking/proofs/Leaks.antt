@@ -185,7 +185,7 @@ split-leaks law =
     subst (λ (c : ℕ). T (eqb c 2))
     (law keep 4 (omega arith) dilute ideal same-model pressures pressures' same-pressures 1f feed feed' fractions same-feed 1f 2 0 zeros8 zeros8 ln-zero .says .iterations) tt
 
--- The gap itself may be taken over all solvents: at an absent one ln y - ln x is a NaN, which the largest passes over
+-- ---- no leak: the gap itself over all solvents. At an absent one ln y - ln x is a NaN, which the largest passes over
 -- a NaN or -infinity
 abbrev Low : Float → Type 0
 Low nan = Unit {0}
