@@ -16,7 +16,6 @@ use Rattle.floats.proofs.Folds.{all-cong}
 use Rattle.floats.proofs.Fills.{fillFrom-length, fillFrom-at, fillFrom-before, fill-cong}
 use Rattle.floats.proofs.Outcomes.{need-yes, need-no}
 use Rattle.jet.specs.declared.Jet.{Jet}
-use Rattle.jet.specs.Jets.{twoJ}
 use Rattle.jet.proofs.Sums.{sumJet-cong}
 use Rattle.nrtl.specs.declared.Energies.{Energies}
 use Rattle.nrtl.specs.Columns.{lnFrom}

@@ -6,7 +6,7 @@ use mathlib.Core.List.{List}
 use native.Mathlib.Numerals.{add-one}
 use native.Mathlib.Omega.{arith}
 use borrow.Author.Tests.{not-true, not-false}
-use lib.Ieee.{Float, nan, neg, lt, le, eq}
+use lib.Ieee.{Float, neg, lt, le, eq}
 use Rattle.floats.specs.Arithmetic.{_⊕_, _⊖_, _⊗_, _⊘_, 0f, 1f}
 use Rattle.floats.specs.Small.{isFinite, absOf}
 use Rattle.floats.specs.Fold.{foldTo, sumTo, active}

@@ -1,6 +1,6 @@
 -- Turns of the loops, and the ways through the steps of the code. Assumes nothing.
 use Prim.Native.Nat.{ℕ, suc, _+_, _-_, _<_, _≤_}
-use mathlib.Core.Path.{_≡_, refl, _∙_, ap, sym}
+use mathlib.Core.Path.{_≡_, _∙_, ap, sym}
 use mathlib.Core.Bool.{Bool, true, false, not, cond, _&&_}
 use mathlib.Core.List.{List}
 use native.Mathlib.Omega.{arith}
@@ -19,7 +19,7 @@ use Rattle.thermo_types.specs.declared.Verdict.{Verdict}
 use Rattle.thermo_types.specs.declared.Verdict.the-variants.{Passed, Refused}
 use Rattle.thermo_models.specs.Model.{Activity, Model, Liquids, ActivityIs, PuresAre, pressureInDomain}
 use Rattle.thermo_models.proofs.Answers.{activity-passed, activity-refused, pures-passed, pures-refused}
-use Rattle.saturation.specs.Saturation.{Dew, Saturation, partialOf, partialSum, bubbleFrom, gapOf, residualWith, dewTerm, dewPressure, dewLiquid, changeOf, bubbleAt, residual, dewTurn, dewPoint, dewLoop, dewAt, bubblePressure, dewPressurePoint}
+use Rattle.saturation.specs.Saturation.{Dew, partialOf, partialSum, bubbleFrom, gapOf, residualWith, dewTerm, dewPressure, dewLiquid, changeOf, bubbleAt, residual, dewTurn, dewPoint, dewLoop, dewAt, bubblePressure, dewPressurePoint}
 use Rattle.saturation.specs.Answers.{bubbleAnswer, residualAnswer, dewAnswer, saturationAnswer}
 use Rattle.saturation.specs.Steps.{Incipient, noTurn, turnAnswer, bubbleTask, dewChecked}
 use Rattle.saturation.specs.declared.BubblePoint.{BubblePoint}

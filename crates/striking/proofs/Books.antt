@@ -12,9 +12,8 @@ use lib.Dec.{T, eqb, ltb, leb, ltb→lt, nltb→le}
 use lib.Ieee.Bits.{is-true}
 use Rattle.blocks.specs.Words.{checkRight}
 use Rattle.floats.specs.Fold.{allTo}
-use Rattle.floats.specs.Small.{isFinite, floatOf}
 use Rattle.floats.specs.Outcome.{ok}
-use Rattle.floats.proofs.Folds.{all-at, all-cong}
+use Rattle.floats.proofs.Folds.{all-at}
 use Rattle.floats.proofs.Outcomes.{need-yes}
 use Rattle.book.specs.Places.{words, pairCount, blockCount, rowFrom, pairPlace}
 use Rattle.book.specs.Book.{floatsFinite, headRight, solventRight, rangeRight, termCount, recordRight, recordsRight, casNew, pairRight, rowRight, boundsFinite, pairFinite, alphasEqual, pairsOf, solventsOf, headOf, bookOf}

@@ -11,7 +11,7 @@ use lib.Ieee.Scale.{finite}
 use Rattle.floats.specs.Arithmetic.{_⊖_, _⊗_, 0f, 1f, 2f}
 use Rattle.floats.specs.Small.{isFinite, absOf}
 use Rattle.floats.specs.Fold.{sumTo, allTo}
-use Rattle.floats.specs.Vector.{at, vec, zeros8}
+use Rattle.floats.specs.Vector.{at, vec}
 use Rattle.floats.specs.Outcome.{Out}
 use Rattle.floats.proofs.Fills.{vec-at}
 use Rattle.thermo_types.specs.Composition.{tolerance, sumsToOne, withFractions}

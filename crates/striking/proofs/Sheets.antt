@@ -24,8 +24,6 @@ use Rattle.striking.specs.Places.{cnt}
 use Rattle.striking.specs.Results.{SameTrial}
 use Rattle.striking.specs.Words.{ZeroWord, SameWord}
 use Rattle.striking.specs.Sheets.{SameHead, SameTrialBlock, SameSheet}
-use Rattle.striking.proofs.Strike.{cnt-lt}
-use Rattle.striking.proofs.Excess.{cnt-le}
 use Rattle.striking.proofs.Vectors.{new-below}
 use Rattle.striking.proofs.Words.{same-word}
 use Rattle.striking.proofs.Written.{Stands, first-of, last-of, inside, in-row, block-is}
