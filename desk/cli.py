@@ -1,0 +1,65 @@
+"""Running a command: exit status 0 for an answer, 1 for a refusal of the core, 2 for bad usage, each complaint in one line."""
+
+import argparse
+import os
+import sys
+from typing import Callable, Dict, List, Optional
+
+from . import commands, tasks
+from .arguments import joined_negatives, parser
+from .errors import DeskError
+
+ANSWERED, REFUSED, BAD_USAGE, INTERRUPTED = 0, 1, 2, 130
+
+
+def main(argv: Optional[List[str]] = None) -> int:
+    for stream in (sys.stdout, sys.stderr):
+        stream.reconfigure(encoding="utf-8", errors="backslashreplace")
+    try:
+        status = run(sys.argv[1:] if argv is None else argv)
+        sys.stdout.flush()
+        return status
+    except DeskError as error:
+        return complain(str(error))
+    except KeyboardInterrupt:
+        return INTERRUPTED
+    except OSError as error:
+        _close_output()
+        return complain(f"{error.strerror or error}")
+    except Exception as error:  # a fault of this tool: still one line
+        return complain(f"internal error, {type(error).__name__}: {error}")
+
+
+def run(argv: List[str]) -> int:
+    arguments = parsed(argv)
+    handler = _HANDLERS.get(arguments.command, commands.ask)
+    return handler(arguments)
+
+
+def parsed(argv: List[str]) -> argparse.Namespace:
+    """`strike COMMAND ...` is `COMMAND ... --strike`."""
+    argv = joined_negatives(argv)
+    if len(argv) > 1 and argv[0] == "strike" and argv[1] in tasks.BY_COMMAND:
+        argv = argv[1:] + ["--strike"]
+    return parser().parse_args(argv)
+
+
+def complain(message: str) -> int:
+    one_line = " ".join(message.split())
+    print(f"sheet: {one_line}", file=sys.stderr)
+    return BAD_USAGE
+
+
+def _close_output() -> None:
+    """What can't be written any more is dropped, so that nothing is said a second time at exit."""
+    os.dup2(os.open(os.devnull, os.O_WRONLY), sys.stdout.fileno())
+
+
+_HANDLERS: Dict[str, Callable[[argparse.Namespace], int]] = {
+    "diagram": commands.draw,
+    "book": commands.make_book,
+    "show": commands.show,
+    "check-yard": commands.check_yard,
+    "refusals": commands.explain,
+    "demo": commands.demo,
+}

@@ -1,0 +1,60 @@
+"""The question block (document 01, "The question")."""
+
+from dataclasses import dataclass, field
+from typing import Optional, Tuple
+
+from .blocks import CHECK, Words, bits_of, put_floats, sealed
+from .book import MOST_SOLVENTS
+from .tasks import Task
+
+KIND = 8
+TASK, TEMPERATURE, PRESSURE, FRACTIONS, MAX_ITERATIONS, TOLERANCE, MAX_TEMPERATURE_ITERATIONS = 1, 2, 3, 4, 12, 13, 14
+ENERGY_TOLERANCE, TM_THRESHOLD, BRACKET, K_VALUES = 15, 16, 17, 19
+
+
+@dataclass(frozen=True)
+class Options:
+    """Limits and tolerances; the defaults are the Rust's."""
+
+    max_iterations: int = 500
+    tolerance: float = 1e-13
+    max_temperature_iterations: int = 200
+    energy_tolerance: float = 1e-10
+    tm_threshold: float = -1e-8
+    bracket: Tuple[float, float] = (273.16, 450.0)  # K
+
+
+@dataclass(frozen=True)
+class Question:
+    """Fractions and K stand in the book's order. What a task doesn't take is None, and +0 in its word."""
+
+    task: Task
+    fractions: Tuple[float, ...]
+    temperature: Optional[float] = None  # K
+    pressure: Optional[float] = None  # Pa
+    k_values: Optional[Tuple[float, ...]] = None
+    options: Options = field(default_factory=Options)
+
+    def words(self) -> Words:
+        words = [0] * CHECK
+        words[:2] = [KIND, self.task.number]
+        words[TEMPERATURE] = bits_of(self.temperature or 0.0)
+        words[PRESSURE] = bits_of(self.pressure or 0.0)
+        put_floats(words, FRACTIONS, _eight(self.fractions))
+        put_floats(words, K_VALUES, _eight(self.k_values or ()))
+        self._put_options(words)
+        return words
+
+    def _put_options(self, words: Words) -> None:
+        options = self.options
+        words[MAX_ITERATIONS] = options.max_iterations
+        words[MAX_TEMPERATURE_ITERATIONS] = options.max_temperature_iterations
+        put_floats(words, TOLERANCE, (options.tolerance,))
+        put_floats(words, ENERGY_TOLERANCE, (options.energy_tolerance, options.tm_threshold) + options.bracket)
+
+    def block(self) -> bytes:
+        return sealed(self.words())
+
+
+def _eight(values: Tuple[float, ...]) -> Tuple[float, ...]:
+    return values + (0.0,) * (MOST_SOLVENTS - len(values))

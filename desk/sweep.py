@@ -1,0 +1,152 @@
+"""Sweeps over the composition of a pair: bubble and dew curves, where the liquid splits, and azeotropes. Every point is an answer of the core."""
+
+import math
+from dataclasses import dataclass, field
+from typing import Callable, List, Optional, Tuple
+
+from . import answer, tasks
+from .core import Core
+from .errors import DeskError
+from .progress import Progress
+from .question import Options, Question
+from .refusals import line
+from .sheet import NamedBook
+
+NEAR_PURE = 1e-6  # an azeotrope nearer to a pure solvent isn't looked for
+SEARCH_STEPS = 60
+CLOSE = 1e-10  # width of x at which the search ends
+
+
+@dataclass(frozen=True)
+class Setting:
+    """Two places in a book, and the temperature (K) or the pressure (Pa) that is held."""
+
+    book: NamedBook
+    first: int
+    second: int
+    temperature: Optional[float] = None
+    pressure: Optional[float] = None
+    options: Options = field(default_factory=Options)
+
+    @property
+    def names(self) -> Tuple[str, str]:
+        return self.book.names[self.first], self.book.names[self.second]
+
+    def fractions(self, x: float) -> Tuple[float, ...]:
+        """x of the first solvent, the rest of the second, nothing else."""
+        values = [0.0] * len(self.book.names)
+        values[self.first], values[self.second] = x, 1.0 - x
+        return tuple(values)
+
+
+@dataclass(frozen=True)
+class Point:
+    """Liquid and vapor in equilibrium, by the first solvent's mole fractions."""
+
+    x: float
+    y: float
+    temperature: float
+    pressure: float
+
+
+@dataclass
+class Curves:
+    bubble: List[Optional[Point]]
+    dew: List[Optional[Point]]
+    splits: List[Tuple[float, float]]  # ranges of x in which the liquid fails its trials
+    azeotropes: List[Point]
+    refused: List[int]  # numbers of the points that are missing
+
+
+class Sweep:
+    def __init__(self, core: Core, setting: Setting):
+        self.core, self.setting = core, setting
+        self.refused: List[int] = []
+
+    def _ask(self, task: tasks.Task, x: float, temperature: Optional[float], pressure: Optional[float]) -> answer.Blocks:
+        question = Question(task, self.setting.fractions(x), temperature, pressure, options=self.setting.options)
+        return self.core.ask(question)
+
+    def saturation(self, at_temperature: tasks.Task, at_pressure: tasks.Task, x: float) -> Optional[Point]:
+        setting = self.setting
+        task = at_temperature if setting.temperature is not None else at_pressure
+        blocks = self._ask(task, x, setting.temperature, setting.pressure)
+        if blocks.refusal:
+            self.refused.append(blocks.refusal)
+            return None
+        liquid, vapor = blocks.real(answer.LIQUID + setting.first), blocks.real(answer.VAPOR + setting.first)
+        return Point(liquid, vapor, blocks.real(answer.T), blocks.real(answer.P))
+
+    def bubble(self, x: float) -> Optional[Point]:
+        return self.saturation(tasks.BUBBLE_PRESSURE, tasks.BUBBLE_TEMPERATURE, x)
+
+    def dew(self, y: float) -> Optional[Point]:
+        return self.saturation(tasks.DEW_PRESSURE, tasks.DEW_TEMPERATURE, y)
+
+    def is_stable(self, point: Optional[Point]) -> bool:
+        """The trials of the liquid at its bubble point; where there is no answer nothing is said against it."""
+        if point is None or not 0 < point.x < 1:
+            return True
+        blocks = self._ask(tasks.STABILITY, point.x, point.temperature, None)
+        return bool(blocks.refusal or blocks.head[answer.STABLE])
+
+
+def curves(core: Core, setting: Setting, points: int, with_dew: bool = True) -> Curves:
+    sweep = Sweep(core, setting)
+    grid = [k / (points - 1) for k in range(points)]
+    progress = Progress(f"{setting.names[0]} and {setting.names[1]}", points * (2 + with_dew))
+
+    def stepped(ask: Callable, values: List) -> List:
+        found = []
+        for value in values:
+            found.append(ask(value))
+            progress.step()
+        return found
+
+    bubble = stepped(sweep.bubble, grid)
+    dew = stepped(sweep.dew, grid) if with_dew else []
+    stable = stepped(sweep.is_stable, bubble)
+    progress.finish()
+    if not any(bubble):
+        raise DeskError(f"no point of the bubble curve has an answer; the first was {line(sweep.refused[0])}")
+    refused = list(sweep.refused)
+    return Curves(bubble, dew, _ranges(grid, stable), azeotropes(sweep, bubble), refused)
+
+
+def _ranges(grid: List[float], stable: List[bool]) -> List[Tuple[float, float]]:
+    """Runs of points that are not stable."""
+    ranges: List[Tuple[float, float]] = []
+    for k, ok in enumerate(stable):
+        if ok:
+            continue
+        if k and not stable[k - 1]:
+            ranges[-1] = (ranges[-1][0], grid[k])
+        else:
+            ranges.append((grid[k], grid[k]))
+    return ranges
+
+
+def volatility(point: Point) -> float:
+    """ln of the relative volatility (y1/x1)/(y2/x2), whose sign changes at an azeotrope."""
+    inside = 0 < point.x < 1 and 0 < point.y < 1
+    return math.log(point.y / point.x) - math.log((1 - point.y) / (1 - point.x)) if inside else 0.0
+
+
+def azeotropes(sweep: Sweep, bubble: List[Optional[Point]]) -> List[Point]:
+    """Every sign change between neighbouring points, narrowed by bisection."""
+    inner = [point for point in bubble if point and 0 < point.x < 1]
+    ends = [sweep.bubble(NEAR_PURE), sweep.bubble(1 - NEAR_PURE)]
+    points = sorted([point for point in ends if point] + inner, key=lambda point: point.x)
+    return [_narrowed(sweep, a, b) for a, b in zip(points, points[1:]) if volatility(a) * volatility(b) < 0]
+
+
+def _narrowed(sweep: Sweep, low: Point, high: Point) -> Point:
+    for _ in range(SEARCH_STEPS):
+        middle = sweep.bubble((low.x + high.x) / 2)
+        if middle is None or high.x - low.x <= CLOSE:
+            break
+        if volatility(middle) * volatility(low) > 0:
+            low = middle
+        else:
+            high = middle
+    return low if abs(volatility(low)) < abs(volatility(high)) else high
