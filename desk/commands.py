@@ -97,7 +97,7 @@ def _findings(found):
     for low, high in found.splits:
         yield f"the liquid fails its trials from x = {low:.4g} to {high:.4g}: the curves there are those of one liquid that isn't stable"
     for number in sorted(set(found.refused)):
-        yield f"{found.refused.count(number)} points missing: {refusals.line(number)}"
+        yield f"points missing: {found.refused.count(number)}, {refusals.line(number)}"
 
 
 def _setting(arguments: argparse.Namespace) -> Setting:

@@ -13,6 +13,7 @@ LEFT, RIGHT, TOP, BOTTOM = 84, 24, 56, 130
 BUBBLE_COLOR, DEW_COLOR, GUIDE_COLOR, SPLIT_COLOR, GRID_COLOR = "#1f4e9e", "#c0392b", "#888888", "#f3e3c3", "#e2e2e2"
 MARGIN = 0.06  # of the range, above and below the curves
 
+KINDS = {"txy": "T-x-y", "pxy": "p-x-y"}
 TEMPERATURE_UNITS = {"K": lambda kelvin: kelvin, "C": units.celsius}
 PRESSURE_UNITS = {unit: (lambda pascals, unit=unit: units.in_unit(pascals, unit)) for unit in units.PRESSURE_UNITS}
 
@@ -126,7 +127,7 @@ def saturation(kind: str, setting: Setting, curves: Curves, unit: str) -> str:
     bubble = [(point.x, value(point)) if point else None for point in curves.bubble]
     dew = [(point.y, value(point)) if point else None for point in curves.dew]
     upward = axis_around(height for _, height in filter(None, bubble + dew))
-    canvas = Canvas(f"{kind[0].upper()}-x-y of {first} and {second} at {held(setting)}", UNIT_AXIS, f"mole fraction of {first}", upward, quantity)
+    canvas = Canvas(f"{KINDS[kind]} of {first} and {second} at {held(setting)}", UNIT_AXIS, f"mole fraction of {first}", upward, quantity)
     _bands(canvas, curves)
     canvas.frame()
     canvas.curve(bubble, BUBBLE_COLOR)
