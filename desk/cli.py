@@ -9,7 +9,7 @@ from . import commands, tasks
 from .arguments import joined_negatives, parser
 from .errors import DeskError
 
-ANSWERED, REFUSED, BAD_USAGE, INTERRUPTED = 0, 1, 2, 130
+BAD_USAGE, INTERRUPTED = DeskError.status, 130
 
 
 def main(argv: Optional[List[str]] = None) -> int:
@@ -20,7 +20,7 @@ def main(argv: Optional[List[str]] = None) -> int:
         sys.stdout.flush()
         return status
     except DeskError as error:
-        return complain(str(error))
+        return complain(str(error), error.status)
     except KeyboardInterrupt:
         return INTERRUPTED
     except OSError as error:
@@ -44,10 +44,10 @@ def parsed(argv: List[str]) -> argparse.Namespace:
     return parser().parse_args(argv)
 
 
-def complain(message: str) -> int:
+def complain(message: str, status: int = BAD_USAGE) -> int:
     one_line = " ".join(message.split())
     print(f"sheet: {one_line}", file=sys.stderr)
-    return BAD_USAGE
+    return status
 
 
 def _close_output() -> None:

@@ -29,7 +29,7 @@ def ask(arguments: argparse.Namespace) -> int:
     book = open_book(arguments.book, arguments.names)
     question = _question(arguments, book)
     with core.Core(book.content, arguments.program) as program:
-        sheet = Sheet(book, question, program.ask(question), arguments.label)
+        sheet = Sheet(book, question, program.ask(question), " ".join(arguments.label.split()))
     if arguments.strike:
         return _strike(arguments, sheet)
     sys.stdout.write((jsonsheet if arguments.json else report).render(sheet))
@@ -53,7 +53,7 @@ def _ended(sheet: Sheet) -> int:
     number = sheet.blocks.refusal
     if number:
         sys.stdout.flush()
-        print(f"sheet: {refusals.line(number)}", file=sys.stderr)
+        print(f"sheet: {refusals.line(number)}{sheet.detail()}", file=sys.stderr)
     return status_of(number)
 
 
@@ -72,6 +72,7 @@ def _strike(arguments: argparse.Namespace, sheet: Sheet) -> int:
 
 def draw(arguments: argparse.Namespace) -> int:
     setting = _setting(arguments)
+    files.expect_writable(arguments.output)
     unit = _axis_unit(arguments.kind, arguments.unit)
     points = units.whole(arguments.points, "--points")
     if not 3 <= points <= MOST_POINTS:

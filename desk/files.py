@@ -23,9 +23,7 @@ def read(path: str) -> bytes:
 
 def write_whole(path: str, content: bytes) -> None:
     """Through a temporary file in the same folder, which then takes the name."""
-    target = Path(os.path.realpath(path))
-    if target.exists() and not stat.S_ISREG(target.stat().st_mode):
-        raise DeskError(f"{path} is there and is not a plain file")
+    target = expect_writable(path)
     temporary = None
     try:
         handle, temporary = tempfile.mkstemp(dir=target.parent, prefix=f".{target.name}.")
@@ -39,6 +37,18 @@ def write_whole(path: str, content: bytes) -> None:
         if temporary and os.path.exists(temporary):
             os.unlink(temporary)
         raise DeskError(f"{path} can't be written: {error.strerror}") from None
+
+
+def expect_writable(path: str) -> Path:
+    """The file behind a name, if it can be written as far as that is known beforehand."""
+    target = Path(os.path.realpath(path))
+    if target.exists() and not stat.S_ISREG(target.stat().st_mode):
+        raise DeskError(f"{path} is there and is not a plain file")
+    if not target.parent.is_dir():
+        raise DeskError(f"{path} can't be written: there is no folder {target.parent}")
+    if not os.access(target.parent, os.W_OK) or target.exists() and not os.access(target, os.W_OK):
+        raise DeskError(f"{path} can't be written: permission denied")
+    return target
 
 
 def _mode(target: Path) -> int:

@@ -6,7 +6,7 @@ from typing import Any, Callable, Dict, Optional, Tuple
 from . import core, files, units
 from .blocks import BLOCK
 from .book import cas_numbers, decode, encode
-from .errors import DeskError
+from .errors import DeskError, quoted
 from .sheet import NamedBook
 from .yard import Yard
 from .yardtext import parse
@@ -75,7 +75,7 @@ def place_of(book: NamedBook, wanted: str) -> int:
     cas = _as_cas(wanted)
     if cas in book.cas:
         return book.cas.index(cas)
-    raise DeskError(f"'{wanted}' is no solvent of {book.file}, which has {', '.join(book.names)}")
+    raise DeskError(f"{quoted(wanted)} is no solvent of {book.file}, which has {', '.join(book.names)}")
 
 
 def _as_cas(text: str) -> Optional[int]:
@@ -91,7 +91,7 @@ def amounts(book: NamedBook, text: str, option: str) -> Dict[int, float]:
     for part in text.split(","):
         name, equals, value = part.partition("=")
         if not equals or not name.strip():
-            raise DeskError(f"{option}: '{part.strip()}' is not NAME=NUMBER")
+            raise DeskError(f"{option}: {quoted(part)} is not NAME=NUMBER")
         place = place_of(book, name.strip())
         if place in found:
             raise DeskError(f"{option}: {book.names[place]} stands there twice")

@@ -38,10 +38,10 @@ class Question:
     def words(self) -> Words:
         words = [0] * CHECK
         words[:2] = [KIND, self.task.number]
-        words[TEMPERATURE] = bits_of(self.temperature or 0.0)
-        words[PRESSURE] = bits_of(self.pressure or 0.0)
-        put_floats(words, FRACTIONS, _eight(self.fractions))
-        put_floats(words, K_VALUES, _eight(self.k_values or ()))
+        for at, value in ((TEMPERATURE, self.temperature), (PRESSURE, self.pressure)):
+            words[at] = 0 if value is None else bits_of(value)
+        put_floats(words, FRACTIONS, eight(self.fractions))
+        put_floats(words, K_VALUES, eight(self.k_values or ()))
         self._put_options(words)
         return words
 
@@ -56,5 +56,6 @@ class Question:
         return sealed(self.words())
 
 
-def _eight(values: Tuple[float, ...]) -> Tuple[float, ...]:
+def eight(values: Tuple[float, ...]) -> Tuple[float, ...]:
+    """+0 past the solvents of the book."""
     return values + (0.0,) * (MOST_SOLVENTS - len(values))

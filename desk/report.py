@@ -50,7 +50,7 @@ def _listed(sheet: Sheet, values) -> str:
 
 def _refusal(sheet: Sheet) -> Lines:
     number = sheet.blocks.refusal
-    return [f"REFUSED, number {number}"] + text.wrapped(refusals.matter(number) + ".") + text.wrapped("What to do: " + refusals.advice(number) + ".")
+    return [f"REFUSED, number {number}"] + text.wrapped(refusals.matter(number) + sheet.detail() + ".") + text.wrapped("What to do: " + refusals.advice(number) + ".")
 
 
 def _answer(sheet: Sheet) -> Lines:

@@ -2,7 +2,7 @@
 
 from typing import List, Optional, Tuple
 
-from .errors import DeskError
+from .errors import DeskError, quoted
 
 HEADINGS = {"solvent": 2, "pair": 3}  # words of a heading
 
@@ -50,7 +50,7 @@ def sections_of(text: str) -> List[Section]:
         if content.startswith("["):
             sections.append(_heading(content, line))
         elif not sections:
-            raise DeskError(f"line {line}: '{content}' stands before the first heading, [solvent NAME]")
+            raise DeskError(f"line {line}: {quoted(content)} stands before the first heading, [solvent NAME]")
         else:
             sections[-1].entries.append(_entry(content, line))
     return sections
@@ -60,11 +60,11 @@ def _heading(content: str, line: int) -> Section:
     words = content[1:-1].split() if content.endswith("]") else []
     if len(words) == HEADINGS.get(words[0] if words else ""):
         return Section(words, line)
-    raise DeskError(f"line {line}: '{content}' is neither [solvent NAME] nor [pair NAME NAME]")
+    raise DeskError(f"line {line}: {quoted(content)} is neither [solvent NAME] nor [pair NAME NAME]")
 
 
 def _entry(content: str, line: int) -> Tuple[str, str, int]:
     key, equals, value = content.partition("=")
     if not equals or not key.strip() or not value.strip():
-        raise DeskError(f"line {line}: '{content}' is not 'key = value'")
+        raise DeskError(f"line {line}: {quoted(content)} is not 'key = value'")
     return " ".join(key.lower().split()), value.strip(), line

@@ -7,6 +7,8 @@ from .answer import Blocks
 from .blocks import floats_at
 from .question import Question
 
+FRACTIONS_DO_NOT_SUM, SUM_TOLERANCE = 18, 1e-10
+
 
 @dataclass(frozen=True)
 class NamedBook:
@@ -31,6 +33,13 @@ class Sheet:
 
     def absent(self) -> List[int]:
         return [place for place, fraction in enumerate(self.question.fractions) if fraction == 0]
+
+    def detail(self) -> str:
+        """What the feed itself shows about a refusal."""
+        total = sum(self.question.fractions)
+        if self.blocks.refusal == FRACTIONS_DO_NOT_SUM and not abs(total - 1) <= SUM_TOLERANCE:
+            return f" (as given they sum to {total!r})"
+        return ""
 
     def entries(self, at: int) -> List[float]:
         """One float for each solvent of the book, from word `at` of the answer block."""

@@ -6,7 +6,7 @@ from typing import Callable, List, Optional, Tuple
 
 from . import answer, tasks
 from .core import Core
-from .errors import DeskError
+from .errors import CoreRefusal
 from .progress import Progress
 from .question import Options, Question
 from .refusals import line
@@ -108,7 +108,7 @@ def curves(core: Core, setting: Setting, points: int, with_dew: bool = True) -> 
     stable = stepped(sweep.is_stable, bubble)
     progress.finish()
     if not any(bubble):
-        raise DeskError(f"no point of the bubble curve has an answer; the first was {line(sweep.refused[0])}")
+        raise CoreRefusal(f"no point of the bubble curve has an answer; the first was {line(sweep.refused[0])}")
     refused = list(sweep.refused)
     return Curves(bubble, dew, _ranges(grid, stable), azeotropes(sweep, bubble), refused)
 

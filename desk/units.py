@@ -5,7 +5,7 @@ from decimal import Decimal
 from fractions import Fraction
 from typing import Dict
 
-from .errors import DeskError
+from .errors import DeskError, quoted
 
 CELSIUS_ZERO = Fraction("273.15")
 # Pa; the conventional millimetre of mercury
@@ -28,14 +28,14 @@ def number(text: str, what: str) -> float:
     """A finite float from a decimal number; -0 keeps its sign."""
     match = re.fullmatch(_NUMBER, text.strip(), re.ASCII)
     if not match:
-        raise DeskError(f"{what}: '{text.strip()}' is not a number")
+        raise DeskError(f"{what}: {quoted(text)} is not a number")
     return _finite(float(text), text, what)
 
 
 def whole(text: str, what: str) -> int:
     text = text.strip()
     if not _DIGITS.fullmatch(text) or int(text) >= 2**64:
-        raise DeskError(f"{what}: '{text}' is not a whole number from 0 to 2^64 - 1")
+        raise DeskError(f"{what}: {quoted(text)} is not a whole number from 0 to 2^64 - 1")
     return int(text)
 
 
@@ -46,7 +46,7 @@ def temperature(text: str, what: str = "temperature") -> float:
         return _finite(float(value), text, what)
     if unit in CELSIUS_UNITS:
         return _rounded(Fraction(value) + CELSIUS_ZERO, text, what)
-    raise DeskError(f"{what}: unit '{unit}' in '{text.strip()}' is not K, C or °C")
+    raise DeskError(f"{what}: unit {quoted(unit)} in {quoted(text)} is not K, C or °C")
 
 
 def pressure(text: str, what: str = "pressure") -> float:
@@ -56,7 +56,7 @@ def pressure(text: str, what: str = "pressure") -> float:
         return _finite(float(value), text, what)
     if unit in PRESSURE_UNITS:
         return _rounded(Fraction(value) * PRESSURE_UNITS[unit], text, what)
-    raise DeskError(f"{what}: unit '{unit}' in '{text.strip()}' is not Pa, kPa, bar or mmHg")
+    raise DeskError(f"{what}: unit {quoted(unit)} in {quoted(text)} is not Pa, kPa, bar or mmHg")
 
 
 def celsius(kelvin: float) -> float:
@@ -72,9 +72,9 @@ def in_unit(pascals: float, unit: str) -> float:
 def _quantity(text: str, what: str, units: str):
     match = _QUANTITY.fullmatch(text)
     if not match:
-        raise DeskError(f"{what}: '{text.strip()}' is not a number with a unit ({units})")
+        raise DeskError(f"{what}: {quoted(text)} is not a number with a unit ({units})")
     if not match.group(2):
-        raise DeskError(f"{what}: '{text.strip()}' has no unit; write {units}")
+        raise DeskError(f"{what}: {quoted(text)} has no unit; write {units}")
     return Decimal(match.group(1)), match.group(2)
 
 
@@ -87,7 +87,7 @@ def _rounded(value: Fraction, text: str, what: str) -> float:
 
 def _finite(value: float, text: str, what: str) -> float:
     if value in (float("inf"), float("-inf")):
-        raise DeskError(f"{what}: '{text.strip()}' is too large")
+        raise DeskError(f"{what}: {quoted(text)} is too large")
     return value
 
 

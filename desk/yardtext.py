@@ -23,7 +23,7 @@ from typing import Callable, Dict, List, Optional, Tuple
 
 from . import units
 from .book import MOST_SOLVENTS, MOST_TERMS, Book, Correlation, Interval, Pair, Solvent, due_pairs
-from .errors import DeskError
+from .errors import DeskError, quoted
 from .sections import Section, sections_of
 from .yard import AzeotropeCheck, BoilingCheck, Yard
 
@@ -50,7 +50,7 @@ def _distinct_names(solvents: List[Section]) -> Tuple[str, ...]:
     for section in solvents:
         name = section.names[0]
         if not NAME.fullmatch(name) or re.fullmatch(r"[\d-]+", name):
-            raise DeskError(f"line {section.line}: '{name}' can't be a name (letters, digits and . + - ( ) ' without blanks)")
+            raise DeskError(f"line {section.line}: {quoted(name)} can't be a name (letters, digits and . + - ( ) ' without blanks)")
         if name.lower() in (other.lower() for other in names):
             raise DeskError(f"line {section.line}: solvent {name} stands there twice")
         names.append(name)
@@ -105,7 +105,7 @@ def _density(section: Section, vapor: Correlation) -> Correlation:
 def _density_value(text: str, what: str) -> float:
     value, _, unit = text.strip().partition(" ")
     if unit.strip() != "mol/m3":
-        raise DeskError(f"{what}: '{text}' needs the unit mol/m3")
+        raise DeskError(f"{what}: {quoted(text)} needs the unit mol/m3")
     return units.number(value, what)
 
 
@@ -121,14 +121,14 @@ def _checked(record: Correlation, what: str) -> Correlation:
 def _term(text: str, what: str) -> Tuple[float, float]:
     parts = text.split(":")
     if len(parts) != 2:
-        raise DeskError(f"{what}: '{text}' is not 'n : exponent'")
+        raise DeskError(f"{what}: {quoted(text)} is not 'n : exponent'")
     return units.number(parts[0], f"{what} n"), units.number(parts[1], f"{what} exponent")
 
 
 def _range(text: str, what: str) -> Tuple[float, float]:
     parts = text.split(SEPARATOR)
     if len(parts) != 2:
-        raise DeskError(f"{what}: '{text}' is not 'LOW to HIGH', as in 273.16 K to 450 K")
+        raise DeskError(f"{what}: {quoted(text)} is not 'LOW to HIGH', as in 273.16 K to 450 K")
     return units.temperature(parts[0], what), units.temperature(parts[1], what)
 
 
@@ -141,7 +141,7 @@ def _note_source(section: Section, yard: Yard, key: Tuple[str, ...]) -> None:
 def _boiling_check(text: str, what: str) -> BoilingCheck:
     match = re.fullmatch(r"(.+?) at (.+?) within (.+)", text)
     if not match:
-        raise DeskError(f"{what} boiling point: '{text}' is not 'T at P within DIFFERENCE', as in 351.44 K at 101325 Pa within 0.5 K")
+        raise DeskError(f"{what} boiling point: {quoted(text)} is not 'T at P within DIFFERENCE', as in 351.44 K at 101325 Pa within 0.5 K")
     kelvin, pascals, within = match.groups()
     return BoilingCheck(units.temperature(kelvin, what), units.pressure(pascals, what), units.temperature(within, what))
 
@@ -149,7 +149,7 @@ def _boiling_check(text: str, what: str) -> BoilingCheck:
 def _azeotrope_check(text: str, what: str, pair: Tuple[str, str]) -> AzeotropeCheck:
     match = re.fullmatch(r"(\S+) (\S+), (.+?) at (.+)", text)
     if not match or match.group(1) not in pair:
-        raise DeskError(f"{what} azeotrope: '{text}' is not 'NAME x, T at P', as in ethanol 0.894, 351.3 K at 101325 Pa")
+        raise DeskError(f"{what} azeotrope: {quoted(text)} is not 'NAME x, T at P', as in ethanol 0.894, 351.3 K at 101325 Pa")
     name, fraction, kelvin, pascals = match.groups()
     return AzeotropeCheck(name, units.number(fraction, what), units.temperature(kelvin, what), units.pressure(pascals, what))
 
@@ -187,7 +187,7 @@ def _pair(section: Section, yard: Yard, names: Tuple[str, str]) -> Pair:
     tau_ji = _tau(section.take(f"tau {second} {first}"), f"{what} tau {second} {first}")
     alpha = _terms(_named_alpha(section.take("alpha")), ("a0", "a1"), f"{what} alpha")
     interval = _interval(section, what)
-    _note_source(section, yard, names)
+    _note_source(section, yard, tuple(sorted(names, key=yard.names.index)))
     known = section.optional("azeotrope")
     if known:
         yard.azeotropes[names] = _azeotrope_check(known, what, names)
@@ -198,7 +198,7 @@ def _pair(section: Section, yard: Yard, names: Tuple[str, str]) -> Pair:
 def _interval(section: Section, what: str) -> Optional[Interval]:
     text, inferred = section.optional("interval"), section.optional("inferred")
     if inferred not in (None, "yes", "no"):
-        raise DeskError(f"{what} inferred: '{inferred}' is neither yes nor no")
+        raise DeskError(f"{what} inferred: {quoted(inferred)} is neither yes nor no")
     if text is None:
         if inferred:
             raise DeskError(f"{what}: 'inferred' stands there without an interval")
@@ -220,7 +220,7 @@ def _terms(text: str, names: Tuple[str, ...], what: str) -> Tuple[float, ...]:
     for part in text.split(","):
         words = part.split()
         if len(words) not in (2, 3) or words[0] not in names:
-            raise DeskError(f"{what}: '{part.strip()}' is not a term ({', '.join(names)}) and its number")
+            raise DeskError(f"{what}: {quoted(part)} is not a term ({', '.join(names)}) and its number")
         if words[0] in values:
             raise DeskError(f"{what}: {words[0]} stands there twice")
         values[words[0]] = units.number(words[1], f"{what} {words[0]}") / _divisor(words, what)
@@ -233,4 +233,4 @@ def _divisor(words: List[str], what: str) -> float:
         return 1.0
     if words[0] == "t1" and words[2] in GAS_CONSTANT:
         return GAS_CONSTANT[words[2]]
-    raise DeskError(f"{what}: unit '{words[2]}' of {words[0]} is none of K, J/mol and cal/mol, which t1 alone may have")
+    raise DeskError(f"{what}: unit {quoted(words[2])} of {words[0]} is none of K, J/mol and cal/mol, which t1 alone may have")

@@ -53,8 +53,7 @@ def _pair_text(first: str, second: str, pair: Pair, yard: Yard) -> str:
     if pair.interval:
         entries.append(("interval", f"{pair.interval.low!r} K to {pair.interval.high!r} K"))
         entries.append(("inferred", "yes" if pair.interval.inferred else "no"))
-    source = _source_entry(yard, (first, second)) or _source_entry(yard, (second, first))
-    return _lines(f"pair {first} {second}", entries + source)
+    return _lines(f"pair {first} {second}", entries + _source_entry(yard, (first, second)))
 
 
 def _source_entry(yard: Yard, key: Tuple[str, ...]) -> List[Tuple[str, str]]:
