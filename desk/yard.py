@@ -1,7 +1,7 @@
 """A yard: a book with the names of its solvents, and what its text says besides."""
 
 from dataclasses import dataclass, field
-from typing import Dict, Tuple
+from typing import Dict, List, Tuple
 
 from .book import Book
 
@@ -16,8 +16,8 @@ class BoilingCheck:
 
 
 @dataclass(frozen=True)
-class AzeotropeCheck:
-    """A published azeotrope of a pair: mole fraction of its first named solvent."""
+class MixtureCheck:
+    """A published azeotrope or boiling point of a pair, at the named solvent's mole fraction."""
 
     solvent: str
     fraction: float
@@ -33,4 +33,5 @@ class Yard:
     book: Book
     sources: Dict[Tuple[str, ...], str] = field(default_factory=dict)
     boiling: Dict[str, BoilingCheck] = field(default_factory=dict)
-    azeotropes: Dict[Tuple[str, str], AzeotropeCheck] = field(default_factory=dict)
+    azeotropes: Dict[Tuple[str, str], MixtureCheck] = field(default_factory=dict)
+    mixtures: Dict[Tuple[str, str], List[MixtureCheck]] = field(default_factory=dict)

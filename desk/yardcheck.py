@@ -2,7 +2,7 @@
 
 from dataclasses import dataclass
 from pathlib import Path
-from typing import List, Optional
+from typing import List, Optional, Tuple
 
 from . import answer, files, tasks, text
 from .core import Core
@@ -11,15 +11,15 @@ from .openbook import named, yard_of
 from .question import Question
 from .sheet import NamedBook
 from .sweep import Setting, Sweep, azeotropes
-from .yard import AzeotropeCheck, BoilingCheck, Yard
+from .yard import BoilingCheck, MixtureCheck, Yard
 
 GRID = 21  # points between which an azeotrope is looked for
-AZEOTROPE_KELVIN, AZEOTROPE_FRACTION = 0.5, 0.01  # differences that pass
+MIXTURE_KELVIN, AZEOTROPE_KELVIN, AZEOTROPE_FRACTION = 1.0, 0.5, 0.01  # differences that pass
 
 
 @dataclass(frozen=True)
 class Finding:
-    """One published point beside the computed one; `fraction` is of the solvent in `of`, in an azeotrope alone."""
+    """One published point beside the computed one. A mixture has the fraction of the solvent in `of`, and an azeotrope a computed one too."""
 
     what: str
     pascals: float
@@ -29,53 +29,69 @@ class Finding:
     of: str = ""
     published_fraction: Optional[float] = None
     fraction: Optional[float] = None
+    is_azeotrope: bool = False
 
 
 def check(path: str, program: Path) -> List[Finding]:
     yard = yard_of(path, files.read(path))
-    if not yard.boiling and not yard.azeotropes:
+    if not yard.boiling and not yard.azeotropes and not yard.mixtures:
         raise DeskError(f"{path} has no 'boiling point' and no 'azeotrope' to check")
     book = named(yard, path)
     with Core(book.content, program) as core:
-        boiling = [_boiling(core, yard, name, known) for name, known in yard.boiling.items()]
-        return boiling + [_azeotrope(core, book, pair, known) for pair, known in yard.azeotropes.items()]
+        findings = [_boiling(core, yard, name, known) for name, known in yard.boiling.items()]
+        findings += [_mixture(core, book, pair, known) for pair, all_known in yard.mixtures.items() for known in all_known]
+        return findings + [_azeotrope(core, book, pair, known) for pair, known in yard.azeotropes.items()]
 
 
 def _boiling(core: Core, yard: Yard, name: str, known: BoilingCheck) -> Finding:
     pure = tuple(float(other == name) for other in yard.names)
     blocks = core.ask(Question(tasks.BUBBLE_TEMPERATURE, pure, pressure=known.pascals))
     computed = blocks.real(answer.T) if blocks.accepted else None
-    passed = computed is not None and abs(computed - known.kelvin) <= known.within
-    return Finding(name, known.pascals, known.kelvin, computed, passed)
+    return Finding(name, known.pascals, known.kelvin, computed, _near(computed, known.kelvin, known.within))
 
 
-def _azeotrope(core: Core, book: NamedBook, pair, known: AzeotropeCheck) -> Finding:
-    """The published azeotrope beside the computed one that is nearest to it."""
+def _near(computed: Optional[float], published: float, within: float) -> bool:
+    return computed is not None and abs(computed - published) <= within
+
+
+def _sweep(core: Core, book: NamedBook, pair: Tuple[str, str], known: MixtureCheck) -> Sweep:
+    """Over the fraction of the solvent that the published point names."""
     other = pair[1] if known.solvent == pair[0] else pair[0]
-    setting = Setting(book, book.names.index(known.solvent), book.names.index(other), pressure=known.pascals)
-    sweep = Sweep(core, setting)
+    return Sweep(core, Setting(book, book.names.index(known.solvent), book.names.index(other), pressure=known.pascals))
+
+
+def _mixture(core: Core, book: NamedBook, pair: Tuple[str, str], known: MixtureCheck) -> Finding:
+    point = _sweep(core, book, pair, known).bubble(known.fraction)
+    computed = point.temperature if point else None
+    passed = _near(computed, known.kelvin, MIXTURE_KELVIN)
+    return Finding(" and ".join(pair), known.pascals, known.kelvin, computed, passed, known.solvent, known.fraction)
+
+
+def _azeotrope(core: Core, book: NamedBook, pair: Tuple[str, str], known: MixtureCheck) -> Finding:
+    """The published azeotrope beside the computed one that is nearest to it."""
+    sweep = _sweep(core, book, pair, known)
     found = azeotropes(sweep, [sweep.bubble(k / (GRID - 1)) for k in range(GRID)])
     nearest = min(found, key=lambda point: abs(point.x - known.fraction), default=None)
-    if nearest is None:
-        return Finding(" and ".join(pair), known.pascals, known.kelvin, None, False, known.solvent, known.fraction)
-    passed = abs(nearest.temperature - known.kelvin) <= AZEOTROPE_KELVIN and abs(nearest.x - known.fraction) <= AZEOTROPE_FRACTION
-    return Finding(" and ".join(pair), known.pascals, known.kelvin, nearest.temperature, passed, known.solvent, known.fraction, nearest.x)
+    computed, fraction = (nearest.temperature, nearest.x) if nearest else (None, None)
+    passed = _near(computed, known.kelvin, AZEOTROPE_KELVIN) and _near(fraction, known.fraction, AZEOTROPE_FRACTION)
+    return Finding(" and ".join(pair), known.pascals, known.kelvin, computed, passed, known.solvent, known.fraction, fraction, True)
+
+
+def _temperatures(finding: Finding) -> List[str]:
+    return [f"{finding.pascals:g}", f"{finding.published:.2f}", *_computed(finding.computed, finding.published, 2)]
 
 
 def _boiling_row(finding: Finding) -> List[str]:
-    return [finding.what, f"{finding.pascals:g}", f"{finding.published:.2f}", *_computed(finding.computed, finding.published, 2), _verdict(finding)]
+    return [finding.what, *_temperatures(finding), _verdict(finding)]
+
+
+def _mixture_row(finding: Finding) -> List[str]:
+    return [finding.what, f"{finding.of} {finding.published_fraction:g}", *_temperatures(finding), _verdict(finding)]
 
 
 def _azeotrope_row(finding: Finding) -> List[str]:
-    return [
-        finding.what,
-        f"{finding.pascals:g}",
-        f"{finding.published:.2f}",
-        *_computed(finding.computed, finding.published, 2),
-        f"{finding.of} {finding.published_fraction:.3f}",
-        *_computed(finding.fraction, finding.published_fraction, 4),
-        _verdict(finding),
-    ]
+    fractions = _computed(finding.fraction, finding.published_fraction, 4)
+    return [finding.what, *_temperatures(finding), f"{finding.of} {finding.published_fraction:.3f}", *fractions, _verdict(finding)]
 
 
 def _computed(value: Optional[float], published: float, digits: int) -> List[str]:
@@ -86,14 +102,18 @@ def _verdict(finding: Finding) -> str:
     return "yes" if finding.passed else "NO"
 
 
-BOILING_HEADS = ("solvent", "p, Pa", "published, K", "computed, K", "difference", "passed")
-AZEOTROPE_HEADS = ("azeotrope", "p, Pa", "published, K", "computed, K", "difference", "published x", "computed x", "difference", "passed")
+TEMPERATURE_HEADS = ("p, Pa", "published, K", "computed, K", "difference")
+BOILING_HEADS = ("pure solvent", *TEMPERATURE_HEADS, "passed")
+MIXTURE_HEADS = ("mixture", "x", *TEMPERATURE_HEADS, "passed")
+AZEOTROPE_HEADS = ("azeotrope", *TEMPERATURE_HEADS, "published x", "computed x", "difference", "passed")
 
 
 def _tables(findings: List[Finding]):
     boiling = [_boiling_row(finding) for finding in findings if not finding.of]
-    azeotropic = [_azeotrope_row(finding) for finding in findings if finding.of]
-    return [(heads, rows) for heads, rows in ((BOILING_HEADS, boiling), (AZEOTROPE_HEADS, azeotropic)) if rows]
+    mixtures = [_mixture_row(finding) for finding in findings if finding.of and not finding.is_azeotrope]
+    azeotropic = [_azeotrope_row(finding) for finding in findings if finding.is_azeotrope]
+    tables = ((BOILING_HEADS, boiling), (MIXTURE_HEADS, mixtures), (AZEOTROPE_HEADS, azeotropic))
+    return [(heads, rows) for heads, rows in tables if rows]
 
 
 def listing(findings: List[Finding]) -> str:

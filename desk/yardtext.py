@@ -19,13 +19,14 @@
 docs/GUIDE.md has the whole list of keys. A name is written without blanks. Solvents have the places in which they stand; pairs may stand in any order."""
 
 import re
+from dataclasses import replace
 from typing import Callable, Dict, List, Optional, Tuple
 
 from . import units
 from .book import MOST_SOLVENTS, MOST_TERMS, Book, Correlation, Interval, Pair, Solvent, due_pairs
 from .errors import DeskError, quoted
 from .sections import Section, sections_of
-from .yard import AzeotropeCheck, BoilingCheck, Yard
+from .yard import BoilingCheck, MixtureCheck, Yard
 
 GAS_CONSTANT = {"J/mol": 8.31446261815324, "cal/mol": 1.98720425864083}  # per K
 NAME = re.compile(r"[^\W_][\w.+()'-]*")
@@ -42,7 +43,7 @@ def parse(text: str) -> Yard:
     records = tuple(_solvent(section, yard) for section in solvents)
     _distinct_cas(names, records)
     pairs = _pairs([section for section in sections if section.kind == "pair"], yard)
-    return Yard(names, Book(records, pairs), yard.sources, yard.boiling, yard.azeotropes)
+    return replace(yard, book=Book(records, pairs))
 
 
 def _distinct_names(solvents: List[Section]) -> Tuple[str, ...]:
@@ -146,12 +147,12 @@ def _boiling_check(text: str, what: str) -> BoilingCheck:
     return BoilingCheck(units.temperature(kelvin, what), units.pressure(pascals, what), units.temperature(within, what))
 
 
-def _azeotrope_check(text: str, what: str, pair: Tuple[str, str]) -> AzeotropeCheck:
+def _mixture_check(text: str, what: str, pair: Tuple[str, str]) -> MixtureCheck:
     match = re.fullmatch(r"(\S+) (\S+), (.+?) at (.+)", text)
     if not match or match.group(1) not in pair:
-        raise DeskError(f"{what} azeotrope: {quoted(text)} is not 'NAME x, T at P', as in ethanol 0.894, 351.3 K at 101325 Pa")
+        raise DeskError(f"{what}: {quoted(text)} is not 'NAME x, T at P', as in ethanol 0.894, 351.3 K at 101325 Pa")
     name, fraction, kelvin, pascals = match.groups()
-    return AzeotropeCheck(name, units.number(fraction, what), units.temperature(kelvin, what), units.pressure(pascals, what))
+    return MixtureCheck(name, units.number(fraction, what), units.temperature(kelvin, what), units.pressure(pascals, what))
 
 
 def _pairs(sections: List[Section], yard: Yard) -> Tuple[Pair, ...]:
@@ -190,7 +191,10 @@ def _pair(section: Section, yard: Yard, names: Tuple[str, str]) -> Pair:
     _note_source(section, yard, tuple(sorted(names, key=yard.names.index)))
     known = section.optional("azeotrope")
     if known:
-        yard.azeotropes[names] = _azeotrope_check(known, what, names)
+        yard.azeotropes[names] = _mixture_check(known, f"{what} azeotrope", names)
+    boiling = section.take_all("boiling point")
+    if boiling:
+        yard.mixtures[names] = [_mixture_check(text, f"{what} boiling point", names) for text in boiling]
     section.finish()
     return Pair(tau_ij, tau_ji, alpha, interval)
 

@@ -1,11 +1,15 @@
 """Running ./sheet as a user does, and the stored files under golden/."""
 
+import contextlib
+import io
 import os
 import subprocess
 import tempfile
 import unittest
 from pathlib import Path
 from typing import Dict, List, NamedTuple
+
+from desk.cli import main
 
 ROOT = Path(__file__).resolve().parent.parent.parent
 GOLDEN = Path(__file__).resolve().parent / "golden"
@@ -21,8 +25,35 @@ class Run(NamedTuple):
     err: str
 
 
-def sheet(*arguments: str, cwd: Path = ROOT, **environment: str) -> Run:
-    run = subprocess.run([str(SHEET), *arguments], cwd=cwd, capture_output=True, timeout=120, env={**os.environ, **environment})
+def sheet(*arguments: str, cwd: Path = ROOT) -> Run:
+    """A command in this process, which spares the start of an interpreter."""
+    out, err = (io.TextIOWrapper(io.BytesIO(), encoding="utf-8") for _ in range(2))
+    with _inside(cwd), contextlib.redirect_stdout(out), contextlib.redirect_stderr(err):
+        try:
+            status = main(list(arguments))
+        except SystemExit as ended:  # --help
+            status = ended.code or 0
+    return Run(status, _written(out), _written(err))
+
+
+@contextlib.contextmanager
+def _inside(folder: Path):
+    before = os.getcwd()
+    os.chdir(folder)
+    try:
+        yield
+    finally:
+        os.chdir(before)
+
+
+def _written(stream: io.TextIOWrapper) -> str:
+    stream.flush()
+    return stream.buffer.getvalue().decode("utf-8")
+
+
+def sheet_process(*arguments: str, **environment: str) -> Run:
+    """A command as a user runs it."""
+    run = subprocess.run([str(SHEET), *arguments], cwd=ROOT, capture_output=True, timeout=120, env={**os.environ, **environment})
     return Run(run.returncode, run.stdout.decode("utf-8"), run.stderr.decode("utf-8"))
 
 

@@ -10,6 +10,9 @@ from typing import List
 from desk import book as books
 from desk.blocks import BLOCK, bits_of, check_right, sealed, split, words_of
 from desk.errors import DeskError
+from desk.openbook import open_yard
+from desk.question import Question
+from desk.tasks import FLASH
 
 from . import cases
 from .support import GOLDEN, ROOT, STORE, SAMPLE
@@ -52,7 +55,9 @@ def from_reference() -> str:
 
 class Encoder(unittest.TestCase):
     def assert_equal_to(self, text: str) -> None:
-        for line, due, found in zip(lines(), map(bytes_of, text.splitlines()), encoded(), strict=True):
+        due_bytes = [bytes_of(line) for line in text.splitlines()]
+        self.assertEqual(len(due_bytes), len(lines()))
+        for line, due, found in zip(lines(), due_bytes, encoded()):
             self.assertEqual(due, found, line[:100])
 
     def test_stored_blocks_of_the_reference(self):
@@ -67,10 +72,6 @@ class Encoder(unittest.TestCase):
         self.assertEqual(text, STORED.read_text())
 
     def test_sample_of_the_program(self):
-        from desk.openbook import open_yard
-        from desk.question import Question
-        from desk.tasks import FLASH
-
         still = ROOT / "crates" / "still"
         self.assertEqual(books.encode(open_yard(str(SAMPLE)).book), (still / "data" / "book.bin").read_bytes())
         self.assertEqual(Question(FLASH, (0.5, 0.5), 351.44, 90000.0).block(), (still / "stdin").read_bytes())

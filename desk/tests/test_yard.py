@@ -1,0 +1,60 @@
+"""The sample yard against the world, its document, its fits, and the demonstration."""
+
+import subprocess
+import unittest
+
+from desk import core
+from desk.openbook import open_yard
+from desk.yardcheck import check
+
+from .support import ROOT, YARD, InFolder, sheet
+
+
+class SampleYard(InFolder):
+    def test_boiling_points_and_azeotropes(self):
+        findings = check(str(YARD), core.PROGRAM)
+        self.assertEqual([finding for finding in findings if not finding.passed], [])
+        boiling = [finding for finding in findings if not finding.of]
+        self.assertEqual(len(boiling), 6)
+        self.assertTrue(all(abs(finding.computed - finding.published) <= 0.5 for finding in boiling))
+        azeotropes = {finding.what: finding for finding in findings if finding.is_azeotrope}
+        ethanol, acetone = azeotropes["ethanol and water"], azeotropes["acetone and methanol"]
+        self.assertTrue(351.2 <= ethanol.computed <= 351.4 and 0.89 <= ethanol.fraction <= 0.90, ethanol)
+        self.assertTrue(328.2 <= acetone.computed <= 328.7 and 0.78 <= acetone.fraction <= 0.80, acetone)
+
+    def test_wrong_points_are_seen(self):
+        text = YARD.read_text(encoding="utf-8").replace("351.44 K at 101325", "352.44 K at 101325")
+        run = sheet("check-yard", "--book", self.file("yard.txt", text))
+        self.assertEqual(run.status, 1)
+        self.assertEqual(run.out.count("NO"), 1)
+
+    def test_tables_of_the_document(self):
+        self.assertIn(sheet("check-yard", "--markdown").out, (ROOT / "docs" / "YARD.md").read_text(encoding="utf-8"))
+
+    def test_every_record_has_a_source(self):
+        yard = open_yard(str(YARD))
+        self.assertEqual(len(yard.sources), 6 + 15)
+
+    def test_fitted_numbers_are_those_of_the_script(self):
+        text = YARD.read_text(encoding="utf-8")
+        lines = subprocess.run([ROOT / "scripts" / "fit-yard"], capture_output=True, text=True, check=True).stdout.splitlines()
+        solvents = [line for line in lines if "cal/mol" not in line]
+        pairs = [line for line in lines if "cal/mol" in line]
+        self.assertEqual((len(solvents), len(pairs)), (5, 8))
+        for line in solvents:
+            name, _, terms = line.partition(": ")
+            section = text[text.index(f"[solvent {name}]") :].split("\n\n")[0]
+            for term in terms.split(";")[0].split(", "):
+                self.assertIn(f"= {term}\n", section)
+        for line in pairs:
+            name, _, energies = line.partition(": ")
+            section = text[text.index(f"[pair {name}]") :].split("\n\n")[0]
+            for energy in energies.replace(" cal/mol", "").split(" and "):
+                self.assertIn(f"t1 {energy} cal/mol", section)
+
+
+class Demonstration(unittest.TestCase):
+    def test_demo(self):
+        run = sheet("demo", "--program", str(core.PROGRAM.parent / ".." / "bin" / "still"))
+        self.assertEqual(run.status, 0, run.err)
+        self.assertIn("liquid and vapor", run.out)
