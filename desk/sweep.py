@@ -14,7 +14,7 @@ from .sheet import NamedBook
 
 NEAR_PURE = 1e-6  # an azeotrope nearer to a pure solvent isn't looked for
 SEARCH_STEPS = 60
-CLOSE = 1e-10  # width of x at which the search ends
+CLOSE = 1e-9  # step of x at which the search ends
 
 
 @dataclass(frozen=True)
@@ -133,7 +133,7 @@ def volatility(point: Point) -> float:
 
 
 def azeotropes(sweep: Sweep, bubble: List[Optional[Point]]) -> List[Point]:
-    """Every sign change between neighbouring points, narrowed by bisection."""
+    """Every sign change between neighbouring points, narrowed."""
     inner = [point for point in bubble if point and 0 < point.x < 1]
     ends = [sweep.bubble(NEAR_PURE), sweep.bubble(1 - NEAR_PURE)]
     points = sorted([point for point in ends if point] + inner, key=lambda point: point.x)
@@ -141,12 +141,20 @@ def azeotropes(sweep: Sweep, bubble: List[Optional[Point]]) -> List[Point]:
 
 
 def _narrowed(sweep: Sweep, low: Point, high: Point) -> Point:
+    """False position; an end that stays has its value halved (Illinois), so that both close in."""
+    at_low, at_high = volatility(low), volatility(high)
+    best = min(low, high, key=lambda point: abs(volatility(point)))
     for _ in range(SEARCH_STEPS):
-        middle = sweep.bubble((low.x + high.x) / 2)
-        if middle is None or high.x - low.x <= CLOSE:
+        point = sweep.bubble((low.x * at_high - high.x * at_low) / (at_high - at_low))
+        if point is None:
             break
-        if volatility(middle) * volatility(low) > 0:
-            low = middle
+        value = volatility(point)
+        moved = abs(point.x - best.x)
+        best = min(best, point, key=lambda candidate: abs(volatility(candidate)))
+        if value == 0 or moved <= CLOSE:
+            break
+        if value * at_low > 0:
+            low, at_low, at_high = point, value, at_high / 2
         else:
-            high = middle
-    return low if abs(volatility(low)) < abs(volatility(high)) else high
+            high, at_high, at_low = point, value, at_low / 2
+    return best

@@ -5,14 +5,18 @@ import unittest
 
 from desk import core
 from desk.openbook import open_yard
-from desk.yardcheck import check
+from desk.yardcheck import check, markdown
 
 from .support import ROOT, YARD, InFolder, sheet
 
 
 class SampleYard(InFolder):
+    @classmethod
+    def setUpClass(cls) -> None:
+        cls.findings = check(str(YARD), core.PROGRAM)
+
     def test_boiling_points_and_azeotropes(self):
-        findings = check(str(YARD), core.PROGRAM)
+        findings = self.findings
         self.assertEqual([finding for finding in findings if not finding.passed], [])
         boiling = [finding for finding in findings if not finding.of]
         self.assertEqual(len(boiling), 6)
@@ -29,7 +33,7 @@ class SampleYard(InFolder):
         self.assertEqual(run.out.count("NO"), 1)
 
     def test_tables_of_the_document(self):
-        self.assertIn(sheet("check-yard", "--markdown").out, (ROOT / "docs" / "YARD.md").read_text(encoding="utf-8"))
+        self.assertIn(markdown(self.findings), (ROOT / "docs" / "YARD.md").read_text(encoding="utf-8"))
 
     def test_every_record_has_a_source(self):
         yard = open_yard(str(YARD))
