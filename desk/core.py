@@ -50,10 +50,10 @@ def is_stale(program: Path = PROGRAM) -> bool:
     if not program.exists():
         return True
     built = program.stat().st_mtime
-    return any(path.stat().st_mtime > built for path in _sources())
+    return any(path.stat().st_mtime > built for path in sources())
 
 
-def _sources() -> Iterable[Path]:
+def sources() -> Iterable[Path]:
     for folder in ("src", "specs", "proofs"):
         yield from (path for path in (ROOT / "crates").glob(f"*/{folder}/**/*") if path.suffix in (".rt", ".antt"))
 

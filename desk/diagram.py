@@ -116,7 +116,7 @@ class Canvas:
 
 def held(setting: Setting) -> str:
     if setting.temperature is not None:
-        return f"{text.plain(setting.temperature)} K ({units.celsius(setting.temperature):.2f} °C)"
+        return text.temperature(setting.temperature)
     return f"{units.in_unit(setting.pressure, 'kPa'):.6g} kPa"
 
 

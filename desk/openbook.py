@@ -48,7 +48,7 @@ def is_binary(content: bytes) -> bool:
 
 def yard_of(path: str, content: bytes) -> Yard:
     try:
-        text = content.decode("utf-8")
+        text = content.decode("utf-8-sig")
     except UnicodeDecodeError:
         raise DeskError(f"{path} is not a book: neither a text in UTF-8 nor blocks of {BLOCK} bytes") from None
     return _located(path, parse, text)

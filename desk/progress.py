@@ -2,6 +2,9 @@
 
 import sys
 import time
+from typing import TypeVar
+
+Result = TypeVar("Result")
 
 DELAY = 1.0  # s
 PAUSE = 0.2  # s between two prints
@@ -15,13 +18,15 @@ class Progress:
         self._started = self._printed = clock()
         self._shown = False
 
-    def step(self) -> None:
+    def stepped(self, result: Result) -> Result:
+        """One point is done; its result is handed on."""
         self.done += 1
         now = self._clock()
         if now - self._started >= DELAY and now - self._printed >= PAUSE:
             self._printed, self._shown = now, True
             self._out.write(f"\r{self.what}: {self.done} of {self.total} points ")
             self._out.flush()
+        return result
 
     def finish(self) -> None:
         if self._shown:

@@ -2,7 +2,7 @@
 
 import math
 from dataclasses import dataclass, field
-from typing import Callable, List, Optional, Tuple
+from typing import List, Optional, Tuple
 
 from . import answer, tasks
 from .core import Core
@@ -96,16 +96,9 @@ def curves(core: Core, setting: Setting, points: int, with_dew: bool = True) -> 
     grid = [k / (points - 1) for k in range(points)]
     progress = Progress(f"{setting.names[0]} and {setting.names[1]}", points * (2 + with_dew))
 
-    def stepped(ask: Callable, values: List) -> List:
-        found = []
-        for value in values:
-            found.append(ask(value))
-            progress.step()
-        return found
-
-    bubble = stepped(sweep.bubble, grid)
-    dew = stepped(sweep.dew, grid) if with_dew else []
-    stable = stepped(sweep.is_stable, bubble)
+    bubble = [progress.stepped(sweep.bubble(x)) for x in grid]
+    dew = [progress.stepped(sweep.dew(y)) for y in grid] if with_dew else []
+    stable = [progress.stepped(sweep.is_stable(point)) for point in bubble]
     progress.finish()
     if not any(bubble):
         raise CoreRefusal(f"no point of the bubble curve has an answer; the first was {line(sweep.refused[0])}")

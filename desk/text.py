@@ -22,7 +22,8 @@ def small(value: float) -> str:
 
 
 def temperature(kelvin: float) -> str:
-    return f"{plain(kelvin)} K ({units.celsius(kelvin):.2f} °C)"
+    celsius = units.celsius(kelvin)
+    return f"{plain(kelvin)} K ({celsius:{'.2f' if abs(celsius) < 1e6 else '.6g'}} °C)"
 
 
 def pressure(pascals: float) -> str:

@@ -1,5 +1,6 @@
 """Temperatures and pressures with their units, read as decimals and rounded once to a float; CAS numbers."""
 
+import math
 import re
 from decimal import Decimal
 from fractions import Fraction
@@ -61,12 +62,12 @@ def pressure(text: str, what: str = "pressure") -> float:
 
 def celsius(kelvin: float) -> float:
     """For display."""
-    return float(Fraction(kelvin) - CELSIUS_ZERO)
+    return float(Fraction(kelvin) - CELSIUS_ZERO) if math.isfinite(kelvin) else kelvin
 
 
 def in_unit(pascals: float, unit: str) -> float:
     """For display."""
-    return float(Fraction(pascals) / PRESSURE_UNITS[unit])
+    return float(Fraction(pascals) / PRESSURE_UNITS[unit]) if math.isfinite(pascals) else pascals
 
 
 def _quantity(text: str, what: str, units: str):
@@ -82,11 +83,11 @@ def _rounded(value: Fraction, text: str, what: str) -> float:
     try:
         return float(value)
     except OverflowError:
-        return _finite(float("inf"), text, what)
+        return _finite(math.inf, text, what)
 
 
 def _finite(value: float, text: str, what: str) -> float:
-    if value in (float("inf"), float("-inf")):
+    if not math.isfinite(value):
         raise DeskError(f"{what}: {quoted(text)} is too large")
     return value
 

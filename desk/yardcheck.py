@@ -1,13 +1,15 @@
 """A yard against the world: boiling points and azeotropes, computed by the core, beside the published ones in its text."""
 
 from dataclasses import dataclass
+from functools import partial
 from pathlib import Path
-from typing import List, Optional, Tuple
+from typing import Callable, List, Optional, Tuple
 
 from . import answer, files, tasks, text
 from .core import Core
 from .errors import DeskError
-from .openbook import named, yard_of
+from .openbook import named, shown, yard_of
+from .progress import Progress
 from .question import Question
 from .sheet import NamedBook
 from .sweep import Setting, Sweep, azeotropes
@@ -37,13 +39,17 @@ def check(path: str, program: Path) -> List[Finding]:
     if not yard.boiling and not yard.azeotropes and not yard.mixtures:
         raise DeskError(f"{path} has no 'boiling point' and no 'azeotrope' to check")
     book = named(yard, path)
+    asked: List[Callable[[Core], Finding]] = [partial(_boiling, yard, name, known) for name, known in yard.boiling.items()]
+    asked += [partial(_mixture, book, pair, known) for pair, all_known in yard.mixtures.items() for known in all_known]
+    asked += [partial(_azeotrope, book, pair, known) for pair, known in yard.azeotropes.items()]
+    progress = Progress(shown(path), len(asked))
     with Core(book.content, program) as core:
-        findings = [_boiling(core, yard, name, known) for name, known in yard.boiling.items()]
-        findings += [_mixture(core, book, pair, known) for pair, all_known in yard.mixtures.items() for known in all_known]
-        return findings + [_azeotrope(core, book, pair, known) for pair, known in yard.azeotropes.items()]
+        findings = [progress.stepped(find(core)) for find in asked]
+    progress.finish()
+    return findings
 
 
-def _boiling(core: Core, yard: Yard, name: str, known: BoilingCheck) -> Finding:
+def _boiling(yard: Yard, name: str, known: BoilingCheck, core: Core) -> Finding:
     pure = tuple(float(other == name) for other in yard.names)
     blocks = core.ask(Question(tasks.BUBBLE_TEMPERATURE, pure, pressure=known.pascals))
     computed = blocks.real(answer.T) if blocks.accepted else None
@@ -60,14 +66,14 @@ def _sweep(core: Core, book: NamedBook, pair: Tuple[str, str], known: MixtureChe
     return Sweep(core, Setting(book, book.names.index(known.solvent), book.names.index(other), pressure=known.pascals))
 
 
-def _mixture(core: Core, book: NamedBook, pair: Tuple[str, str], known: MixtureCheck) -> Finding:
+def _mixture(book: NamedBook, pair: Tuple[str, str], known: MixtureCheck, core: Core) -> Finding:
     point = _sweep(core, book, pair, known).bubble(known.fraction)
     computed = point.temperature if point else None
     passed = _near(computed, known.kelvin, MIXTURE_KELVIN)
     return Finding(" and ".join(pair), known.pascals, known.kelvin, computed, passed, known.solvent, known.fraction)
 
 
-def _azeotrope(core: Core, book: NamedBook, pair: Tuple[str, str], known: MixtureCheck) -> Finding:
+def _azeotrope(book: NamedBook, pair: Tuple[str, str], known: MixtureCheck, core: Core) -> Finding:
     """The published azeotrope beside the computed one that is nearest to it."""
     sweep = _sweep(core, book, pair, known)
     found = azeotropes(sweep, [sweep.bubble(k / (GRID - 1)) for k in range(GRID)])

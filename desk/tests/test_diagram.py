@@ -92,7 +92,7 @@ class ProgressLine(InFolder):
     def shown(self, seconds: float) -> str:
         out, now = io.StringIO(), iter([0.0] + [seconds] * 9)
         progress = Progress("a pair", 2, out, lambda: next(now))
-        progress.step()
+        self.assertEqual(progress.stepped("result"), "result")
         progress.finish()
         return out.getvalue()
 

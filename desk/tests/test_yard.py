@@ -1,9 +1,12 @@
 """The sample yard against the world, its document, its fits, and the demonstration."""
 
+import os
 import subprocess
-import unittest
+from pathlib import Path
+from unittest import mock
 
 from desk import core
+from desk.errors import DeskError
 from desk.openbook import open_yard
 from desk.yardcheck import check, markdown
 
@@ -57,8 +60,25 @@ class SampleYard(InFolder):
                 self.assertIn(f"t1 {energy} cal/mol", section)
 
 
-class Demonstration(unittest.TestCase):
+class Demonstration(InFolder):
     def test_demo(self):
         run = sheet("demo", "--program", str(core.PROGRAM.parent / ".." / "bin" / "still"))
         self.assertEqual(run.status, 0, run.err)
         self.assertIn("liquid and vapor", run.out)
+
+    def test_when_to_build(self):
+        program = Path(self.file("still", b""))
+        self.assertTrue(core.is_stale(self.folder / "nothing"))
+        os.utime(program, (0, 0))
+        self.assertTrue(core.is_stale(program))
+        newest = max(path.stat().st_mtime for path in core.sources())
+        os.utime(program, (newest + 1, newest + 1))
+        self.assertFalse(core.is_stale(program))
+
+    def test_build_without_the_toolchain(self):
+        for content, words in ((None, "rt can't be run"), ("#!/bin/sh\necho no proof >&2\nexit 1\n", "did not pass: no proof")):
+            if content:
+                Path(self.file("rt", content)).chmod(0o755)
+            with mock.patch.dict(os.environ, PATH=str(self.folder)), self.assertRaises(DeskError) as caught:
+                core.build()
+            self.assertIn(words, str(caught.exception))
