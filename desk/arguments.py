@@ -3,7 +3,7 @@
 import argparse
 import re
 from pathlib import Path
-from typing import List, NoReturn
+from typing import Any, Dict, List, NoReturn, Tuple
 
 from . import core, tasks, units
 from .diagram import PRESSURE_UNITS, TEMPERATURE_UNITS
@@ -114,12 +114,13 @@ def _add_options(command: Parser) -> None:
     command.add_argument("--max-temperature-iterations", metavar="M", help=f"limit of temperatures tried (default {Options.max_temperature_iterations})")
     command.add_argument("--energy-tolerance", metavar="E", help=f"tested by the core, used by no task (default {Options.energy_tolerance})")
     command.add_argument("--threshold", metavar="TM", help=f"tangent-plane distance below which a liquid splits (default {Options.tm_threshold})")
-    command.add_argument("--bracket", metavar="LOW:HIGH", help="temperatures between which a point is looked for (default 273.16K:450K)")
+    bracket = "temperatures between which a point is looked for (default 273.16K:450K, narrowed to the book's ranges)"
+    command.add_argument("--bracket", metavar="LOW:HIGH", help=bracket)
 
 
-def options_of(arguments: argparse.Namespace) -> Options:
-    """The options given, each read with its name; the others as they are."""
-    given = {}
+def options_of(arguments: argparse.Namespace, bracket: Tuple[float, float]) -> Options:
+    """The options given, each read with its name; the bracket of the book, and the others as they are."""
+    given: Dict[str, Any] = {"bracket": bracket}
     readers = (
         ("max_iterations", units.whole, "max_iterations"),
         ("tolerance", units.number, "tolerance"),
@@ -135,7 +136,7 @@ def options_of(arguments: argparse.Namespace) -> Options:
     return Options(**given)
 
 
-def _bracket(text: str, what: str):
+def _bracket(text: str, what: str) -> Tuple[float, ...]:
     ends = text.split(":")
     if len(ends) != 2:
         raise DeskError(f"{what}: '{text}' is not LOW:HIGH, as in 300K:400K")
@@ -189,7 +190,11 @@ def _add_show(commands) -> None:
 
 def _add_check_yard(commands) -> None:
     command = _add(
-        commands, "check-yard", "hold a yard's boiling points and azeotropes against the published ones in its text", "./sheet check-yard", "./sheet check-yard --markdown"
+        commands,
+        "check-yard",
+        "hold a yard's boiling points and azeotropes against the published ones in its text",
+        "./sheet check-yard",
+        "./sheet check-yard --markdown",
     )
     command.add_argument("--book", default=str(YARD), metavar="FILE", help="a yard text (default: yard/yard.txt)")
     _add_program(command)

@@ -3,7 +3,7 @@
 from dataclasses import dataclass
 from typing import List, Optional, Tuple
 
-from .blocks import BLOCK, CHECK, Words, float_of, floats_at, joined, put_floats, split
+from .blocks import BLOCK, CHECK, Words, floats_at, joined, put_floats, split
 from .errors import DeskError
 
 MOST_SOLVENTS = 8
@@ -94,7 +94,8 @@ def _solvent_words(index: int, solvent: Solvent) -> Words:
 
 def _pair_words(i: int, j: int, pair: Pair) -> Words:
     words = [KIND_PAIR, i, j] + [0] * (CHECK - 3)
-    put_floats(words, TAU_IJ, pair.tau_ij + pair.tau_ji + pair.alpha + pair.alpha)
+    for at, values in ((TAU_IJ, pair.tau_ij), (TAU_JI, pair.tau_ji), (ALPHA_IJ, pair.alpha), (ALPHA_JI, pair.alpha)):
+        put_floats(words, at, values)
     if pair.interval:
         words[FLAG] = 1
         put_floats(words, BOUNDS, (pair.interval.low, pair.interval.high))
@@ -125,6 +126,12 @@ def decode(content: bytes) -> Book:
     n = solvent_count(content)
     blocks = split(content)
     return Book(tuple(map(_solvent, blocks[1 : 1 + n])), tuple(map(_pair, blocks[1 + n :])))
+
+
+def common_range(book: Book) -> Tuple[float, float]:
+    """The temperatures (K) that lie in every solvent's two ranges."""
+    records = [record for solvent in book.solvents for record in (solvent.vapor_pressure, solvent.density)]
+    return max(record.low for record in records), min(record.high for record in records)
 
 
 def _solvent(words: Words) -> Solvent:

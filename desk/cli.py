@@ -9,7 +9,7 @@ from . import commands, tasks
 from .arguments import joined_negatives, parser
 from .errors import DeskError
 
-BAD_USAGE, INTERRUPTED = DeskError.status, 130
+BAD_USAGE, INTERRUPTED, NO_READER = DeskError.status, 130, 141  # the last two as a shell has them for SIGINT and SIGPIPE
 
 
 def main(argv: Optional[List[str]] = None) -> int:
@@ -23,6 +23,9 @@ def main(argv: Optional[List[str]] = None) -> int:
         return complain(str(error), error.status)
     except KeyboardInterrupt:
         return INTERRUPTED
+    except BrokenPipeError:
+        _close_output()
+        return NO_READER
     except OSError as error:
         _close_output()
         return complain(f"{error.strerror or error}")

@@ -6,18 +6,18 @@ import sys
 from typing import Optional
 
 from . import core, diagram, files, jsonsheet, refusals, report, strikereport, tasks, units, yardcheck
-from .arguments import YARD, options_of
+from .arguments import options_of, parser
 from .book import encode
 from .errors import DeskError
-from .openbook import fractions_of, is_binary, k_values_of, open_book, open_yard, place_of, yard_of
-from .question import Options, Question
+from .openbook import bracket_of, fractions_of, is_binary, k_values_of, open_book, open_yard, place_of, yard_of
+from .question import Question
 from .sheet import NamedBook, Sheet
 from .showbook import listing
 from .sweep import Setting, curves
 from .yardwrite import write
 
 MOST_POINTS = 2001
-DEMO = {"label": "sample drum", "drum": "ethanol=0.45,water=0.35,acetone=0.2", "temperature": "72C", "pressure": "101.325kPa"}
+DEMO = ("flash", "--label", "sample drum", "--drum", "ethanol=0.45,water=0.35,acetone=0.2", "--temperature", "72C", "--pressure", "101.325kPa")
 
 
 def status_of(number: int) -> int:
@@ -45,7 +45,7 @@ def _question(arguments: argparse.Namespace, book: NamedBook) -> Question:
         units.temperature(arguments.temperature, "--temperature") if task.takes_temperature else None,
         units.pressure(arguments.pressure, "--pressure") if task.takes_pressure else None,
         k_values_of(book, ",".join(arguments.k), fractions) if task.takes_k else None,
-        options_of(arguments),
+        options_of(arguments, bracket_of(book)),
     )
 
 
@@ -117,7 +117,7 @@ def _setting(arguments: argparse.Namespace) -> Setting:
     if first == second:
         raise DeskError(f"--pair: '{arguments.pair}' names one solvent twice")
     reader = getattr(units, held)
-    return Setting(book, first, second, **{held: reader(getattr(arguments, held), f"--{held}")}, options=options_of(arguments))
+    return Setting(book, first, second, **{held: reader(getattr(arguments, held), f"--{held}")}, options=options_of(arguments, bracket_of(book)))
 
 
 def _axis_unit(kind: str, unit: Optional[str]) -> str:
@@ -166,11 +166,4 @@ def demo(arguments: argparse.Namespace) -> int:
     if arguments.program == core.PROGRAM and core.is_stale():
         print("sheet: proving and building the program still (rt check still); this takes minutes", file=sys.stderr)
         core.build()
-    book = open_book(str(YARD))
-    question = Question(
-        tasks.FLASH, fractions_of(book, DEMO["drum"]), units.temperature(DEMO["temperature"]), units.pressure(DEMO["pressure"]), options=Options()
-    )
-    with core.Core(book.content, arguments.program) as program:
-        sheet = Sheet(book, question, program.ask(question), DEMO["label"])
-    sys.stdout.write(report.render(sheet))
-    return _ended(sheet)
+    return ask(parser().parse_args([*DEMO, "--program", str(arguments.program)]))

@@ -5,8 +5,9 @@ from typing import Any, Callable, Dict, Optional, Tuple
 
 from . import core, files, units
 from .blocks import BLOCK
-from .book import cas_numbers, decode, encode
+from .book import cas_numbers, common_range, decode, encode
 from .errors import DeskError, quoted
+from .question import Options
 from .sheet import NamedBook
 from .yard import Yard
 from .yardtext import parse
@@ -97,6 +98,17 @@ def amounts(book: NamedBook, text: str, option: str) -> Dict[int, float]:
             raise DeskError(f"{option}: {book.names[place]} stands there twice")
         found[place] = units.number(value, f"{option}: {name.strip()}")
     return found
+
+
+def bracket_of(book: NamedBook) -> Tuple[float, float]:
+    """The model's range of temperatures, narrowed to the solvents' own: outside these the core refuses each temperature tried."""
+    low, high = Options.bracket
+    try:
+        lowest, highest = common_range(decode(book.content))
+    except DeskError:
+        return low, high
+    narrowed = max(low, lowest), min(high, highest)
+    return narrowed if narrowed[0] < narrowed[1] else (low, high)
 
 
 def fractions_of(book: NamedBook, drum: str) -> Tuple[float, ...]:

@@ -49,8 +49,10 @@ class Question:
         options = self.options
         words[MAX_ITERATIONS] = options.max_iterations
         words[MAX_TEMPERATURE_ITERATIONS] = options.max_temperature_iterations
-        put_floats(words, TOLERANCE, (options.tolerance,))
-        put_floats(words, ENERGY_TOLERANCE, (options.energy_tolerance, options.tm_threshold) + options.bracket)
+        words[TOLERANCE] = bits_of(options.tolerance)
+        words[ENERGY_TOLERANCE] = bits_of(options.energy_tolerance)
+        words[TM_THRESHOLD] = bits_of(options.tm_threshold)
+        put_floats(words, BRACKET, options.bracket)
 
     def block(self) -> bytes:
         return sealed(self.words())

@@ -6,6 +6,7 @@ from typing import Callable, Dict, List
 from . import answer, refusals, text
 from .blocks import float_of, floats_at
 from .sheet import Sheet
+from .tasks import BUBBLE_TEMPERATURE, DEW_TEMPERATURE
 
 RULE = "-" * text.WIDTH
 ENERGY_NAMES = (
@@ -35,6 +36,8 @@ def head(sheet: Sheet) -> Lines:
         rows.append(("T asked", text.temperature(question.temperature)))
     if question.pressure is not None:
         rows.append(("p asked", text.pressure(question.pressure)))
+    if task in (BUBBLE_TEMPERATURE, DEW_TEMPERATURE):
+        rows.append(("Between", " and ".join(text.temperature(end) for end in question.options.bracket)))
     if question.k_values is not None:
         rows.append(("K", _listed(sheet, question.k_values)))
     return [f"{task.title.upper()}  (task {task.number}, {task.function})"] + text.fields(rows)
@@ -50,7 +53,8 @@ def _listed(sheet: Sheet, values) -> str:
 
 def _refusal(sheet: Sheet) -> Lines:
     number = sheet.blocks.refusal
-    return [f"REFUSED, number {number}"] + text.wrapped(refusals.matter(number) + sheet.detail() + ".") + text.wrapped("What to do: " + refusals.advice(number) + ".")
+    sentences = (f"{refusals.matter(number)}{sheet.detail()}.", f"What to do: {refusals.advice(number)}.")
+    return [f"REFUSED, number {number}"] + [line for sentence in sentences for line in text.wrapped(sentence)]
 
 
 def _answer(sheet: Sheet) -> Lines:
@@ -143,8 +147,8 @@ def _trials(sheet: Sheet) -> Lines:
     for words in sheet.blocks.trials:
         found = floats_at(words, answer.TRIAL_FRACTIONS, len(names))
         distance = text.small(float_of(words[answer.TRIAL_DISTANCE]))
-        start = names[words[answer.TRIAL_COMPONENT]]
-        rows.append([start, distance, str(words[answer.TRIAL_ITERATIONS]), _yes(words[answer.TRIAL_TRIVIAL])] + [text.fraction(found[i]) for i in present])
+        row = [names[words[answer.TRIAL_COMPONENT]], distance, str(words[answer.TRIAL_ITERATIONS]), _yes(words[answer.TRIAL_TRIVIAL])]
+        rows.append(row + [text.fraction(found[i]) for i in present])
     heads = ["liquid trial from", "distance", "iterations", "trivial"] + [names[i] for i in present]
     return text.table(heads, rows)
 

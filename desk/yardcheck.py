@@ -8,12 +8,12 @@ from typing import Callable, List, Optional, Tuple
 from . import answer, files, tasks, text
 from .core import Core
 from .errors import DeskError
-from .openbook import named, shown, yard_of
+from .openbook import bracket_of, named, shown, yard_of
 from .progress import Progress
-from .question import Question
+from .question import Options, Question
 from .sheet import NamedBook
 from .sweep import Setting, Sweep, azeotropes
-from .yard import BoilingCheck, MixtureCheck, Yard
+from .yard import BoilingCheck, MixtureCheck
 
 GRID = 21  # points between which an azeotrope is looked for
 MIXTURE_KELVIN, AZEOTROPE_KELVIN, AZEOTROPE_FRACTION = 1.0, 0.5, 0.01  # differences that pass
@@ -39,7 +39,7 @@ def check(path: str, program: Path) -> List[Finding]:
     if not yard.boiling and not yard.azeotropes and not yard.mixtures:
         raise DeskError(f"{path} has no 'boiling point' and no 'azeotrope' to check")
     book = named(yard, path)
-    asked: List[Callable[[Core], Finding]] = [partial(_boiling, yard, name, known) for name, known in yard.boiling.items()]
+    asked: List[Callable[[Core], Finding]] = [partial(_boiling, book, name, known) for name, known in yard.boiling.items()]
     asked += [partial(_mixture, book, pair, known) for pair, all_known in yard.mixtures.items() for known in all_known]
     asked += [partial(_azeotrope, book, pair, known) for pair, known in yard.azeotropes.items()]
     progress = Progress(shown(path), len(asked))
@@ -49,11 +49,15 @@ def check(path: str, program: Path) -> List[Finding]:
     return findings
 
 
-def _boiling(yard: Yard, name: str, known: BoilingCheck, core: Core) -> Finding:
-    pure = tuple(float(other == name) for other in yard.names)
-    blocks = core.ask(Question(tasks.BUBBLE_TEMPERATURE, pure, pressure=known.pascals))
+def _boiling(book: NamedBook, name: str, known: BoilingCheck, core: Core) -> Finding:
+    pure = tuple(float(other == name) for other in book.names)
+    blocks = core.ask(Question(tasks.BUBBLE_TEMPERATURE, pure, pressure=known.pascals, options=_options(book)))
     computed = blocks.real(answer.T) if blocks.accepted else None
     return Finding(name, known.pascals, known.kelvin, computed, _near(computed, known.kelvin, known.within))
+
+
+def _options(book: NamedBook) -> Options:
+    return Options(bracket=bracket_of(book))
 
 
 def _near(computed: Optional[float], published: float, within: float) -> bool:
@@ -63,7 +67,8 @@ def _near(computed: Optional[float], published: float, within: float) -> bool:
 def _sweep(core: Core, book: NamedBook, pair: Tuple[str, str], known: MixtureCheck) -> Sweep:
     """Over the fraction of the solvent that the published point names."""
     other = pair[1] if known.solvent == pair[0] else pair[0]
-    return Sweep(core, Setting(book, book.names.index(known.solvent), book.names.index(other), pressure=known.pascals))
+    first, second = book.names.index(known.solvent), book.names.index(other)
+    return Sweep(core, Setting(book, first, second, pressure=known.pascals, options=_options(book)))
 
 
 def _mixture(book: NamedBook, pair: Tuple[str, str], known: MixtureCheck, core: Core) -> Finding:

@@ -102,9 +102,8 @@ class Refusals(InFolder):
         self.assertEqual(sorted(refusals.REFUSALS), list(range(1, 31)))
         self.assertEqual(len({matter for matter, _ in refusals.REFUSALS.values()}), 30)
         for number in [*range(1, 31), 77]:
-            program = self.program(
-                [f"words = [9, 7, {number}] + [0] * 60", "words.append(sum(words))", "sys.stdin.buffer.read()", "sys.stdout.buffer.write(struct.pack('<64Q', *words))"]
-            )
+            words = f"words = [9, 7, {number}] + [0] * 60 + [16 + {number}]"
+            program = self.program([words, "sys.stdin.buffer.read()", "sys.stdout.buffer.write(struct.pack('<64Q', *words))"])
             run = sheet("flash", *PAIR, "--temperature", "70C", "--pressure", "1bar", "--program", program, "--json")
             found = json.loads(run.out)
             self.assertEqual((run.status, found["refusal"]["number"], found["refusal"]["matter"], found["answer"]), (1, number, refusals.matter(number), None))

@@ -1,7 +1,10 @@
 """Bad input: one line on standard error, status 2, no traceback, no file changed."""
 
+import json
 import os
+import resource
 import stat
+import subprocess
 import unittest
 
 from desk.arguments import joined_negatives
@@ -146,6 +149,43 @@ class DamagedBooks(InFolder):
         return joined(blocks)
 
 
+class Books(InFolder):
+    """Other books than the yard."""
+
+    def test_one_solvent(self):
+        text = YARD.read_text(encoding="utf-8")
+        path = self.file("one.txt", text[text.index("[solvent toluene]") : text.index("# water with the others")])
+        run = sheet("bubble-temperature", "--book", path, "--drum", "toluene=1", "--pressure", "101325Pa")
+        self.assertEqual(run.status, 0, run.err)
+        self.assertIn("383.78", run.out)
+
+    def test_bracket_is_narrowed_to_the_ranges(self):
+        path = self.file("narrow.txt", YARD.read_text(encoding="utf-8").replace("273.15 K to 580 K", "10 C to 390 K"))
+        for command in ("bubble-temperature", "dew-temperature"):
+            asked = (command, "--book", path, "--drum", "ethanol=0.5,water=0.5", "--pressure", "1bar")
+            run = sheet(*asked)
+            self.assertIn("Between  283.15 K (10.00 °C) and 390 K (116.85 °C)", run.out)
+            self.assertEqual(run.status, 0, run.err)
+            self.assertIn("number 22", sheet(*asked, "--bracket", "273.16K:450K").err)
+
+    def test_names_and_cas_numbers(self):
+        sheet("book", str(YARD), "-o", "book.bin", cwd=self.folder)
+        asked = ("--temperature", "70C", "--json")
+        by_text = sheet("excess", "--drum", "Ethanol=0.5, WATER = 0.5", *asked)
+        by_name = sheet("excess", "--book", "book.bin", "--names", str(YARD), "--drum", "ethanol=0.5,water=0.5", *asked, cwd=self.folder)
+        by_cas = sheet("excess", "--book", "book.bin", "--drum", "64-17-5=0.5,7732185=0.5", *asked, cwd=self.folder)
+        answers = [json.loads(run.out)["answer"] for run in (by_text, by_name, by_cas)]
+        self.assertEqual(answers[0], answers[1])
+        self.assertEqual(list(answers[0]["ln_gamma"].values()), list(answers[2]["ln_gamma"].values()))
+        self.assertEqual(list(answers[2]["ln_gamma"])[:2], ["7732-18-5", "64-17-5"])
+
+    def test_byte_order_mark_and_carriage_returns(self):
+        path = self.file("dos.txt", b"\xef\xbb\xbf" + YARD.read_bytes().replace(b"\n", b"\r\n"))
+        sheet("book", path, "-o", "dos.bin", cwd=self.folder)
+        sheet("book", str(YARD), "-o", "unix.bin", cwd=self.folder)
+        self.assertEqual((self.folder / "dos.bin").read_bytes(), (self.folder / "unix.bin").read_bytes())
+
+
 class Writing(InFolder):
     def test_book_is_written_whole(self):
         run = sheet("book", str(YARD), "-o", "book.bin", cwd=self.folder)
@@ -155,6 +195,14 @@ class Writing(InFolder):
         again = self.file("again.txt", shown.out)
         sheet("book", again, "-o", "again.bin", cwd=self.folder)
         self.assertEqual((self.folder / "book.bin").read_bytes(), (self.folder / "again.bin").read_bytes())
+
+    def test_disk_full_leaves_the_old_book(self):
+        self.file("book.bin", b"old")
+        limit = lambda: resource.setrlimit(resource.RLIMIT_FSIZE, (1000, 1000))  # noqa: E731
+        command = [ROOT / "sheet", "book", YARD, "-o", "book.bin"]
+        run = subprocess.run(command, cwd=self.folder, capture_output=True, text=True, preexec_fn=limit)
+        self.assertEqual((run.returncode, run.stderr), (2, "sheet: book.bin can't be written: File too large\n"))
+        self.assertEqual(contents(self.folder), {"book.bin": b"old"})
 
     def test_mode_and_link_stay(self):
         path = self.folder / "a"
