@@ -5,7 +5,7 @@ import os
 import sys
 from typing import Optional
 
-from . import core, diagram, files, jsonsheet, refusals, report, strikereport, tasks, units, yardcheck
+from . import core, diagram, files, jsonsheet, refusals, report, strikereport, tasks, text, units, yardcheck
 from .arguments import options_of, parser
 from .book import encode
 from .errors import DeskError
@@ -136,7 +136,7 @@ def make_book(arguments: argparse.Namespace) -> int:
         raise DeskError(f"{arguments.output} is the text itself; give the book another name")
     book = encode(yard.book)
     files.write_whole(arguments.output, book)
-    print(f"{arguments.output}: {len(yard.names)} solvents, {len(yard.book.pairs)} pairs, {len(book)} bytes")
+    print(f"{arguments.output}: {text.counted(len(yard.names), 'solvent')}, {text.counted(len(yard.book.pairs), 'pair')}, {len(book)} bytes")
     return 0
 
 
@@ -153,7 +153,7 @@ def check_yard(arguments: argparse.Namespace) -> int:
 
 
 def explain(arguments: argparse.Namespace) -> int:
-    numbers = [units.whole(text, "refusal number") for text in arguments.number] or sorted(refusals.REFUSALS)
+    numbers = [units.whole(word, "refusal number") for word in arguments.number] or sorted(refusals.REFUSALS)
     for number in numbers:
         if number not in refusals.REFUSALS:
             raise DeskError(f"{number} is no refusal number; they are 1 to {max(refusals.REFUSALS)}")

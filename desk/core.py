@@ -12,6 +12,7 @@ from .question import Question
 
 ROOT = Path(__file__).resolve().parent.parent
 PROGRAM = ROOT / "target" / "bin" / "still"
+STAMP = ROOT / "target" / "stamp" / "still"  # rt's record that the crate is proved
 BOOK_NAME = "book.bin"
 SECONDS = 300  # no question within the limits takes as long
 
@@ -59,7 +60,9 @@ def sources() -> Iterable[Path]:
 
 
 def build() -> None:
-    """Proves and builds the program `still`."""
+    """Proves and builds the program `still`. With its stamp left, rt would not write a missing program anew."""
+    if not PROGRAM.exists():
+        STAMP.unlink(missing_ok=True)
     try:
         run = subprocess.run(["rt", "check", "still"], cwd=ROOT, stdout=subprocess.DEVNULL, stderr=subprocess.PIPE, text=True)
     except OSError as error:

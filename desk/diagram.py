@@ -8,8 +8,8 @@ from . import text, units
 from .svg import Svg
 from .sweep import Curves, Point, Setting
 
-WIDTH, HEIGHT = 720, 560
-LEFT, RIGHT, TOP, BOTTOM = 84, 24, 56, 130
+WIDTH, HEIGHT = 720, 580
+LEFT, RIGHT, TOP, BOTTOM = 84, 24, 56, 150
 BUBBLE_COLOR, DEW_COLOR, GUIDE_COLOR, SPLIT_COLOR, GRID_COLOR = "#1f4e9e", "#c0392b", "#888888", "#f3e3c3", "#e2e2e2"
 MARGIN = 0.06  # of the range, above and below the curves
 
@@ -95,18 +95,16 @@ class Canvas:
                 run = []
 
     def legend(self, content: str, color: str, kind: str = "line") -> None:
-        """The next entry, two beside each other."""
+        """The next entry: lines two in a row, marks and boxes with their longer words in a row of their own."""
         x, y = self._legend_x, self._legend_y
-        if kind == "line":
-            self.svg.line(x, y - 4, x + 26, y - 4, stroke=color, width=2)
-        elif kind == "dash":
-            self.svg.line(x, y - 4, x + 26, y - 4, stroke=color, width=2, dash="5 4")
-        elif kind == "mark":
+        if kind == "mark":
             self.svg.circle(x + 13, y - 4, 5, fill=color)
-        else:
+        elif kind == "box":
             self.svg.box(x, y - 11, 26, 14, fill=color, stroke=GUIDE_COLOR)
+        else:
+            self.svg.line(x, y - 4, x + 26, y - 4, stroke=color, width=2, dash="5 4" if kind == "dash" else "none")
         self.svg.text(x + 34, y, content)
-        beside = self._legend_x == LEFT
+        beside = x == LEFT and kind in ("line", "dash")
         self._legend_x = LEFT + (WIDTH - LEFT - RIGHT) // 2 if beside else LEFT
         self._legend_y += 0 if beside else 22
 

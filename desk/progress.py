@@ -18,6 +18,15 @@ class Progress:
         self._started = self._printed = clock()
         self._shown = False
 
+    def __enter__(self) -> "Progress":
+        return self
+
+    def __exit__(self, *_: object) -> None:
+        """The line is ended, also where the work was broken off."""
+        if self._shown:
+            self._out.write(f"\r{self.what}: {self.done} points, {self._clock() - self._started:.1f} s \n")
+            self._out.flush()
+
     def stepped(self, result: Result) -> Result:
         """One point is done; its result is handed on."""
         self.done += 1
@@ -27,8 +36,3 @@ class Progress:
             self._out.write(f"\r{self.what}: {self.done} of {self.total} points ")
             self._out.flush()
         return result
-
-    def finish(self) -> None:
-        if self._shown:
-            self._out.write(f"\r{self.what}: {self.done} points, {self._clock() - self._started:.1f} s \n")
-            self._out.flush()

@@ -29,7 +29,7 @@ def head(sheet: Sheet) -> Lines:
     """What was asked."""
     task, question = sheet.question.task, sheet.question
     rows = [("Drum", sheet.label)] if sheet.label else []
-    rows += [("Book", f"{sheet.book.file}, {len(sheet.book.names)} solvents"), ("Feed", _feed(sheet))]
+    rows += [("Book", f"{sheet.book.file}, {text.counted(len(sheet.book.names), 'solvent')}"), ("Feed", _feed(sheet))]
     if sheet.absent():
         rows.append(("Absent", ", ".join(sheet.book.names[i] for i in sheet.absent())))
     if question.temperature is not None:

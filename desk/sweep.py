@@ -94,12 +94,10 @@ class Sweep:
 def curves(core: Core, setting: Setting, points: int, with_dew: bool = True) -> Curves:
     sweep = Sweep(core, setting)
     grid = [k / (points - 1) for k in range(points)]
-    progress = Progress(f"{setting.names[0]} and {setting.names[1]}", points * (2 + with_dew))
-
-    bubble = [progress.stepped(sweep.bubble(x)) for x in grid]
-    dew = [progress.stepped(sweep.dew(y)) for y in grid] if with_dew else []
-    stable = [progress.stepped(sweep.is_stable(point)) for point in bubble]
-    progress.finish()
+    with Progress(f"{setting.names[0]} and {setting.names[1]}", points * (2 + with_dew)) as progress:
+        bubble = [progress.stepped(sweep.bubble(x)) for x in grid]
+        dew = [progress.stepped(sweep.dew(y)) for y in grid] if with_dew else []
+        stable = [progress.stepped(sweep.is_stable(point)) for point in bubble]
     if not any(bubble):
         raise CoreRefusal(f"no point of the bubble curve has an answer; the first was {line(sweep.refused[0])}")
     refused = list(sweep.refused)

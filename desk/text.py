@@ -30,6 +30,10 @@ def pressure(pascals: float) -> str:
     return f"{plain(pascals)} Pa ({units.in_unit(pascals, 'kPa'):.6g} kPa, {units.in_unit(pascals, 'mmHg'):.6g} mmHg)"
 
 
+def counted(number: int, noun: str) -> str:
+    return f"{number} {noun}" + ("" if number == 1 else "s")
+
+
 def fields(rows: Sequence[Sequence[str]]) -> List[str]:
     """Name and value, a longer value going on below itself."""
     width = max((len(name) for name, _ in rows), default=0)

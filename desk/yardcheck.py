@@ -42,11 +42,8 @@ def check(path: str, program: Path) -> List[Finding]:
     asked: List[Callable[[Core], Finding]] = [partial(_boiling, book, name, known) for name, known in yard.boiling.items()]
     asked += [partial(_mixture, book, pair, known) for pair, all_known in yard.mixtures.items() for known in all_known]
     asked += [partial(_azeotrope, book, pair, known) for pair, known in yard.azeotropes.items()]
-    progress = Progress(shown(path), len(asked))
-    with Core(book.content, program) as core:
-        findings = [progress.stepped(find(core)) for find in asked]
-    progress.finish()
-    return findings
+    with Core(book.content, program) as core, Progress(shown(path), len(asked)) as progress:
+        return [progress.stepped(find(core)) for find in asked]
 
 
 def _boiling(book: NamedBook, name: str, known: BoilingCheck, core: Core) -> Finding:

@@ -91,9 +91,8 @@ class Axes(InFolder):
 class ProgressLine(InFolder):
     def shown(self, seconds: float) -> str:
         out, now = io.StringIO(), iter([0.0] + [seconds] * 9)
-        progress = Progress("a pair", 2, out, lambda: next(now))
-        self.assertEqual(progress.stepped("result"), "result")
-        progress.finish()
+        with Progress("a pair", 2, out, lambda: next(now)) as progress:
+            self.assertEqual(progress.stepped("result"), "result")
         return out.getvalue()
 
     def test_only_after_a_second(self):

@@ -1,7 +1,9 @@
 //! Blocks of books and questions from plain numbers, one a line, as the reference lays them out and reads them back.
 //!
-//! book n; for each solvent CAS, then twice t_r reducing low high count n.. exponents..; for each pair tau_ij t0 to t3, tau_ji t0 to t3, a0 a1, flag low high inferred
-//! question task T P, eight fractions, M, tolerance, temperature limit, energy tolerance, threshold, low, high, eight K
+//! `book` n; for each solvent its CAS number, then twice t_r, reducing value, low, high, count, coefficients, exponents;
+//! for each pair τ_ij t0 to t3, τ_ji t0 to t3, a0, a1, then interval flag, low, high, inferred flag.
+//!
+//! `question` task, T, P, eight fractions, M, tolerance, temperature limit, energy tolerance, threshold, low, high, eight K.
 
 use std::io::{stdin, BufRead};
 use std::process::ExitCode;
