@@ -3,25 +3,21 @@
 import argparse
 import os
 import sys
-from typing import Optional
+from typing import Iterator, Optional, Tuple
 
 from . import core, diagram, files, jsonsheet, refusals, report, strikereport, tasks, text, units, yardcheck
 from .arguments import options_of, parser
 from .book import encode
-from .errors import DeskError
+from .errors import DeskError, quoted
 from .openbook import bracket_of, fractions_of, is_binary, k_values_of, open_book, open_yard, place_of, yard_of
 from .question import Question
 from .sheet import NamedBook, Sheet
 from .showbook import listing
-from .sweep import Setting, curves
+from .sweep import Curves, Setting, curves
 from .yardwrite import write
 
 MOST_POINTS = 2001
 DEMO = ("flash", "--label", "sample drum", "--drum", "ethanol=0.45,water=0.35,acetone=0.2", "--temperature", "72C", "--pressure", "101.325kPa")
-
-
-def status_of(number: int) -> int:
-    return 1 if number else 0
 
 
 def ask(arguments: argparse.Namespace) -> int:
@@ -54,7 +50,7 @@ def _ended(sheet: Sheet) -> int:
     if number:
         sys.stdout.flush()
         print(f"sheet: {refusals.line(number)}{sheet.detail()}", file=sys.stderr)
-    return status_of(number)
+    return 1 if number else 0
 
 
 def _strike(arguments: argparse.Namespace, sheet: Sheet) -> int:
@@ -87,14 +83,12 @@ def draw(arguments: argparse.Namespace) -> int:
     return 0
 
 
-def _findings(found):
-    for point in found.azeotropes:
-        if diagram.in_split(point, found):
-            yield f"y = x at {point.x:.4f}, where the liquid splits: no azeotrope of one liquid"
-        else:
-            yield diagram.azeotrope_words(point)
+def _findings(found: Curves) -> Iterator[str]:
+    yield from map(diagram.azeotrope_words, found.azeotropes)
     if not found.azeotropes:
         yield "no azeotrope"
+    for point in found.crossings:
+        yield f"y = x at {point.x:.4f}, where the liquid splits: no azeotrope of one liquid"
     for low, high in found.splits:
         yield f"the liquid fails its trials from x = {low:.4g} to {high:.4g}: the curves there are those of one liquid that isn't stable"
     for number in sorted(set(found.refused)):
@@ -102,22 +96,30 @@ def _findings(found):
 
 
 def _setting(arguments: argparse.Namespace) -> Setting:
-    held = "temperature" if arguments.kind == "pxy" else "pressure"
-    if arguments.kind == "xy" and arguments.pressure is None:
-        held = "temperature"
-    other = "pressure" if held == "temperature" else "temperature"
-    if getattr(arguments, held) is None or getattr(arguments, other) is not None:
-        due = "--temperature or --pressure, one of them," if arguments.kind == "xy" else f"--{held} alone"
-        raise DeskError(f"diagram {arguments.kind} takes {due}")
+    held = _held(arguments)
+    value = getattr(units, held)(getattr(arguments, held), f"--{held}")
     book = open_book(arguments.book, arguments.names)
-    names = arguments.pair.split(",")
+    first, second = _pair(arguments.pair, book)
+    return Setting(book, first, second, **{held: value}, options=options_of(arguments, bracket_of(book)))
+
+
+def _held(arguments: argparse.Namespace) -> str:
+    """Which of temperature and pressure the diagram holds; exactly that one is given."""
+    due = {"txy": ("pressure",), "pxy": ("temperature",), "xy": ("pressure", "temperature")}[arguments.kind]
+    given = [name for name in ("pressure", "temperature") if getattr(arguments, name) is not None]
+    if len(given) != 1 or given[0] not in due:
+        raise DeskError(f"diagram {arguments.kind} takes {' or '.join(f'--{name}' for name in due)}, and that alone")
+    return given[0]
+
+
+def _pair(text: str, book: NamedBook) -> Tuple[int, int]:
+    names = text.split(",")
     if len(names) != 2:
-        raise DeskError(f"--pair: '{arguments.pair}' is not NAME,NAME")
+        raise DeskError(f"--pair: {quoted(text)} is not NAME,NAME")
     first, second = (place_of(book, name.strip()) for name in names)
     if first == second:
-        raise DeskError(f"--pair: '{arguments.pair}' names one solvent twice")
-    reader = getattr(units, held)
-    return Setting(book, first, second, **{held: reader(getattr(arguments, held), f"--{held}")}, options=options_of(arguments, bracket_of(book)))
+        raise DeskError(f"--pair: {quoted(text)} names one solvent twice")
+    return first, second
 
 
 def _axis_unit(kind: str, unit: Optional[str]) -> str:

@@ -162,15 +162,10 @@ def _bands(canvas: Canvas, curves: Curves) -> None:
         canvas.band(low, high)
 
 
-def in_split(point: Point, curves: Curves) -> bool:
-    return any(low <= point.x <= high for low, high in curves.splits)
-
-
 def _azeotropes(canvas: Canvas, curves: Curves, position: Callable[[Point], Tuple[float, float]]) -> None:
     for point in curves.azeotropes:
-        if not in_split(point, curves):
-            canvas.mark(*position(point))
-            canvas.legend(azeotrope_words(point), "black", "mark")
+        canvas.mark(*position(point))
+        canvas.legend(azeotrope_words(point), "black", "mark")
     if curves.splits:
         canvas.legend("the liquid fails its trials: it splits in two", SPLIT_COLOR, "box")
 

@@ -13,6 +13,7 @@ from .refusals import line
 from .sheet import NamedBook
 
 NEAR_PURE = 1e-6  # an azeotrope nearer to a pure solvent isn't looked for
+FLAT = 1e-9  # of ln volatility
 SEARCH_STEPS = 60
 CLOSE = 1e-9  # step of x at which the search ends
 
@@ -41,10 +42,12 @@ class Setting:
 
 @dataclass(frozen=True)
 class Point:
-    """Liquid and vapor in equilibrium, by the first solvent's mole fractions."""
+    """Liquid x and vapor y in equilibrium, by the mole fractions of the first solvent, and of the second."""
 
     x: float
     y: float
+    x_second: float
+    y_second: float
     temperature: float
     pressure: float
 
@@ -55,6 +58,7 @@ class Curves:
     dew: List[Optional[Point]]
     splits: List[Tuple[float, float]]  # ranges of x in which the liquid fails its trials
     azeotropes: List[Point]
+    crossings: List[Point]  # y = x as well, but the liquid there fails its trials
     refused: List[int]  # numbers of the points that are missing
 
 
@@ -74,8 +78,8 @@ class Sweep:
         if blocks.refusal:
             self.refused.append(blocks.refusal)
             return None
-        liquid, vapor = blocks.real(answer.LIQUID + setting.first), blocks.real(answer.VAPOR + setting.first)
-        return Point(liquid, vapor, blocks.real(answer.T), blocks.real(answer.P))
+        fractions = (blocks.real(at + place) for place in (setting.first, setting.second) for at in (answer.LIQUID, answer.VAPOR))
+        return Point(*fractions, blocks.real(answer.T), blocks.real(answer.P))
 
     def bubble(self, x: float) -> Optional[Point]:
         return self.saturation(tasks.BUBBLE_PRESSURE, tasks.BUBBLE_TEMPERATURE, x)
@@ -101,7 +105,9 @@ def curves(core: Core, setting: Setting, points: int, with_dew: bool = True) -> 
     if not any(bubble):
         raise CoreRefusal(f"no point of the bubble curve has an answer; the first was {line(sweep.refused[0])}")
     refused = list(sweep.refused)
-    return Curves(bubble, dew, _ranges(grid, stable), azeotropes(sweep, bubble), refused)
+    found = azeotropes(sweep, bubble)
+    passing = [point for point in found if sweep.is_stable(point)]
+    return Curves(bubble, dew, _ranges(grid, stable), passing, [point for point in found if point not in passing], refused)
 
 
 def _ranges(grid: List[float], stable: List[bool]) -> List[Tuple[float, float]]:
@@ -119,15 +125,14 @@ def _ranges(grid: List[float], stable: List[bool]) -> List[Tuple[float, float]]:
 
 def volatility(point: Point) -> float:
     """ln of the relative volatility (y1/x1)/(y2/x2), whose sign changes at an azeotrope."""
-    inside = 0 < point.x < 1 and 0 < point.y < 1
-    return math.log(point.y / point.x) - math.log((1 - point.y) / (1 - point.x)) if inside else 0.0
+    inside = min(point.x, point.y, point.x_second, point.y_second) > 0
+    return math.log(point.y / point.x) - math.log(point.y_second / point.x_second) if inside else 0.0
 
 
 def azeotropes(sweep: Sweep, bubble: List[Optional[Point]]) -> List[Point]:
-    """Every sign change between neighbouring points, narrowed."""
-    inner = [point for point in bubble if point and 0 < point.x < 1]
-    ends = [sweep.bubble(NEAR_PURE), sweep.bubble(1 - NEAR_PURE)]
-    points = sorted([point for point in ends if point] + inner, key=lambda point: point.x)
+    """Every change of the sign of ln volatility, narrowed. Points too near to 0 are passed over: two solvents alike have no azeotrope."""
+    found = bubble + [sweep.bubble(NEAR_PURE), sweep.bubble(1 - NEAR_PURE)]
+    points = sorted((point for point in found if point and abs(volatility(point)) > FLAT), key=lambda point: point.x)
     return [_narrowed(sweep, a, b) for a, b in zip(points, points[1:]) if volatility(a) * volatility(b) < 0]
 
 

@@ -1,6 +1,7 @@
 """Numbers and tables as text."""
 
-from typing import List, Sequence
+import textwrap
+from typing import List, Sequence, Tuple
 
 from . import units
 
@@ -34,35 +35,23 @@ def counted(number: int, noun: str) -> str:
     return f"{number} {noun}" + ("" if number == 1 else "s")
 
 
-def fields(rows: Sequence[Sequence[str]]) -> List[str]:
-    """Name and value, a longer value going on below itself."""
-    width = max((len(name) for name, _ in rows), default=0)
-    lines = []
-    for name, value in rows:
-        first, *rest = value.split("\n")
-        lines.append(f"  {name:{width}}  {first}")
-        lines += [" " * (width + 4) + line for line in rest]
-    return lines
+def fields(rows: Sequence[Tuple[str, str]]) -> List[str]:
+    """Names and values, one below the other."""
+    width = max(len(name) for name, _ in rows)
+    return [f"  {name:{width}}  {value}" for name, value in rows]
 
 
 def table(heads: Sequence[str], rows: Sequence[Sequence[str]]) -> List[str]:
     """The first column to the left, numbers to the right."""
-    columns = list(zip(heads, *rows))
-    widths = [max(map(len, column)) for column in columns]
+    widths = [max(map(len, column)) for column in zip(heads, *rows)]
 
     def line(cells: Sequence[str]) -> str:
-        first, *rest = (f"{cell:<{width}}" if k == 0 else f"{cell:>{width}}" for k, (cell, width) in enumerate(zip(cells, widths)))
-        return ("  " + "   ".join([first] + rest)).rstrip()
+        numbers = [f"{cell:>{width}}" for cell, width in zip(cells[1:], widths[1:])]
+        return ("  " + "   ".join([f"{cells[0]:<{widths[0]}}"] + numbers)).rstrip()
 
-    return [line(heads)] + [line(row) for row in rows]
+    return [line(row) for row in (heads, *rows)]
 
 
-def wrapped(text: str, indent: str = "  ") -> List[str]:
-    """Lines of at most WIDTH characters."""
-    lines, line = [], indent.rstrip("\n")
-    for word in text.split():
-        if len(line) + len(word) + 1 > WIDTH and line.strip():
-            lines.append(line.rstrip())
-            line = indent
-        line += word + " "
-    return lines + [line.rstrip()]
+def wrapped(words: str) -> List[str]:
+    """Lines of at most WIDTH characters, indented by two."""
+    return textwrap.wrap(words, WIDTH, initial_indent="  ", subsequent_indent="  ", break_long_words=False, break_on_hyphens=False)

@@ -62,6 +62,20 @@ class Diagrams(InFolder):
         self.assertIn("points missing", self.said)
         self.assertIn("number 26", self.said)
 
+    def alike(self, energy: str) -> str:
+        """Two solvents with one vapor pressure."""
+        solvent = "[solvent {}]\ncas = {}\nvapor t_r = 500 K\nvapor reducing = 50 bar\nvapor range = 0 C to 480 K\nvapor term = -7 : 1\n"
+        pair = "[pair a b]\ntau a b = t1 {0} K\ntau b a = t1 {0} K\nalpha = 0.3\n"
+        return self.file("alike.txt", solvent.format("a", 1) + solvent.format("b", 2) + pair.format(energy))
+
+    def test_azeotrope_on_a_point_of_the_grid(self):
+        self.drawn("txy", "--book", self.alike("100"), "--pair", "a,b", "--pressure", "1bar")
+        self.assertIn("azeotrope x = 0.5000", self.said)
+
+    def test_ideal_pair_of_equals_has_no_azeotrope(self):
+        self.drawn("pxy", "--book", self.alike("0"), "--pair", "a,b", "--temperature", "70C")
+        self.assertIn("no azeotrope", self.said)
+
     def test_names_are_escaped(self):
         picture = Svg(10, 10, "a < b & c")
         picture.text(1, 1, 'x < y & "z"')

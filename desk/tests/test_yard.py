@@ -1,5 +1,7 @@
 """The sample yard against the world, its document, its fits, and the demonstration."""
 
+import contextlib
+import io
 import os
 import subprocess
 from pathlib import Path
@@ -16,7 +18,8 @@ from .support import ROOT, YARD, InFolder, sheet
 class SampleYard(InFolder):
     @classmethod
     def setUpClass(cls) -> None:
-        cls.findings = check(str(YARD), core.PROGRAM)
+        with contextlib.redirect_stderr(io.StringIO()):  # its progress line
+            cls.findings = check(str(YARD), core.PROGRAM)
 
     def test_boiling_points_and_azeotropes(self):
         findings = self.findings
