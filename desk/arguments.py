@@ -192,7 +192,7 @@ def _add_check_yard(commands) -> None:
     command = _add(
         commands,
         "check-yard",
-        "hold a yard's boiling points and azeotropes against the published ones in its text",
+        "hold a yard's boiling points and azeotropes against the published ones in its text (status 1 if one is too far off)",
         "./sheet check-yard",
         "./sheet check-yard --markdown",
     )

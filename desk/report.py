@@ -6,7 +6,7 @@ from typing import Callable, Dict, List
 from . import answer, refusals, text
 from .blocks import float_of, floats_at
 from .sheet import Sheet
-from .tasks import BUBBLE_TEMPERATURE, DEW_TEMPERATURE
+from .tasks import BUBBLE_PRESSURE, BUBBLE_TEMPERATURE, DEW_PRESSURE, DEW_TEMPERATURE
 
 RULE = "-" * text.WIDTH
 ENERGY_NAMES = (
@@ -16,6 +16,8 @@ ENERGY_NAMES = (
     ("excess entropy", " J/(mol K)"),
     ("excess heat capacity", " J/(mol K)"),
 )
+
+BUBBLE_POINTS, DEW_POINTS = (BUBBLE_PRESSURE, BUBBLE_TEMPERATURE), (DEW_PRESSURE, DEW_TEMPERATURE)
 
 Lines = List[str]
 
@@ -97,10 +99,11 @@ def _effort(sheet: Sheet) -> List:
 
 def _phases(sheet: Sheet) -> Lines:
     """Mole fractions of the solvents in the drum; a phase that isn't there has no column."""
-    liquid, vapor = answer.phases(sheet.question.task, sheet.blocks)
+    task = sheet.question.task
+    liquid, vapor = answer.phases(task, sheet.blocks)
     columns = [("feed", sheet.question.fractions)]
-    columns += [("liquid x", sheet.entries(answer.LIQUID))] * liquid
-    columns += [("vapor y", sheet.entries(answer.VAPOR))] * vapor
+    columns += [("first drop x" if task in DEW_POINTS else "liquid x", sheet.entries(answer.LIQUID))] * liquid
+    columns += [("first bubble y" if task in BUBBLE_POINTS else "vapor y", sheet.entries(answer.VAPOR))] * vapor
     rows = [[sheet.book.names[i]] + [text.fraction(values[i]) for _, values in columns] for i in sheet.present()]
     return text.table(["mole fractions"] + [name for name, _ in columns], rows)
 

@@ -1,5 +1,6 @@
 """The yard text: round trips, and what is said of a text that isn't a book."""
 
+import random
 import unittest
 
 from desk.book import decode, encode
@@ -122,3 +123,22 @@ class Text(unittest.TestCase):
                 with self.assertRaises(DeskError) as caught:
                     parse(SMALL.replace(old, new, 1))
                 self.assertIn(words, str(caught.exception))
+
+    def test_damaged_texts(self):
+        """A text with a few characters changed is refused in one line, or is a book that reads back."""
+        rng = random.Random(17)
+        counts = {True: 0, False: 0}
+        for _ in range(800):
+            characters = list(SMALL)
+            for _ in range(rng.randint(1, 2)):
+                place = rng.randrange(len(characters))
+                characters[place : place + rng.randint(0, 2)] = rng.choice("0123456789.eE+-=:[], #KC\n")
+            try:
+                book = parse("".join(characters)).book
+            except DeskError as error:
+                self.assertNotIn("\n", str(error))
+                counts[False] += 1
+            else:
+                self.assertEqual(decode(encode(book)), book)
+                counts[True] += 1
+        self.assertTrue(min(counts.values()) > 20, counts)
