@@ -13,9 +13,8 @@ BAD_USAGE, INTERRUPTED, NO_READER = DeskError.status, 130, 141  # the last two a
 
 
 def main(argv: Optional[List[str]] = None) -> int:
-    for stream in (sys.stdout, sys.stderr):
-        stream.reconfigure(encoding="utf-8", errors="backslashreplace")
     try:
+        _prepare_streams()
         status = run(sys.argv[1:] if argv is None else argv)
         sys.stdout.flush()
         return status
@@ -31,6 +30,14 @@ def main(argv: Optional[List[str]] = None) -> int:
         return complain(f"{error.strerror or error}")
     except Exception as error:  # a fault of this tool: still one line
         return complain(f"internal error, {type(error).__name__}: {error}")
+
+
+def _prepare_streams() -> None:
+    """UTF-8 whatever the locale says."""
+    if sys.stdout is None:
+        raise DeskError("standard output is closed")
+    for stream in filter(None, (sys.stdout, sys.stderr)):
+        stream.reconfigure(encoding="utf-8", errors="backslashreplace")
 
 
 def run(argv: List[str]) -> int:

@@ -140,11 +140,11 @@ def _note_source(section: Section, yard: Yard, key: Tuple[str, ...]) -> None:
 
 
 def _boiling_check(text: str, what: str) -> BoilingCheck:
-    match = re.fullmatch(r"(.+?) at (.+?) within (.+)", text)
+    match = re.fullmatch(r"(.+?) at (.+?) within (\S+) K", text)
     if not match:
-        raise DeskError(f"{what} boiling point: {quoted(text)} is not 'T at P within DIFFERENCE', as in 351.44 K at 101325 Pa within 0.5 K")
+        raise DeskError(f"{what} boiling point: {quoted(text)} is not 'T at P within D K', as in 351.44 K at 101325 Pa within 0.5 K")
     kelvin, pascals, within = match.groups()
-    return BoilingCheck(units.temperature(kelvin, what), units.pressure(pascals, what), units.temperature(within, what))
+    return BoilingCheck(units.temperature(kelvin, what), units.pressure(pascals, what), units.number(within, what))
 
 
 def _mixture_check(text: str, what: str, pair: Tuple[str, str]) -> MixtureCheck:

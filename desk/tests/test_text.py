@@ -73,6 +73,8 @@ BAD = (
     ("inferred = yes", "colour = blue", "has no key 'colour'"),
     ("inferred = yes", "no equals sign", "is not 'key = value'"),
     ("[solvent a]", "cas = 1\n[solvent a]", "before the first heading"),
+    ("cas = 64-17-5", "cas = 64-17-5\nboiling point = 350 K at 1 bar within 0.5 C", "is not 'T at P within D K'"),
+    ("inferred = yes", "inferred = yes\nazeotrope = c 0.5, 350 K at 1 bar", "is not 'NAME x, T at P'"),
     ("[solvent a]", "[solvent a_b,c]", "can't be a name"),
     ("[solvent a]", "[solvent 64-17-5]", "can't be a name"),
     (SMALL[SMALL.index("[pair") :], "", "[pair a b] is missing"),

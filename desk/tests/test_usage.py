@@ -116,6 +116,11 @@ class BadInput(InFolder):
             self.assertEqual(os.waitstatus_to_exitcode(status), 2)
             self.assertEqual((self.folder / "err").read_text(), "sheet: No space left on device\n")
 
+    def test_closed_output(self):
+        status = os.system(f"cd {ROOT} && ./sheet show yard/yard.txt >&- 2>{self.folder}/err")
+        self.assertEqual(os.waitstatus_to_exitcode(status), 2)
+        self.assertEqual((self.folder / "err").read_text(), "sheet: standard output is closed\n")
+
     def test_ascii_terminal(self):
         run = sheet_process("flash", *PAIR, *TP, LC_ALL="C", PYTHONIOENCODING="ascii", PYTHONUTF8="0")
         self.assertEqual((run.status, run.err), (0, ""))
