@@ -92,6 +92,7 @@ def _add_task(commands, task: tasks.Task) -> None:
         _add_options(command)
     command.add_argument("--json", action="store_true", help="machine-readable, with the exact bits of each float")
     command.add_argument("--strike", action="store_true", help="ask again with the drum's solvents alone, and compare word by word")
+    command.add_argument("--words", action="store_true", help="with --strike: list every word that was compared")
 
 
 def _add_book_options(command: Parser) -> None:
@@ -149,7 +150,7 @@ def _add_strike(commands) -> None:
         "strike",
         "ask a question with and without the solvents that aren't in the drum, and compare the two sheets word by word",
         "./sheet strike flash --drum ethanol=0.5,water=0.5 --temperature 78.29C --pressure 90kPa",
-        "./sheet strike excess --drum acetone=0.2,methanol=0.8 --temperature 50C",
+        "./sheet strike excess --drum acetone=0.2,methanol=0.8 --temperature 50C --words",
     )
     command.add_argument("task", choices=sorted(tasks.BY_COMMAND), metavar="COMMAND", help="one of the nine; its own options follow (./sheet COMMAND --help)")
 

@@ -1,6 +1,7 @@
 """Running a command: exit status 0 for an answer, 1 for a refusal of the core, 2 for bad usage, each complaint in one line."""
 
 import argparse
+import contextlib
 import os
 import sys
 from typing import Callable, Dict, List, Optional
@@ -56,7 +57,8 @@ def parsed(argv: List[str]) -> argparse.Namespace:
 
 def complain(message: str, status: int = BAD_USAGE) -> int:
     one_line = " ".join(message.split())
-    print(f"sheet: {one_line}", file=sys.stderr)
+    with contextlib.suppress(OSError):  # nobody reads standard error
+        print(f"sheet: {one_line}", file=sys.stderr, flush=True)
     return status
 
 

@@ -56,9 +56,9 @@ def _ended(sheet: Sheet) -> int:
 def _strike(arguments: argparse.Namespace, sheet: Sheet) -> int:
     struck = strikereport.struck(sheet, arguments.program)
     if arguments.json:
-        sys.stdout.write(jsonsheet.dumped({**jsonsheet.document(sheet), "strike": strikereport.document(struck)}))
+        sys.stdout.write(jsonsheet.dumped({**jsonsheet.document(sheet), "strike": strikereport.document(struck, arguments.words)}))
     else:
-        sys.stdout.write(report.render(sheet) + "\n" + strikereport.render(struck))
+        sys.stdout.write(report.render(sheet) + "\n" + strikereport.render(struck, arguments.words))
     if struck.comparisons is not None and not struck.equal:
         sys.stdout.flush()
         print("sheet: the two sheets differ", file=sys.stderr)

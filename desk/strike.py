@@ -2,10 +2,10 @@
 (document 01, "The shorter sheet")."""
 
 from dataclasses import dataclass
-from typing import List, Sequence, Tuple
+from typing import List, NamedTuple, Sequence, Tuple
 
 from . import question as places
-from .answer import LIQUID, TRIAL_COMPONENT, TRIAL_FRACTIONS, VAPOR, Blocks
+from .answer import LIQUID, TRIAL_COMPONENT, TRIAL_FRACTIONS, TRIALS, VAPOR, Blocks
 from .blocks import Words, float_of, joined, sealed, split
 from .book import due_pairs
 
@@ -43,13 +43,27 @@ def shorter_question(words: Words, kept: List[int]) -> bytes:
     return sealed(shorter)
 
 
+class Compared(NamedTuple):
+    """A word of the longer sheet and its place, beside that of the shorter sheet. Block 0 is the answer, the trials follow."""
+
+    block: int
+    place: int
+    shorter_place: int
+    word: int
+    shorter_word: int
+    equal: bool
+
+
 @dataclass(frozen=True)
 class Comparison:
-    """One group of words: its name, how many were compared, and those that differ (block, word in the longer, word in the shorter)."""
+    """One of the groups of words that document 01 lists."""
 
     name: str
-    count: int
-    differing: Tuple[Tuple[int, int, int], ...]
+    words: Tuple[Compared, ...]
+
+    @property
+    def differing(self) -> List[Compared]:
+        return [compared for compared in self.words if not compared.equal]
 
 
 def same(a: int, b: int) -> bool:
@@ -58,20 +72,20 @@ def same(a: int, b: int) -> bool:
 
 
 def compare(longer: Blocks, shorter: Blocks, kept: List[int]) -> List[Comparison]:
-    head = (0, longer.head, shorter.head)
+    head = [(0, longer.head, shorter.head)]
     groups = [
-        _group("answer, words 0 to 13", [head], _plain(range(0, 14))),
-        _group("answer, words 30 to 62", [head], _plain(range(30, 63))),
-        _group("words 14 to 21, the kept solvents (liquid, or ln gamma)", [head], _moved(LIQUID, kept)),
-        _group("words 22 to 29, the kept solvents (vapor, or slopes)", [head], _moved(VAPOR, kept)),
+        _group("answer, words 0 to 13", head, _plain(range(0, 14))),
+        _group("answer, words 30 to 62", head, _plain(range(30, 63))),
+        _group("words 14 to 21, the kept solvents (liquid, or ln gamma)", head, _moved(LIQUID, kept)),
+        _group("words 22 to 29, the kept solvents (vapor, or slopes)", head, _moved(VAPOR, kept)),
     ]
-    trials = [(k, a, b) for k, (a, b) in enumerate(zip(longer.trials, shorter.trials), 1)]
     if longer.trials or shorter.trials:
+        trials = [(k, a, b) for k, (a, b) in enumerate(zip(longer.trials, shorter.trials), 1)]
         groups += [
-            _count_of_trials(longer, shorter),
+            Comparison("number of trials", (_counted(len(longer.trials), len(shorter.trials)),)),
             _group("trials, words 0, 2 to 4 and 13 to 62", trials, _plain([0, 2, 3, 4, *range(13, 63)])),
             _group("trials, words 5 to 12, the kept solvents", trials, _moved(TRIAL_FRACTIONS, kept)),
-            _components(trials, kept),
+            Comparison("trials, word 1, the component at its new place", tuple(_component(*trial, kept) for trial in trials)),
         ]
     return groups
 
@@ -84,17 +98,16 @@ def _moved(at: int, kept: List[int]) -> List[Tuple[int, int]]:
     return [(at + i, at + place) for place, i in enumerate(kept)]
 
 
-def _group(name: str, blocks, words: List[Tuple[int, int]]) -> Comparison:
-    differing = tuple((k, a, b) for k, longer, shorter in blocks for a, b in words if not same(longer[a], shorter[b]))
-    return Comparison(name, len(blocks) * len(words), differing)
+def _group(name: str, blocks: List[Tuple[int, Words, Words]], pairs: List[Tuple[int, int]]) -> Comparison:
+    compared = (Compared(k, a, b, longer[a], shorter[b], same(longer[a], shorter[b])) for k, longer, shorter in blocks for a, b in pairs)
+    return Comparison(name, tuple(compared))
 
 
-def _count_of_trials(longer: Blocks, shorter: Blocks) -> Comparison:
-    equal = len(longer.trials) == len(shorter.trials)
-    return Comparison("number of trials", 1, () if equal else ((0, 12, 12),))
+def _counted(longer: int, shorter: int) -> Compared:
+    return Compared(0, TRIALS, TRIALS, longer, shorter, longer == shorter)
 
 
-def _components(trials, kept: List[int]) -> Comparison:
-    """The component of a trial is a kept solvent, given by its new place."""
-    differing = tuple((k, 1, 1) for k, a, b in trials if a[TRIAL_COMPONENT] not in kept or kept.index(a[TRIAL_COMPONENT]) != b[TRIAL_COMPONENT])
-    return Comparison("trials, word 1, the component at its new place", len(trials), differing)
+def _component(k: int, longer: Words, shorter: Words, kept: List[int]) -> Compared:
+    """A kept solvent, given by its new place."""
+    a, b = longer[TRIAL_COMPONENT], shorter[TRIAL_COMPONENT]
+    return Compared(k, TRIAL_COMPONENT, TRIAL_COMPONENT, a, b, a in kept and kept.index(a) == b)

@@ -5,10 +5,11 @@ from pathlib import Path
 from typing import Any, Dict, List, Optional
 
 from . import refusals, text
+from .answer import REFUSAL
 from .blocks import split
 from .core import Core
 from .sheet import Sheet
-from .strike import WHY_NOT_DEW_TEMPERATURE, Comparison, compare, kept_places, shorter_book, shorter_question
+from .strike import WHY_NOT_DEW_TEMPERATURE, Compared, Comparison, compare, kept_places, shorter_book, shorter_question
 from .tasks import DEW_TEMPERATURE
 
 
@@ -46,26 +47,42 @@ def struck(sheet: Sheet, program: Path) -> Struck:
 
 def _acceptance(number: int) -> Comparison:
     name = "the shorter question is accepted" + (f" ({refusals.line(number)})" if number else "")
-    return Comparison(name, 1, ((0, 2, 2),) if number else ())
+    return Comparison(name, (Compared(0, REFUSAL, REFUSAL, 0, number, number == 0),))
 
 
-def render(result: Struck) -> str:
+def render(result: Struck, with_words: bool = False) -> str:
     lines = ["STRIKING the solvents that aren't in the drum"]
     if result.comparisons is None:
         return "\n".join(lines + text.wrapped(result.reason)) + "\n"
     lines.append(f"  kept: {', '.join(result.names)}; the book goes from {result.blocks_before} to {result.blocks_after} blocks")
-    rows = [(group.name, str(group.count), str(len(group.differing))) for group in result.comparisons]
+    rows = [(group.name, str(len(group.words)), str(len(group.differing))) for group in result.comparisons]
     lines += text.table(("compared", "words", "differing"), rows)
-    lines += [f"  differs: {group.name}: block {k}, word {a} (shorter: {b})" for group in result.comparisons for k, a, b in group.differing]
+    words = [word for group in result.comparisons for word in (group.words if with_words else group.differing)]
+    if words:
+        lines += [""] + _word_table(words)
     lines.append("  the two sheets are equal, word by word" if result.equal else "  THE TWO SHEETS DIFFER")
     return "\n".join(lines) + "\n"
 
 
-def document(result: Struck) -> Dict[str, Any]:
-    groups = result.comparisons
+def _word_table(words: List[Compared]) -> List[str]:
+    heads = ("block", "word", "shorter's", "longer sheet", "shorter sheet", "equal")
+    return text.table(heads, [[str(cell) for cell in word[:3]] + [f"{word.word:016x}", f"{word.shorter_word:016x}", _yes(word.equal)] for word in words])
+
+
+def _yes(equal: bool) -> str:
+    return "yes" if equal else "NO"
+
+
+def document(result: Struck, with_words: bool = False) -> Dict[str, Any]:
     return {
         "kept": result.names,
-        "equal": result.equal if groups is not None else None,
+        "equal": result.equal if result.comparisons is not None else None,
         "reason": result.reason or None,
-        "compared": [{"words": group.name, "count": group.count, "differing": len(group.differing)} for group in groups or []],
+        "compared": [_group_document(group, with_words) for group in result.comparisons or []],
     }
+
+
+def _group_document(group: Comparison, with_words: bool) -> Dict[str, Any]:
+    counts = {"words": group.name, "count": len(group.words), "differing": len(group.differing)}
+    listed = [{**word._asdict(), "word": f"{word.word:016x}", "shorter_word": f"{word.shorter_word:016x}"} for word in group.words]
+    return {**counts, "each": listed} if with_words else counts

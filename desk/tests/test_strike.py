@@ -14,7 +14,7 @@ from desk.openbook import open_book
 from desk.question import Question
 from desk.strike import compare, kept_places, same, shorter_book, shorter_question
 
-from .support import YARD, sheet
+from .support import YARD, InFolder, sheet
 
 
 def drums():
@@ -33,7 +33,7 @@ def asked(task: tasks.Task, fractions) -> Question:
     return Question(task, fractions, 345.0 if task.takes_temperature else None, 101325.0 if task.takes_pressure else None, k_values)
 
 
-class Striking(unittest.TestCase):
+class Striking(InFolder):
     def test_drums(self):
         book = open_book(str(YARD))
         compared = dict.fromkeys(tasks.BY_COMMAND, 0)
@@ -59,6 +59,24 @@ class Striking(unittest.TestCase):
         self.assertEqual((run.status, found["equal"], found["kept"]), (0, True, ["methanol", "acetone"]))
         flag = sheet("stability", "--strike", "--drum", "acetone=0.2,methanol=0.8", "--temperature", "50C", "--json")
         self.assertEqual(flag.out, run.out)
+
+    def test_every_word_is_listed(self):
+        asked = ("strike", "flash", "--drum", "ethanol=0.5,water=0.5", "--temperature", "78C", "--pressure", "1bar", "--words")
+        groups = json.loads(sheet(*asked, "--json").out)["strike"]["compared"]
+        self.assertEqual([len(group["each"]) for group in groups], [group["count"] for group in groups])
+        run = sheet(*asked)
+        rows = [line.split() for line in run.out.splitlines() if line.endswith("yes") and len(line.split()) == 6 and line.split()[0].isdigit()]
+        self.assertEqual(len(rows), sum(group["count"] for group in groups))
+        self.assertTrue(all(row[3] == row[4] for row in rows if row[1] != "1" or row[0] == "0"))
+
+    def test_difference_is_shown(self):
+        """A program that answers with the size of its book can't keep the promise."""
+        answered = "words = [9, 1, 0, 0, os.path.getsize('book.bin')] + [0] * 58"
+        program = self.program(["import os", "sys.stdin.buffer.read()", answered, "sys.stdout.buffer.write(struct.pack('<64Q', *words, sum(words)))"])
+        run = sheet("strike", "excess", "--drum", "ethanol=1", "--temperature", "50C", "--program", program)
+        self.assertEqual((run.status, run.err), (1, "sheet: the two sheets differ\n"))
+        self.assertIn("THE TWO SHEETS DIFFER", run.out)
+        self.assertRegex(run.out, r"0 +4 +4 +0000000000002c00 +0000000000000400 +NO")
 
     def test_whole_drum(self):
         parts = ",".join(f"{name}=0.125" for name in ("water", "ethanol", "methanol", "acetone")) + ",2-propanol=0.25,toluene=0.25"
