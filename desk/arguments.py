@@ -177,7 +177,7 @@ def _add_diagram(commands) -> None:
 
 def _add_book(commands) -> None:
     command = _add(commands, "book", "make book.bin from a yard text", "./sheet book yard/yard.txt -o book.bin")
-    command.add_argument("text", help="the yard text")
+    command.add_argument("text", help="the yard text; docs/GUIDE.md lists its keys, yard/yard.txt is one")
     command.add_argument("-o", "--output", required=True, metavar="FILE", help="the book.bin to write")
 
 

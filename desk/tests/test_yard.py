@@ -2,6 +2,7 @@
 
 import contextlib
 import io
+import itertools
 import os
 import subprocess
 from pathlib import Path
@@ -9,7 +10,8 @@ from unittest import mock
 
 from desk import core
 from desk.errors import DeskError
-from desk.openbook import open_yard
+from desk.openbook import named, open_yard
+from desk.sweep import Setting, Sweep, azeotropes
 from desk.yardcheck import check, markdown
 
 from .support import ROOT, YARD, InFolder, sheet
@@ -31,6 +33,18 @@ class SampleYard(InFolder):
         ethanol, acetone = azeotropes["ethanol and water"], azeotropes["acetone and methanol"]
         self.assertTrue(351.2 <= ethanol.computed <= 351.4 and 0.89 <= ethanol.fraction <= 0.90, ethanol)
         self.assertTrue(328.2 <= acetone.computed <= 328.7 and 0.78 <= acetone.fraction <= 0.80, acetone)
+
+    def test_no_other_azeotropes(self):
+        """At 101325 Pa the other pairs have none, as published; water and toluene split."""
+        yard = open_yard(str(YARD))
+        book = named(yard, str(YARD))
+        known = {frozenset(pair) for pair in yard.azeotropes} | {frozenset(("water", "toluene"))}
+        others = [pair for pair in itertools.combinations(yard.names, 2) if frozenset(pair) not in known]
+        self.assertEqual(len(others), 8)
+        with core.Core(book.content) as program:
+            for pair in others:
+                sweep = Sweep(program, Setting(book, *map(book.names.index, pair), pressure=101325.0))
+                self.assertEqual(azeotropes(sweep, [sweep.bubble(k / 10) for k in range(11)]), [], pair)
 
     def test_wrong_points_are_seen(self):
         text = YARD.read_text(encoding="utf-8").replace("351.44 K at 101325", "352.44 K at 101325")
