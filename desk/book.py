@@ -1,0 +1,153 @@
+"""The book: records of solvents and pairs, their blocks, and reading them back (document 01, "The book")."""
+
+from dataclasses import dataclass
+from typing import List, Optional, Tuple
+
+from .blocks import BLOCK, CHECK, Words, floats_at, joined, put_floats, split
+from .errors import DeskError
+
+MOST_SOLVENTS = 8
+MOST_TERMS = 8
+VERSION = 1
+KIND_HEAD, KIND_SOLVENT, KIND_PAIR = 1, 2, 3
+
+# first word of a solvent's two records, and the places in a record
+VAPOR_PRESSURE, DENSITY = 3, 24
+COUNT, COEFFICIENTS, EXPONENTS = 4, 5, 13
+# places in a pair block
+TAU_IJ, TAU_JI, ALPHA_IJ, ALPHA_JI, FLAG, BOUNDS, INFERRED = 3, 7, 11, 13, 15, 16, 18
+
+
+@dataclass(frozen=True)
+class Correlation:
+    """p = reducing exp((t_r/T) Σ n θ^exponent) with θ = 1 − T/t_r for the vapor pressure (Pa, K); of a density only the range is used."""
+
+    t_r: float
+    reducing: float
+    low: float
+    high: float
+    terms: Tuple[Tuple[float, float], ...]
+
+
+@dataclass(frozen=True)
+class Solvent:
+    cas: int
+    vapor_pressure: Correlation
+    density: Correlation
+
+
+@dataclass(frozen=True)
+class Interval:
+    """Regression interval (K) of a pair, and whether it was inferred instead of reported."""
+
+    low: float
+    high: float
+    inferred: bool
+
+
+@dataclass(frozen=True)
+class Pair:
+    """τ = t0 + t1/T + t2 ln T + t3 T both ways, α = a0 + a1 T (T in K)."""
+
+    tau_ij: Tuple[float, float, float, float]
+    tau_ji: Tuple[float, float, float, float]
+    alpha: Tuple[float, float]
+    interval: Optional[Interval] = None
+
+    def turned(self) -> "Pair":
+        """The same pair seen from the other solvent."""
+        return Pair(self.tau_ji, self.tau_ij, self.alpha, self.interval)
+
+
+@dataclass(frozen=True)
+class Book:
+    solvents: Tuple[Solvent, ...]
+    pairs: Tuple[Pair, ...]  # in the order of due_pairs
+
+
+def due_pairs(n: int) -> List[Tuple[int, int]]:
+    """(0,1), (0,2) and on: the order of the pair blocks."""
+    return [(i, j) for i in range(n) for j in range(i + 1, n)]
+
+
+def block_count(n: int) -> int:
+    return 1 + n + n * (n - 1) // 2
+
+
+def encode(book: Book) -> bytes:
+    n = len(book.solvents)
+    head = [KIND_HEAD, VERSION, n]
+    solvents = [_solvent_words(i, solvent) for i, solvent in enumerate(book.solvents)]
+    pairs = [_pair_words(i, j, pair) for (i, j), pair in zip(due_pairs(n), book.pairs)]
+    return joined([head] + solvents + pairs)
+
+
+def _solvent_words(index: int, solvent: Solvent) -> Words:
+    words = [KIND_SOLVENT, index, solvent.cas] + [0] * (CHECK - 3)
+    for at, record in ((VAPOR_PRESSURE, solvent.vapor_pressure), (DENSITY, solvent.density)):
+        put_floats(words, at, (record.t_r, record.reducing, record.low, record.high))
+        words[at + COUNT] = len(record.terms)
+        put_floats(words, at + COEFFICIENTS, (n for n, _ in record.terms))
+        put_floats(words, at + EXPONENTS, (exponent for _, exponent in record.terms))
+    return words
+
+
+def _pair_words(i: int, j: int, pair: Pair) -> Words:
+    words = [KIND_PAIR, i, j] + [0] * (CHECK - 3)
+    for at, values in ((TAU_IJ, pair.tau_ij), (TAU_JI, pair.tau_ji), (ALPHA_IJ, pair.alpha), (ALPHA_JI, pair.alpha)):
+        put_floats(words, at, values)
+    if pair.interval:
+        words[FLAG] = 1
+        put_floats(words, BOUNDS, (pair.interval.low, pair.interval.high))
+        words[INFERRED] = int(pair.interval.inferred)
+    return words
+
+
+def solvent_count(content: bytes) -> int:
+    """n of a file that has the blocks of a book. Checks and floats are left to the core's own questions."""
+    blocks = split(content)
+    if not blocks or len(content) % BLOCK:
+        raise DeskError(f"it has {len(content)} bytes, and a book is whole blocks of {BLOCK}")
+    n = blocks[0][2]
+    if blocks[0][:2] != [KIND_HEAD, VERSION] or not 1 <= n <= MOST_SOLVENTS:
+        raise DeskError("its first block is not that of a book of version 1 with 1 to 8 solvents")
+    if len(blocks) != block_count(n):
+        raise DeskError(f"it has {len(blocks)} blocks, and a book of {n} solvents has {block_count(n)}")
+    return n
+
+
+def cas_numbers(content: bytes) -> List[int]:
+    n = solvent_count(content)
+    return [words[2] for words in split(content)[1 : 1 + n]]
+
+
+def decode(content: bytes) -> Book:
+    """The records of an accepted book. Words that document 01 doesn't name are passed over."""
+    n = solvent_count(content)
+    blocks = split(content)
+    return Book(tuple(map(_solvent, blocks[1 : 1 + n])), tuple(map(_pair, blocks[1 + n :])))
+
+
+def common_range(book: Book) -> Tuple[float, float]:
+    """The temperatures (K) that lie in every solvent's two ranges."""
+    records = [record for solvent in book.solvents for record in (solvent.vapor_pressure, solvent.density)]
+    return max(record.low for record in records), min(record.high for record in records)
+
+
+def _solvent(words: Words) -> Solvent:
+    return Solvent(words[2], _correlation(words, VAPOR_PRESSURE), _correlation(words, DENSITY))
+
+
+def _correlation(words: Words, at: int) -> Correlation:
+    count = words[at + COUNT]
+    if not 1 <= count <= MOST_TERMS:
+        raise DeskError(f"solvent {words[1]} has {count} terms, and 1 to 8 are due")
+    coefficients = floats_at(words, at + COEFFICIENTS, count)
+    exponents = floats_at(words, at + EXPONENTS, count)
+    return Correlation(*floats_at(words, at, 4), tuple(zip(coefficients, exponents)))
+
+
+def _pair(words: Words) -> Pair:
+    interval = Interval(*floats_at(words, BOUNDS, 2), words[INFERRED] == 1) if words[FLAG] == 1 else None
+    tau_ij, tau_ji = (tuple(floats_at(words, at, 4)) for at in (TAU_IJ, TAU_JI))
+    return Pair(tau_ij, tau_ji, tuple(floats_at(words, ALPHA_IJ, 2)), interval)

@@ -1,0 +1,19 @@
+"""What goes wrong outside an answer: one line for the user, and the exit status."""
+
+
+class DeskError(Exception):
+    """Bad usage, a bad file or a program that can't be run. The message is the one line that is shown."""
+
+    status = 2
+
+
+class CoreRefusal(DeskError):
+    """The core refused, and there is no sheet that could say so."""
+
+    status = 1
+
+
+def quoted(text: str, most: int = 60) -> str:
+    """Foreign text in a message, cut where it is long."""
+    text = text.strip()
+    return f"'{text if len(text) <= most else text[: most - 3] + '...'}'"

@@ -1,0 +1,33 @@
+"""A book's solvents and pairs as a list."""
+
+from . import text, units
+from .book import Pair, due_pairs
+from .yard import Yard
+
+
+def listing(yard: Yard) -> str:
+    n = len(yard.names)
+    lines = [text.counted(n, "solvent")] + _solvents(yard)
+    pairs = [(yard.names[i], yard.names[j], pair) for (i, j), pair in zip(due_pairs(n), yard.book.pairs)]
+    if pairs:
+        lines += ["", text.counted(len(pairs), "pair")] + text.table(("pair", "alpha", "interval, K", "inferred"), [_pair_row(*pair) for pair in pairs])
+    if yard.sources:
+        lines += ["", "sources"]
+        for key, source in yard.sources.items():
+            lines += text.wrapped(f"{' and '.join(key)}: {source}")
+    return "\n".join(lines) + "\n"
+
+
+def _solvents(yard: Yard):
+    rows = []
+    for name, solvent in zip(yard.names, yard.book.solvents):
+        ranges = [f"{record.low:g} to {record.high:g}" for record in (solvent.vapor_pressure, solvent.density)]
+        rows.append((name, units.cas_text(solvent.cas), *ranges, str(len(solvent.vapor_pressure.terms))))
+    return text.table(("solvent", "CAS", "vapor pressure, K", "density, K", "terms"), rows)
+
+
+def _pair_row(first: str, second: str, pair: Pair):
+    interval = pair.interval
+    alpha = f"{pair.alpha[0]:g}" + (f" + {pair.alpha[1]:g} T" if pair.alpha[1] else "")
+    bounds = f"{interval.low:g} to {interval.high:g}" if interval else "none"
+    return f"{first} and {second}", alpha, bounds, "yes" if interval and interval.inferred else "no"

@@ -1,0 +1,1 @@
+"""Tests of the desk's tool: scripts/desk-tests runs them."""

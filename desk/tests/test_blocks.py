@@ -1,0 +1,102 @@
+"""The encoder against the blocks of the reference, bit for bit, and reading back."""
+
+import os
+import shutil
+import subprocess
+import unittest
+from pathlib import Path
+from typing import List
+
+from desk import book as books
+from desk.blocks import BLOCK, bits_of, check_right, sealed, split, words_of
+from desk.errors import DeskError
+from desk.openbook import open_yard
+from desk.question import Question
+from desk.tasks import FLASH
+
+from . import cases
+from .support import GOLDEN, ROOT, STORE, SAMPLE
+
+STORED = GOLDEN / "blocks.txt"
+RUST = Path(os.environ.get("ZEKTONK_RUST", ROOT.parent / "shared" / "docs" / "src"))
+REFERENCE = ROOT / "reference"
+
+
+def lines() -> List[str]:
+    return [cases.book_line(book) for book in cases.books()] + [cases.question_line(question) for question in cases.questions()]
+
+
+def encoded() -> List[bytes]:
+    return [books.encode(book) for book in cases.books()] + [question.block() for question in cases.questions()]
+
+
+def bytes_of(line: str) -> bytes:
+    """A line of the reference: b and the count of bytes, then words; z and a count for zero words in a row."""
+    count, *words = line.split()
+    numbers: List[int] = []
+    for word in words:
+        numbers += [0] * int(word[1:]) if word.startswith("z") else [int(word, 16)]
+    content = b"".join(number.to_bytes(8, "little") for number in numbers)
+    assert count == f"b{len(content)}"
+    return content
+
+
+def reference_at_hand() -> bool:
+    return shutil.which("cargo") is not None and (RUST / "crates").is_dir()
+
+
+def from_reference() -> str:
+    settings = {**os.environ, "ZEKTONK_RUST": str(RUST)}
+    build = ["cargo", "build", "--quiet", "--manifest-path", str(REFERENCE / "Cargo.toml"), "--bin", "encode"]
+    subprocess.run(build, check=True, env=settings, capture_output=True)
+    program = REFERENCE / "target" / "debug" / "encode"
+    return subprocess.run([program], input="\n".join(lines()) + "\n", check=True, capture_output=True, text=True).stdout
+
+
+class Encoder(unittest.TestCase):
+    def assert_equal_to(self, text: str) -> None:
+        due_bytes = [bytes_of(line) for line in text.splitlines()]
+        self.assertEqual(len(due_bytes), len(lines()))
+        for line, due, found in zip(lines(), due_bytes, encoded()):
+            self.assertEqual(due, found, line[:100])
+
+    def test_stored_blocks_of_the_reference(self):
+        self.assert_equal_to(STORED.read_text())
+
+    @unittest.skipUnless(reference_at_hand(), "cargo or the Rust source is not at hand; the stored blocks are compared all the same")
+    def test_blocks_of_the_reference(self):
+        text = from_reference()
+        if STORE:
+            STORED.write_text(text)
+        self.assert_equal_to(text)
+        self.assertEqual(text, STORED.read_text())
+
+    def test_sample_of_the_program(self):
+        still = ROOT / "crates" / "still"
+        self.assertEqual(books.encode(open_yard(str(SAMPLE)).book), (still / "data" / "book.bin").read_bytes())
+        self.assertEqual(Question(FLASH, (0.5, 0.5), 351.44, 90000.0).block(), (still / "stdin").read_bytes())
+
+
+class Reading(unittest.TestCase):
+    def test_books_read_back(self):
+        for book in cases.books():
+            again = books.decode(books.encode(book))
+            self.assertEqual(repr(again), repr(book))  # repr tells -0.0 from 0.0
+            self.assertEqual(books.encode(again), books.encode(book))
+
+    def test_not_a_book(self):
+        good = books.encode(cases.books()[0])
+        head = split(good)[0]
+        damaged = [b"", good[:-1], good + b"\0" * BLOCK, good[:BLOCK]]
+        damaged += [sealed(words) + good[BLOCK:] for words in ([2] + head[1:], head[:1] + [2] + head[2:], head[:2] + [9] + head[3:], head[:2] + [0] + head[3:])]
+        for content in damaged:
+            with self.assertRaises(DeskError):
+                books.decode(content)
+
+    def test_words(self):
+        self.assertEqual(bits_of(float("nan")), 0x7FF8000000000000)
+        self.assertEqual(bits_of(-float("nan")), 0x7FF8000000000000)
+        block = words_of(sealed([2**64 - 1, 2**64 - 1]))
+        self.assertTrue(check_right(block))
+        self.assertEqual(block[63], 2**64 - 2)
+        self.assertFalse(check_right([1] + block[1:]))

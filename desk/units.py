@@ -1,0 +1,111 @@
+"""Temperatures and pressures with their units, read as decimals and rounded once to a float; CAS numbers."""
+
+import math
+import re
+from decimal import Decimal
+from fractions import Fraction
+from typing import Dict
+
+from .errors import DeskError, quoted
+
+CELSIUS_ZERO = Fraction("273.15")
+# Pa; the conventional millimetre of mercury
+PRESSURE_UNITS: Dict[str, Fraction] = {
+    "Pa": Fraction(1),
+    "kPa": Fraction(1000),
+    "bar": Fraction(100000),
+    "mmHg": Fraction("133.322387415"),
+}
+KELVIN_UNITS = ("K",)
+CELSIUS_UNITS = ("C", "°C", "degC")
+
+_NUMBER = r"[+-]?(?:\d+(?:\.\d*)?|\.\d+)(?:[eE][+-]?\d{1,4})?"
+_QUANTITY = re.compile(rf"\s*({_NUMBER})\s*([^\d\s].*?)?\s*", re.ASCII)
+_CAS = re.compile(r"(\d{2,7})-(\d{2})-(\d)", re.ASCII)
+_DIGITS = re.compile(r"\d{1,20}", re.ASCII)
+
+
+def number(text: str, what: str) -> float:
+    """A finite float from a decimal number; -0 keeps its sign."""
+    match = re.fullmatch(_NUMBER, text.strip(), re.ASCII)
+    if not match:
+        raise DeskError(f"{what}: {quoted(text)} is not a number")
+    return _finite(float(text), text, what)
+
+
+def whole(text: str, what: str) -> int:
+    text = text.strip()
+    if not _DIGITS.fullmatch(text) or int(text) >= 2**64:
+        raise DeskError(f"{what}: {quoted(text)} is not a whole number from 0 to 2^64 - 1")
+    return int(text)
+
+
+def temperature(text: str, what: str = "temperature") -> float:
+    """Kelvin from a number with K, C or °C."""
+    value, unit = _quantity(text, what, "K, C or °C, as in 351.44K or 78.29C")
+    if unit in KELVIN_UNITS:
+        return _finite(float(value), text, what)
+    if unit in CELSIUS_UNITS:
+        return _rounded(Fraction(value) + CELSIUS_ZERO, text, what)
+    raise DeskError(f"{what}: unit {quoted(unit)} in {quoted(text)} is not K, C or °C")
+
+
+def pressure(text: str, what: str = "pressure") -> float:
+    """Pascals from a number with Pa, kPa, bar or mmHg."""
+    value, unit = _quantity(text, what, "Pa, kPa, bar or mmHg, as in 90kPa")
+    if unit == "Pa":
+        return _finite(float(value), text, what)
+    if unit in PRESSURE_UNITS:
+        return _rounded(Fraction(value) * PRESSURE_UNITS[unit], text, what)
+    raise DeskError(f"{what}: unit {quoted(unit)} in {quoted(text)} is not Pa, kPa, bar or mmHg")
+
+
+def celsius(kelvin: float) -> float:
+    """For display."""
+    return float(Fraction(kelvin) - CELSIUS_ZERO) if math.isfinite(kelvin) else kelvin
+
+
+def in_unit(pascals: float, unit: str) -> float:
+    """For display."""
+    return float(Fraction(pascals) / PRESSURE_UNITS[unit]) if math.isfinite(pascals) else pascals
+
+
+def _quantity(text: str, what: str, units: str):
+    match = _QUANTITY.fullmatch(text)
+    if not match:
+        raise DeskError(f"{what}: {quoted(text)} is not a number with a unit ({units})")
+    if not match.group(2):
+        raise DeskError(f"{what}: {quoted(text)} has no unit; write {units}")
+    return Decimal(match.group(1)), match.group(2)
+
+
+def _rounded(value: Fraction, text: str, what: str) -> float:
+    try:
+        return float(value)
+    except OverflowError:
+        return _finite(math.inf, text, what)
+
+
+def _finite(value: float, text: str, what: str) -> float:
+    if not math.isfinite(value):
+        raise DeskError(f"{what}: {quoted(text)} is too large")
+    return value
+
+
+def cas_number(text: str) -> int:
+    """64-17-5 as 64175, its last digit tested; a number without hyphens is taken as it is."""
+    text = text.strip()
+    match = _CAS.fullmatch(text)
+    if not match:
+        return whole(text, "CAS number")
+    digits = "".join(match.groups())
+    check = sum(place * int(digit) for place, digit in enumerate(reversed(digits)))
+    if check % 10 != int(digits[-1]):
+        raise DeskError(f"CAS number {text}: its last digit doesn't fit the others")
+    return int(digits)
+
+
+def cas_text(cas: int) -> str:
+    """With hyphens, if the number can be a CAS number."""
+    digits = str(cas)
+    return f"{digits[:-3]}-{digits[-3:-1]}-{digits[-1]}" if 5 <= len(digits) <= 10 else digits

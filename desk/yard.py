@@ -1,0 +1,37 @@
+"""A yard: a book with the names of its solvents, and what its text says besides."""
+
+from dataclasses import dataclass, field
+from typing import Dict, List, Tuple
+
+from .book import Book
+
+
+@dataclass(frozen=True)
+class BoilingCheck:
+    """A published boiling point of a solvent."""
+
+    kelvin: float
+    pascals: float
+    within: float
+
+
+@dataclass(frozen=True)
+class MixtureCheck:
+    """A published azeotrope or boiling point of a pair, at the named solvent's mole fraction."""
+
+    solvent: str
+    fraction: float
+    kelvin: float
+    pascals: float
+
+
+@dataclass(frozen=True)
+class Yard:
+    """A book with the names of its solvents, and what its text says besides."""
+
+    names: Tuple[str, ...]
+    book: Book
+    sources: Dict[Tuple[str, ...], str] = field(default_factory=dict)
+    boiling: Dict[str, BoilingCheck] = field(default_factory=dict)
+    azeotropes: Dict[Tuple[str, str], MixtureCheck] = field(default_factory=dict)
+    mixtures: Dict[Tuple[str, str], List[MixtureCheck]] = field(default_factory=dict)

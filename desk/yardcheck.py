@@ -1,0 +1,135 @@
+"""A yard against the world: boiling points and azeotropes, computed by the core, beside the published ones in its text."""
+
+from dataclasses import dataclass
+from functools import partial
+from pathlib import Path
+from typing import Callable, List, Optional, Tuple
+
+from . import answer, files, tasks, text
+from .core import Core
+from .errors import DeskError
+from .openbook import bracket_of, named, shown, yard_of
+from .progress import Progress
+from .question import Options, Question
+from .sheet import NamedBook
+from .sweep import Setting, Sweep, azeotropes
+from .yard import BoilingCheck, MixtureCheck
+
+GRID = 21  # points between which an azeotrope is looked for
+MIXTURE_KELVIN, AZEOTROPE_KELVIN, AZEOTROPE_FRACTION = 1.0, 0.5, 0.01  # differences that pass
+
+
+@dataclass(frozen=True)
+class Finding:
+    """One published point beside the computed one. A mixture has the fraction of the solvent in `of`, and an azeotrope a computed one too."""
+
+    what: str
+    pascals: float
+    published: float
+    computed: Optional[float]
+    passed: bool
+    of: str = ""
+    published_fraction: Optional[float] = None
+    fraction: Optional[float] = None
+    is_azeotrope: bool = False
+
+
+def check(path: str, program: Path) -> List[Finding]:
+    yard = yard_of(path, files.read(path))
+    if not yard.boiling and not yard.azeotropes and not yard.mixtures:
+        raise DeskError(f"{path} has no 'boiling point' and no 'azeotrope' to check")
+    book = named(yard, path)
+    asked: List[Callable[[Core], Finding]] = [partial(_boiling, book, name, known) for name, known in yard.boiling.items()]
+    asked += [partial(_mixture, book, pair, known) for pair, all_known in yard.mixtures.items() for known in all_known]
+    asked += [partial(_azeotrope, book, pair, known) for pair, known in yard.azeotropes.items()]
+    with Core(book.content, program) as core, Progress(shown(path), len(asked)) as progress:
+        return [progress.stepped(find(core)) for find in asked]
+
+
+def _boiling(book: NamedBook, name: str, known: BoilingCheck, core: Core) -> Finding:
+    pure = tuple(float(other == name) for other in book.names)
+    blocks = core.ask(Question(tasks.BUBBLE_TEMPERATURE, pure, pressure=known.pascals, options=_options(book)))
+    computed = blocks.real(answer.T) if blocks.accepted else None
+    return Finding(name, known.pascals, known.kelvin, computed, _near(computed, known.kelvin, known.within))
+
+
+def _options(book: NamedBook) -> Options:
+    return Options(bracket=bracket_of(book))
+
+
+def _near(computed: Optional[float], published: float, within: float) -> bool:
+    return computed is not None and abs(computed - published) <= within
+
+
+def _sweep(core: Core, book: NamedBook, pair: Tuple[str, str], known: MixtureCheck) -> Sweep:
+    """Over the fraction of the solvent that the published point names."""
+    other = pair[1] if known.solvent == pair[0] else pair[0]
+    first, second = book.names.index(known.solvent), book.names.index(other)
+    return Sweep(core, Setting(book, first, second, pressure=known.pascals, options=_options(book)))
+
+
+def _mixture(book: NamedBook, pair: Tuple[str, str], known: MixtureCheck, core: Core) -> Finding:
+    point = _sweep(core, book, pair, known).bubble(known.fraction)
+    computed = point.temperature if point else None
+    passed = _near(computed, known.kelvin, MIXTURE_KELVIN)
+    return Finding(" and ".join(pair), known.pascals, known.kelvin, computed, passed, known.solvent, known.fraction)
+
+
+def _azeotrope(book: NamedBook, pair: Tuple[str, str], known: MixtureCheck, core: Core) -> Finding:
+    """The published azeotrope beside the computed one that is nearest to it."""
+    sweep = _sweep(core, book, pair, known)
+    found = azeotropes(sweep, [sweep.bubble(k / (GRID - 1)) for k in range(GRID)])
+    nearest = min(found, key=lambda point: abs(point.x - known.fraction), default=None)
+    computed, fraction = (nearest.temperature, nearest.x) if nearest else (None, None)
+    passed = _near(computed, known.kelvin, AZEOTROPE_KELVIN) and _near(fraction, known.fraction, AZEOTROPE_FRACTION)
+    return Finding(" and ".join(pair), known.pascals, known.kelvin, computed, passed, known.solvent, known.fraction, fraction, True)
+
+
+def _temperatures(finding: Finding) -> List[str]:
+    return [f"{finding.pascals:g}", f"{finding.published:.2f}", *_computed(finding.computed, finding.published, 2)]
+
+
+def _boiling_row(finding: Finding) -> List[str]:
+    return [finding.what, *_temperatures(finding), _verdict(finding)]
+
+
+def _mixture_row(finding: Finding) -> List[str]:
+    return [finding.what, f"{finding.of} {finding.published_fraction:g}", *_temperatures(finding), _verdict(finding)]
+
+
+def _azeotrope_row(finding: Finding) -> List[str]:
+    fractions = _computed(finding.fraction, finding.published_fraction, 4)
+    return [finding.what, *_temperatures(finding), f"{finding.of} {finding.published_fraction:.3f}", *fractions, _verdict(finding)]
+
+
+def _computed(value: Optional[float], published: float, digits: int) -> List[str]:
+    return ["none", ""] if value is None else [f"{value:.{digits}f}", f"{round(value - published, digits) + 0.0:+.{digits}f}"]
+
+
+def _verdict(finding: Finding) -> str:
+    return "yes" if finding.passed else "NO"
+
+
+TEMPERATURE_HEADS = ("p, Pa", "published, K", "computed, K", "difference")
+BOILING_HEADS = ("pure solvent", *TEMPERATURE_HEADS, "passed")
+MIXTURE_HEADS = ("mixture", "x", *TEMPERATURE_HEADS, "passed")
+AZEOTROPE_HEADS = ("azeotrope", *TEMPERATURE_HEADS, "published x", "computed x", "difference", "passed")
+
+
+def _tables(findings: List[Finding]):
+    boiling = [_boiling_row(finding) for finding in findings if not finding.of]
+    mixtures = [_mixture_row(finding) for finding in findings if finding.of and not finding.is_azeotrope]
+    azeotropic = [_azeotrope_row(finding) for finding in findings if finding.is_azeotrope]
+    tables = ((BOILING_HEADS, boiling), (MIXTURE_HEADS, mixtures), (AZEOTROPE_HEADS, azeotropic))
+    return [(heads, rows) for heads, rows in tables if rows]
+
+
+def listing(findings: List[Finding]) -> str:
+    return "\n\n".join("\n".join(text.table(heads, rows)) for heads, rows in _tables(findings)) + "\n"
+
+
+def markdown(findings: List[Finding]) -> str:
+    def line(cells) -> str:
+        return "| " + " | ".join(cells) + " |"
+
+    return "\n\n".join("\n".join([line(heads), line(["---"] * len(heads))] + [line(row) for row in rows]) for heads, rows in _tables(findings)) + "\n"

@@ -1,0 +1,240 @@
+"""The yard text: a book that people read and write, with names and sources.
+
+    # everything after a number sign is a comment
+    [solvent ethanol]
+    cas            = 64-17-5
+    vapor t_r      = 514.71 K
+    vapor reducing = 6268 kPa
+    vapor range    = 273.16 K to 510 K
+    vapor term     = -8.69441 : 1          n : exponent, one line for each of 1 to 8 terms
+    density range  = 273.16 K to 510 K     if left out, the vapor pressure's range
+
+    [pair ethanol water]
+    tau ethanol water = t0 0, t1 -57.9601 cal/mol, t2 0, t3 0
+    tau water ethanol = t1 1241.7396 cal/mol
+    alpha             = 0.2937
+    interval          = 298.15 K to 373.15 K
+    inferred          = yes
+
+docs/GUIDE.md has the whole list of keys. A name is written without blanks. Solvents have the places in which they stand; pairs may stand in any order."""
+
+import re
+from dataclasses import replace
+from typing import Callable, Dict, List, Optional, Tuple
+
+from . import units
+from .book import MOST_SOLVENTS, MOST_TERMS, Book, Correlation, Interval, Pair, Solvent, due_pairs
+from .errors import DeskError, quoted
+from .sections import Section, sections_of
+from .yard import BoilingCheck, MixtureCheck, Yard
+
+GAS_CONSTANT = {"J/mol": 8.31446261815324, "cal/mol": 1.98720425864083}  # per K
+NAME = re.compile(r"[^\W_][\w.+()'-]*")
+SEPARATOR = " to "
+
+
+def parse(text: str) -> Yard:
+    sections = sections_of(text)
+    solvents = [section for section in sections if section.kind == "solvent"]
+    if not 1 <= len(solvents) <= MOST_SOLVENTS:
+        raise DeskError(f"it has {len(solvents)} solvents, and 1 to {MOST_SOLVENTS} are due")
+    names = _distinct_names(solvents)
+    yard = Yard(names, Book((), ()))
+    records = tuple(_solvent(section, yard) for section in solvents)
+    _distinct_cas(names, records)
+    pairs = _pairs([section for section in sections if section.kind == "pair"], yard)
+    return replace(yard, book=Book(records, pairs))
+
+
+def _distinct_names(solvents: List[Section]) -> Tuple[str, ...]:
+    names: List[str] = []
+    for section in solvents:
+        name = section.names[0]
+        if not NAME.fullmatch(name) or re.fullmatch(r"[\d-]+", name):
+            raise DeskError(f"line {section.line}: {quoted(name)} can't be a name (letters, digits and . + - ( ) ' without blanks)")
+        if name.lower() in (other.lower() for other in names):
+            raise DeskError(f"line {section.line}: solvent {name} stands there twice")
+        names.append(name)
+    return tuple(names)
+
+
+def _distinct_cas(names: Tuple[str, ...], solvents: Tuple[Solvent, ...]) -> None:
+    seen: Dict[int, str] = {}
+    for name, solvent in zip(names, solvents):
+        if solvent.cas == 0:
+            raise DeskError(f"[solvent {name}]: the CAS number is 0")
+        if solvent.cas in seen:
+            raise DeskError(f"{seen[solvent.cas]} and {name} have one CAS number, {units.cas_text(solvent.cas)}")
+        seen[solvent.cas] = name
+
+
+def _solvent(section: Section, yard: Yard) -> Solvent:
+    name = section.names[0]
+    with_place = f"[{section.title}]"
+    cas = units.cas_number(section.take("cas"))
+    vapor = _correlation(section, "vapor", units.pressure)
+    density = _density(section, vapor)
+    _note_source(section, yard, (name,))
+    known = section.optional("boiling point")
+    if known:
+        yard.boiling[name] = _boiling_check(known, with_place)
+    section.finish()
+    return Solvent(cas, vapor, density)
+
+
+def _correlation(section: Section, record: str, reducing: Callable[[str, str], float]) -> Correlation:
+    what = f"[{section.title}] {record}"
+    t_r = units.temperature(section.take(f"{record} t_r"), f"{what} t_r")
+    value = reducing(section.take(f"{record} reducing"), f"{what} reducing")
+    low, high = _range(section.take(f"{record} range"), f"{what} range")
+    terms = tuple(_term(text, f"{what} term") for text in section.take_all(f"{record} term"))
+    if not 1 <= len(terms) <= MOST_TERMS:
+        raise DeskError(f"{what} has {len(terms)} terms, and 1 to {MOST_TERMS} are due")
+    return _checked(Correlation(t_r, value, low, high, terms), what)
+
+
+def _density(section: Section, vapor: Correlation) -> Correlation:
+    """The whole record, or its range alone: the core uses nothing else of it."""
+    if any(key.startswith("density") and key != "density range" for key, _, _ in section.entries):
+        return _correlation(section, "density", _density_value)
+    what = f"[{section.title}] density"
+    text = section.optional("density range")
+    low, high = _range(text, f"{what} range") if text else (vapor.low, vapor.high)
+    return _checked(Correlation(vapor.t_r, 1.0, low, high, ((1.0, 1.0),)), what)
+
+
+def _density_value(text: str, what: str) -> float:
+    value, _, unit = text.strip().partition(" ")
+    if unit.strip() != "mol/m3":
+        raise DeskError(f"{what}: {quoted(text)} needs the unit mol/m3")
+    return units.number(value, what)
+
+
+def _checked(record: Correlation, what: str) -> Correlation:
+    """Question 5 of the core, where the line is still known."""
+    if not 0 < record.low <= record.high < record.t_r:
+        raise DeskError(f"{what} range: {record.low} K to {record.high} K doesn't lie between 0 and t_r, {record.t_r} K")
+    if record.reducing <= 0:
+        raise DeskError(f"{what} reducing: {record.reducing} isn't positive")
+    return record
+
+
+def _term(text: str, what: str) -> Tuple[float, float]:
+    parts = text.split(":")
+    if len(parts) != 2:
+        raise DeskError(f"{what}: {quoted(text)} is not 'n : exponent'")
+    return units.number(parts[0], f"{what} n"), units.number(parts[1], f"{what} exponent")
+
+
+def _range(text: str, what: str) -> Tuple[float, float]:
+    parts = text.split(SEPARATOR)
+    if len(parts) != 2:
+        raise DeskError(f"{what}: {quoted(text)} is not 'LOW to HIGH', as in 273.16 K to 450 K")
+    return units.temperature(parts[0], what), units.temperature(parts[1], what)
+
+
+def _note_source(section: Section, yard: Yard, key: Tuple[str, ...]) -> None:
+    source = section.optional("source")
+    if source:
+        yard.sources[key] = source
+
+
+def _boiling_check(text: str, what: str) -> BoilingCheck:
+    match = re.fullmatch(r"(.+?) at (.+?) within (\S+) K", text)
+    if not match:
+        raise DeskError(f"{what} boiling point: {quoted(text)} is not 'T at P within D K', as in 351.44 K at 101325 Pa within 0.5 K")
+    kelvin, pascals, within = match.groups()
+    return BoilingCheck(units.temperature(kelvin, what), units.pressure(pascals, what), units.number(within, what))
+
+
+def _mixture_check(text: str, what: str, pair: Tuple[str, str]) -> MixtureCheck:
+    match = re.fullmatch(r"(\S+) (\S+), (.+?) at (.+)", text)
+    if not match or match.group(1) not in pair:
+        raise DeskError(f"{what}: {quoted(text)} is not 'NAME x, T at P', as in ethanol 0.894, 351.3 K at 101325 Pa")
+    name, fraction, kelvin, pascals = match.groups()
+    return MixtureCheck(name, units.number(fraction, what), units.temperature(kelvin, what), units.pressure(pascals, what))
+
+
+def _pairs(sections: List[Section], yard: Yard) -> Tuple[Pair, ...]:
+    places = {name.lower(): place for place, name in enumerate(yard.names)}
+    found: Dict[Tuple[int, int], Pair] = {}
+    for section in sections:
+        i, j = (_place(name, places, section) for name in section.names)
+        if i == j:
+            raise DeskError(f"line {section.line}: [{section.title}] names one solvent twice")
+        if (min(i, j), max(i, j)) in found:
+            raise DeskError(f"line {section.line}: the pair of {yard.names[i]} and {yard.names[j]} stands there twice")
+        pair = _pair(section, yard, (yard.names[i], yard.names[j]))
+        found[min(i, j), max(i, j)] = pair if i < j else pair.turned()
+    return tuple(_due(key, found, yard.names) for key in due_pairs(len(yard.names)))
+
+
+def _due(key: Tuple[int, int], found: Dict[Tuple[int, int], Pair], names: Tuple[str, ...]) -> Pair:
+    if key not in found:
+        raise DeskError(f"[pair {names[key[0]]} {names[key[1]]}] is missing")
+    return found[key]
+
+
+def _place(name: str, places: Dict[str, int], section: Section) -> int:
+    if name.lower() not in places:
+        raise DeskError(f"line {section.line}: [{section.title}] names {name}, which is no solvent of this book")
+    return places[name.lower()]
+
+
+def _pair(section: Section, yard: Yard, names: Tuple[str, str]) -> Pair:
+    first, second = names
+    what = f"[{section.title}]"
+    tau_ij = _tau(section.take(f"tau {first} {second}"), f"{what} tau {first} {second}")
+    tau_ji = _tau(section.take(f"tau {second} {first}"), f"{what} tau {second} {first}")
+    alpha = _terms(_named_alpha(section.take("alpha")), ("a0", "a1"), f"{what} alpha")
+    interval = _interval(section, what)
+    _note_source(section, yard, tuple(sorted(names, key=yard.names.index)))
+    known = section.optional("azeotrope")
+    if known:
+        yard.azeotropes[names] = _mixture_check(known, f"{what} azeotrope", names)
+    boiling = section.take_all("boiling point")
+    if boiling:
+        yard.mixtures[names] = [_mixture_check(text, f"{what} boiling point", names) for text in boiling]
+    section.finish()
+    return Pair(tau_ij, tau_ji, alpha, interval)
+
+
+def _interval(section: Section, what: str) -> Optional[Interval]:
+    text, inferred = section.optional("interval"), section.optional("inferred")
+    if inferred not in (None, "yes", "no"):
+        raise DeskError(f"{what} inferred: {quoted(inferred)} is neither yes nor no")
+    if text is None:
+        if inferred:
+            raise DeskError(f"{what}: 'inferred' stands there without an interval")
+        return None
+    return Interval(*_range(text, f"{what} interval"), inferred == "yes")
+
+
+def _tau(text: str, what: str) -> Tuple[float, float, float, float]:
+    return _terms(text, ("t0", "t1", "t2", "t3"), what)
+
+
+def _named_alpha(text: str) -> str:
+    return text if text.lstrip().startswith("a") else f"a0 {text}"
+
+
+def _terms(text: str, names: Tuple[str, ...], what: str) -> Tuple[float, ...]:
+    """Named terms, in any order; a term that isn't named is 0."""
+    values: Dict[str, float] = {}
+    for part in text.split(","):
+        words = part.split()
+        if len(words) not in (2, 3) or words[0] not in names:
+            raise DeskError(f"{what}: {quoted(part)} is not a term ({', '.join(names)}) and its number")
+        if words[0] in values:
+            raise DeskError(f"{what}: {words[0]} stands there twice")
+        values[words[0]] = units.number(words[1], f"{what} {words[0]}") / _divisor(words, what)
+    return tuple(values.get(name, 0.0) for name in names)
+
+
+def _divisor(words: List[str], what: str) -> float:
+    """t1 is in K, or an energy that is divided by the gas constant."""
+    if len(words) == 2 or words[0] == "t1" and words[2] == "K":
+        return 1.0
+    if words[0] == "t1" and words[2] in GAS_CONSTANT:
+        return GAS_CONSTANT[words[2]]
+    raise DeskError(f"{what}: unit {quoted(words[2])} of {words[0]} is none of K, J/mol and cal/mol, which t1 alone may have")

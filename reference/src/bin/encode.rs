@@ -1,0 +1,118 @@
+//! Blocks of books and questions from plain numbers, one a line, as the reference lays them out and reads them back.
+//!
+//! `book` n; for each solvent its CAS number, then twice t_r, reducing value, low, high, count, coefficients, exponents;
+//! for each pair τ_ij t0 to t3, τ_ji t0 to t3, a0, a1, then interval flag, low, high, inferred flag.
+//!
+//! `question` task, T, P, eight fractions, M, tolerance, temperature limit, energy tolerance, threshold, low, high, eight K.
+
+use std::io::{stdin, BufRead};
+use std::process::ExitCode;
+use std::str::{FromStr, SplitWhitespace};
+
+use reference::sheet::blocks::{bytes_of, seal, Words};
+use reference::sheet::book::{due_pairs, open_book, DENSITY, VAPOR_PRESSURE};
+use reference::sheet::question::{
+    Question, BRACKET, ENERGY_TOLERANCE, FRACTIONS, K_VALUES, MAX_ITERATIONS, MAX_TEMPERATURE_ITERATIONS, PRESSURE,
+    TASK, TEMPERATURE, TM_THRESHOLD, TOLERANCE,
+};
+use reference::stage::hex_bytes;
+
+fn main() -> ExitCode {
+    for line in stdin().lock().lines() {
+        let Some(bytes) = line.ok().and_then(|line| encoded(&line)) else {
+            eprintln!("encode: a line is not a book or a question that the reference reads back");
+            return ExitCode::from(2);
+        };
+        let mut out = String::new();
+        hex_bytes(&mut out, &bytes);
+        println!("{}", out.trim_start());
+    }
+    ExitCode::SUCCESS
+}
+
+fn encoded(line: &str) -> Option<Vec<u8>> {
+    let mut numbers = Numbers(line.split_whitespace());
+    let blocks = match numbers.0.next()? {
+        "book" => book(&mut numbers)?,
+        "question" => vec![question(&mut numbers)?],
+        _ => return None,
+    };
+    let bytes: Vec<u8> = blocks.into_iter().flat_map(sealed).collect();
+    let read_back = if bytes[0] == 8 { Question::read(&bytes).is_ok() } else { open_book(&bytes).is_ok() };
+    (read_back && numbers.0.next().is_none()).then_some(bytes)
+}
+
+fn sealed(mut words: Words) -> [u8; 512] {
+    seal(&mut words);
+    bytes_of(&words)
+}
+
+struct Numbers<'a>(SplitWhitespace<'a>);
+
+impl Numbers<'_> {
+    fn next<T: FromStr>(&mut self) -> Option<T> {
+        self.0.next()?.parse().ok()
+    }
+
+    fn floats(&mut self, words: &mut Words, at: usize, count: usize) -> Option<()> {
+        for word in words[at..at + count].iter_mut() {
+            *word = self.next::<f64>()?.to_bits();
+        }
+        Some(())
+    }
+}
+
+fn book(numbers: &mut Numbers) -> Option<Vec<Words>> {
+    let n: usize = numbers.next()?;
+    let mut head = [0; 64];
+    head[..3].copy_from_slice(&[1, 1, n as u64]);
+    let mut blocks = vec![head];
+    for i in 0..n {
+        blocks.push(solvent(numbers, i as u64)?);
+    }
+    for (i, j) in due_pairs(n) {
+        blocks.push(pair(numbers, i as u64, j as u64)?);
+    }
+    Some(blocks)
+}
+
+fn solvent(numbers: &mut Numbers, i: u64) -> Option<Words> {
+    let mut words = [0; 64];
+    words[..3].copy_from_slice(&[2, i, numbers.next()?]);
+    for at in [VAPOR_PRESSURE, DENSITY] {
+        numbers.floats(&mut words, at, 4)?;
+        let count: usize = numbers.next().filter(|count| *count <= 8)?;
+        words[at + 4] = count as u64;
+        numbers.floats(&mut words, at + 5, count)?;
+        numbers.floats(&mut words, at + 13, count)?;
+    }
+    Some(words)
+}
+
+fn pair(numbers: &mut Numbers, i: u64, j: u64) -> Option<Words> {
+    let mut words = [0; 64];
+    words[..3].copy_from_slice(&[3, i, j]);
+    numbers.floats(&mut words, 3, 10)?;
+    words.copy_within(11..13, 13);
+    words[15] = numbers.next()?;
+    numbers.floats(&mut words, 16, 2)?;
+    words[18] = numbers.next()?;
+    Some(words)
+}
+
+fn question(numbers: &mut Numbers) -> Option<Words> {
+    let mut words = [0; 64];
+    words[0] = 8;
+    words[TASK] = numbers.next()?;
+    numbers.floats(&mut words, TEMPERATURE, 1)?;
+    numbers.floats(&mut words, PRESSURE, 1)?;
+    numbers.floats(&mut words, FRACTIONS, 8)?;
+    words[MAX_ITERATIONS] = numbers.next()?;
+    numbers.floats(&mut words, TOLERANCE, 1)?;
+    words[MAX_TEMPERATURE_ITERATIONS] = numbers.next()?;
+    numbers.floats(&mut words, ENERGY_TOLERANCE, 1)?;
+    numbers.floats(&mut words, TM_THRESHOLD, 1)?;
+    numbers.floats(&mut words, BRACKET, 2)?;
+    numbers.floats(&mut words, K_VALUES, 8)?;
+    Some(words)
+}
