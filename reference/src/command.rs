@@ -1,4 +1,4 @@
-//! The command line that `compare` and `oracle` share.
+//! The command lines that the binaries share.
 
 use crate::stage::{Stage, STAGES};
 
@@ -38,4 +38,18 @@ impl Options {
             Stage::Sheet => 200_000,
         })
     }
+}
+
+/// `[--count N] [--seed S]` of a binary with a count of its own; `None` where a word is not understood.
+pub fn count_and_seed(count: usize) -> Option<(usize, u64)> {
+    let (mut count, mut seed) = (count, 1);
+    let mut words = std::env::args().skip(1);
+    while let Some(word) = words.next() {
+        match word.as_str() {
+            "--count" => count = words.next()?.parse().ok()?,
+            "--seed" => seed = words.next()?.parse().ok()?,
+            _ => return None,
+        }
+    }
+    Some((count, seed))
 }

@@ -56,7 +56,8 @@ extern "C" {
         out: *mut f64,
         out_len: usize,
     ) -> u64;
-    fn zektonk_answer(
+    /// The desk's call, for who passes other pointers than a slice's.
+    pub fn zektonk_answer(
         book: *const u8,
         book_len: usize,
         question: *const u8,

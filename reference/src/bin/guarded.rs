@@ -10,23 +10,17 @@ use std::ffi::{c_int, c_void};
 use std::process::ExitCode;
 use std::ptr;
 
+use reference::command::count_and_seed;
 use reference::counts::Tally;
 use reference::generate::cases::Cases;
 use reference::generate::Rng;
+use reference::rattle::zektonk_answer;
 use reference::sheet;
 use reference::sheet::blocks::{bytes_of, seal, words_of, BLOCK};
 use reference::sheet::question::{MAX_ITERATIONS, MAX_TEMPERATURE_ITERATIONS};
 use reference::stage::{Case, Stage};
 
 extern "C" {
-    fn zektonk_answer(
-        book: *const u8,
-        book_len: usize,
-        question: *const u8,
-        question_len: usize,
-        answer: *mut u8,
-        answer_len: usize,
-    ) -> u64;
     fn mmap(at: *mut c_void, length: usize, access: c_int, flags: c_int, file: c_int, offset: i64) -> *mut c_void;
     fn mprotect(at: *mut c_void, length: usize, access: c_int) -> c_int;
 }
@@ -265,21 +259,8 @@ fn put_word(bytes: &mut [u8], at: usize, value: u64) {
     }
 }
 
-fn options() -> Option<(usize, u64)> {
-    let (mut count, mut seed) = (20_000, 1);
-    let mut words = std::env::args().skip(1);
-    while let Some(word) = words.next() {
-        match word.as_str() {
-            "--count" => count = words.next()?.parse().ok()?,
-            "--seed" => seed = words.next()?.parse().ok()?,
-            _ => return None,
-        }
-    }
-    Some((count, seed))
-}
-
 fn main() -> ExitCode {
-    let Some((count, seed)) = options() else {
+    let Some((count, seed)) = count_and_seed(20_000) else {
         eprintln!("usage: guarded [--count N] [--seed S]");
         return ExitCode::from(2);
     };

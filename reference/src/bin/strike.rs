@@ -4,6 +4,7 @@
 
 use std::process::ExitCode;
 
+use reference::command::count_and_seed;
 use reference::generate::absent::Base;
 use reference::generate::small::dew_temperature;
 use reference::generate::Rng;
@@ -28,7 +29,7 @@ struct Counts {
 }
 
 fn main() -> ExitCode {
-    let Some((count, seed)) = options() else {
+    let Some((count, seed)) = count_and_seed(80_000) else {
         eprintln!("usage: strike [--count N] [--seed S]");
         return ExitCode::from(2);
     };
@@ -46,19 +47,6 @@ fn main() -> ExitCode {
     all[1] += dew_temperatures(&mut rng);
     println!("strike: {} accepted with absent solvents, {} failures", all[0], all[1]);
     ExitCode::from(u8::from(all[1] > 0))
-}
-
-fn options() -> Option<(usize, u64)> {
-    let (mut count, mut seed) = (80_000, 1);
-    let mut words = std::env::args().skip(1);
-    while let Some(word) = words.next() {
-        match word.as_str() {
-            "--count" => count = words.next()?.parse().ok()?,
-            "--seed" => seed = words.next()?.parse().ok()?,
-            _ => return None,
-        }
-    }
-    Some((count, seed))
 }
 
 fn run(rng: &mut Rng, task: u64, wanted: usize) -> Counts {
