@@ -10,12 +10,18 @@ use mathlib.Core.Logic.{⊎-elim}
 use borrow.Author.Tests.{le-leb, lt-leb}
 use lib.Seq.{sets-eq, take-at, take-all, take-nil, drop-append-add, drop-drop, getD-append-add}
 use borrow.Rule.Slice.PartMut.{putMid}
-use Rattle.blocks.specs.Words.{checkSum, byte, wordFrom, word, block}
-use Rattle.blocks.specs.Bytes.{bytes, rowTo, blockBytes, put, written}
+use Rattle.blocks.specs.Words.{checkSum, sumBy, byte, wordFrom, word, block}
+use Rattle.blocks.specs.Bytes.{bytes, rowTo, blockBytes, put, stored}
+use Rattle.blocks.specs.declared.Rule.{Rule}
+use Rattle.blocks.specs.declared.Rule.the-variants.{Plain}
 
 pub sum-turn : (f : ℕ → ℕ) {s w r : ℕ} (k : ℕ) → s ≡ checkSum f k → w ≡ f k → r ≡ (s + w) % 2 ^ 64 → r ≡ checkSum f (k + 1)
 unfolding checkSum
 sum-turn f k e v h = rw add-one (h ∙ rw (e, v))
+
+pub plain-sum : (rule : Rule) (w : ℕ → ℕ) {r : ℕ} → r ≡ checkSum w 63 → r ≡ sumBy rule w
+unfolding sumBy
+plain-sum Plain w e = e
 
 pub length-block : (s : List ℕ) (k : ℕ) → 512 * k + 512 ≤ length s → length (block s k) ≡ 512
 unfolding block
@@ -29,7 +35,7 @@ pub byte-past : (s : List ℕ) (i : ℕ) → length s ≤ i → 0 ≡ byte s i
 byte-past s i h = sym (List·getD-eq-default s 0 h)
 
 pub word-past : (s : List ℕ) (k : ℕ) → length s / 8 < k → 0 ≡ word s k
-unfolding word wordFrom
+unfolding word
 word-past s k h =
     let g : (i : ℕ) → getD s (8 * k + i) 0 ≡ 0 = λ i. let l : length s ≤ 8 * k + i = omega arith in List·getD-eq-default s 0 l in
     let l : length s ≤ 8 * k = omega arith in
@@ -85,6 +91,9 @@ unfolding rowTo
 length-row f m zero h = omega arith
 length-row f m (suc n) h = rw (length-append, h, length-row f m n h) (sym (suc-mul n m))
 
+pub length-words : (w : ℕ → ℕ) (n : ℕ) → length (rowTo (λ k. bytes (w k)) n) ≡ n * 8
+length-words w n = length-row (λ k. bytes (w k)) 8 n (λ k. length-bytes (w k))
+
 -- the turn of a loop that writes f 0, f 1 and on, m bytes each
 pub row-turn : (f : ℕ → List ℕ) (m k from : ℕ) (old : List ℕ) {out out' bs : List ℕ} → ((k : ℕ) → length (f k) ≡ m) → from ≡ k * m → bs ≡ f k
     → out ≡ rowTo f k ++ drop from old → out' ≡ put out from bs → out' ≡ rowTo f (k + 1) ++ drop (from + m) old
@@ -92,9 +101,9 @@ unfolding rowTo
 row-turn f m k from old {out} {out'} {bs} h e v o o' =
     rw add-one (o' ∙ rw (o, v) (put-more (rowTo f k) old (f k) from (length-row f m k h ∙ sym e) ∙ rw h))
 
-pub length-block-bytes : (w : ℕ → ℕ) → length (blockBytes w) ≡ 512
+pub length-block-bytes : (rule : Rule) (w : ℕ → ℕ) → length (blockBytes rule w) ≡ 512
 unfolding blockBytes
-length-block-bytes w = rw (length-append, length-row (λ k. bytes (w k)) 8 63 (λ k. length-bytes (w k)), length-bytes)
+length-block-bytes rule w = rw (length-append, length-words w 63, length-bytes)
 
 pub word-turn : (w : ℕ → ℕ) (k : ℕ) (old : List ℕ) {out out' : List ℕ} → out ≡ rowTo (λ i. bytes (w i)) k ++ drop (8 * k) old
     → out' ≡ put out (8 * k) (bytes (w k)) → out' ≡ rowTo (λ i. bytes (w i)) (k + 1) ++ drop (8 * (k + 1)) old
@@ -102,23 +111,30 @@ word-turn w k old o o' =
     let e : 8 * (k + 1) ≡ 8 * k + 8 = omega arith in
     rw e (row-turn (λ i. bytes (w i)) 8 k (8 * k) old (λ i. length-bytes (w i)) (omega arith) refl o o')
 
-pub block-end : (w : ℕ → ℕ) (old : List ℕ) {out out' : List ℕ} {sum k : ℕ} → k ≤ 63 → 63 ≤ k → sum ≡ checkSum w k
-    → out ≡ rowTo (λ i. bytes (w i)) k ++ drop (8 * k) old → out' ≡ put out 504 (bytes sum) → out' ≡ blockBytes w ++ drop 512 old
-unfolding blockBytes
-block-end w old {out} {out'} {sum} {k} a b s o o' =
+pub words-end : (w : ℕ → ℕ) (old : List ℕ) (check : ℕ) {out out' : List ℕ} {k : ℕ} → k ≤ 63 → 63 ≤ k
+    → out ≡ rowTo (λ i. bytes (w i)) k ++ drop (8 * k) old → out' ≡ put out 504 (bytes check)
+    → out' ≡ (rowTo (λ i. bytes (w i)) 63 ++ bytes check) ++ drop 512 old
+words-end w old check {out} {out'} {k} a b o o' =
     let e : k ≡ 63 = omega arith in
-    o' ∙ rw (o, s, e) (put-more (rowTo (λ i. bytes (w i)) 63) old (bytes (checkSum w 63)) 504 (length-row (λ i. bytes (w i)) 8 63 (λ i. length-bytes (w i))) ∙ rw length-bytes)
+    o' ∙ rw (o, e) (put-more (rowTo (λ i. bytes (w i)) 63) old (bytes check) 504 (length-words w 63) ∙ rw length-bytes)
 
 -- a part from an index on, with its first bytes replaced
 pub part-put : (l bs : List ℕ) (from : ℕ) → take from l ++ (bs ++ drop (length bs) (drop from l)) ≡ put l from bs
 part-put l bs from = rw (drop-drop, ← append-assoc)
 
-pub tail-put : (l bs : List ℕ) {x : List ℕ} (from : ℕ) {n : ℕ} → length bs ≡ n → x ≡ bs ++ drop n (take (length l - from) (drop from l))
+tail-put : (l bs : List ℕ) {x : List ℕ} (from : ℕ) {n : ℕ} → length bs ≡ n → x ≡ bs ++ drop n (take (length l - from) (drop from l))
     → putMid from (length l - from) l x ≡ put l from bs
 tail-put l bs from n e =
     let d : length (drop from l) ≤ length l - from = simp length-drop (omega arith) in
     let q : drop (length l - from) (drop from l) ≡ [] = drop-of-length-le (drop from l) d in
     rw (e, take-all (length l - from) (drop from l) d, q, append-nil, ← n) (part-put l bs from)
+
+-- a block at the front of the part from an index on
+pub block-put : (l : List ℕ) (rule : Rule) (w : ℕ → ℕ) (from : ℕ) {x : List ℕ} {check : ℕ} → check ≡ sumBy rule w
+    → x ≡ (rowTo (λ i. bytes (w i)) 63 ++ bytes check) ++ drop 512 (take (length l - from) (drop from l))
+    → putMid from (length l - from) l x ≡ put l from (blockBytes rule w)
+unfolding blockBytes
+block-put l rule w from s e = tail-put l (blockBytes rule w) from (length-block-bytes rule w) (e ∙ rw s)
 
 -- what was written is read back: four bytes, eight bytes
 four : (x : ℕ) → x < 4294967296 → x % 256 + x / 256 % 256 * 256 + x / 65536 % 256 * 65536 + x / 16777216 % 256 * 16777216 ≡ x
@@ -147,7 +163,7 @@ whole : (w : ℕ) → w % 4294967296 + w / 4294967296 * 4294967296 ≡ w
 whole w = omega arith
 
 pub word-bytes : (w : ℕ) → w < 2 ^ 64 → wordFrom (bytes w) 0 ≡ w
-unfolding wordFrom bytes
+unfolding bytes
 word-bytes w h =
     let a : w % 256 ≡ w % 4294967296 % 256 = omega arith in
     let b' : w / 256 ≡ w / 4294967296 * 65536 * 256 + w % 4294967296 / 256 = omega arith in
@@ -163,14 +179,13 @@ word-bytes w h =
 
 -- a word that stands behind other bytes
 word-behind : (p q : List ℕ) (n : ℕ) → length p ≡ n → wordFrom (p ++ q) n ≡ wordFrom q 0
-unfolding wordFrom
 word-behind p q n e =
     let g : (i : ℕ) → getD (p ++ q) (n + i) 0 ≡ getD q i 0 = λ i. ap (λ (m : ℕ). getD (p ++ q) (m + i) 0) (sym e) ∙ getD-append-add p q i 0 in
     let z : getD (p ++ q) n 0 ≡ getD q 0 0 = ap (λ (m : ℕ). getD (p ++ q) m 0) (sym (add-zero n)) ∙ g 0 in
     rw (z, g 1, g 2, g 3, g 4, g 5, g 6, g 7)
 
 word-front : (w : ℕ) (r : List ℕ) → wordFrom (bytes w ++ r) 0 ≡ wordFrom (bytes w) 0
-unfolding wordFrom bytes
+unfolding bytes
 word-front w r = refl
 
 -- word k of words that were written one after the other, modulo 2^64
@@ -181,7 +196,7 @@ row-read w (suc n) k r l =
     ⊎-elim
     (λ e. let m : n ≡ k = omega arith in
     let j : k * 8 ≡ 8 * k = omega arith in
-    rw (m, append-assoc) (word-behind (rowTo (λ i. bytes (w i)) k) (bytes (w k) ++ r) (8 * k) (length-row (λ i. bytes (w i)) 8 k (λ i. length-bytes (w i)) ∙ j) ∙ word-front (w k) r))
+    rw (m, append-assoc) (word-behind (rowTo (λ i. bytes (w i)) k) (bytes (w k) ++ r) (8 * k) (length-words w k ∙ j) ∙ word-front (w k) r))
     (λ q. let m : k < n = omega arith in rw append-assoc (row-read w n k (bytes (w n) ++ r) m))
     (eq-or-lt-of-le l)
 
@@ -190,31 +205,44 @@ unfolding checkSum
 sum-small w zero = omega arith
 sum-small w (suc n) = omega arith
 
+check-small : (rule : Rule) (w : ℕ → ℕ) → sumBy rule w < 2 ^ 64
+unfolding sumBy
+check-small Plain w = sum-small w 63
+
 -- a block that was written has its words, and its check is right
-pub block-read : (w : ℕ → ℕ) (k : ℕ) (r : List ℕ) → k < 63 → word (blockBytes w ++ r) k ≡ wordFrom (bytes (w k)) 0
+pub block-read : (rule : Rule) (w : ℕ → ℕ) (k : ℕ) (r : List ℕ) → k < 63 → word (blockBytes rule w ++ r) k ≡ wordFrom (bytes (w k)) 0
 unfolding blockBytes
-block-read w k r l = rw append-assoc (row-read w 63 k (bytes (checkSum w 63) ++ r) l)
+block-read rule w k r l = rw append-assoc (row-read w 63 k (bytes (sumBy rule w) ++ r) l)
 
-pub block-word : (w : ℕ → ℕ) (k : ℕ) (r : List ℕ) → k < 63 → w k < 2 ^ 64 → word (blockBytes w ++ r) k ≡ w k
-block-word w k r l h = block-read w k r l ∙ word-bytes (w k) h
+pub block-word : (rule : Rule) (w : ℕ → ℕ) (k : ℕ) (r : List ℕ) → k < 63 → w k < 2 ^ 64 → word (blockBytes rule w ++ r) k ≡ w k
+block-word rule w k r l h = block-read rule w k r l ∙ word-bytes (w k) h
 
-pub block-check : (w : ℕ → ℕ) (r : List ℕ) → word (blockBytes w ++ r) 63 ≡ checkSum w 63
+pub block-check : (rule : Rule) (w : ℕ → ℕ) (r : List ℕ) → word (blockBytes rule w ++ r) 63 ≡ sumBy rule w
 unfolding blockBytes word
-block-check w r =
-    rw append-assoc (word-behind (rowTo (λ i. bytes (w i)) 63) (bytes (checkSum w 63) ++ r) 504 (length-row (λ i. bytes (w i)) 8 63 (λ i. length-bytes (w i)))
-    ∙ word-front (checkSum w 63) r ∙ word-bytes (checkSum w 63) (sum-small w 63))
+block-check rule w r =
+    rw append-assoc (word-behind (rowTo (λ i. bytes (w i)) 63) (bytes (sumBy rule w) ++ r) 504 (length-words w 63)
+    ∙ word-front (sumBy rule w) r ∙ word-bytes (sumBy rule w) (check-small rule w))
+
+-- equal words have equal checks
+pub sum-same : (rule : Rule) (w v : ℕ → ℕ) → ((k : ℕ) → k < 63 → w k ≡ v k) → sumBy rule w ≡ sumBy rule v
+unfolding sumBy checkSum
+sum-same Plain w v same = go 63 (omega arith)
+  where
+    go : (n : ℕ) → n ≤ 63 → checkSum w n ≡ checkSum v n
+    go zero l = refl
+    go (suc n) l = rw (go n (omega arith), same n (omega arith))
 
 -- what a slice holds once bytes are written: they fit, or the slice stays as it was
-pub written-fits : (l bs : List ℕ) (from : ℕ) {n : ℕ} → length bs ≡ n → from + n ≤ length l → written l from bs ≡ put l from bs
-unfolding written
-written-fits l bs from {n} e h = let k : from + length bs ≤ length l = omega arith in rw (le-leb (from + length bs) (length l) k)
+pub stored-fits : (l bs : List ℕ) (from : ℕ) {n : ℕ} → length bs ≡ n → from + n ≤ length l → stored l from bs ≡ put l from bs
+unfolding stored
+stored-fits l bs from {n} e h = let k : from + length bs ≤ length l = omega arith in rw (le-leb (from + length bs) (length l) k)
 
-pub written-short : (l bs : List ℕ) (from : ℕ) {n : ℕ} → length bs ≡ n → length l < from + n → written l from bs ≡ l
-unfolding written
-written-short l bs from {n} e h = let k : length l < from + length bs = omega arith in rw (lt-leb (from + length bs) (length l) k)
+pub stored-short : (l bs : List ℕ) (from : ℕ) {n : ℕ} → length bs ≡ n → length l < from + n → stored l from bs ≡ l
+unfolding stored
+stored-short l bs from {n} e h = let k : length l < from + length bs = omega arith in rw (lt-leb (from + length bs) (length l) k)
 
 -- a block at the front
-pub written-front : (w : ℕ → ℕ) (l : List ℕ) → 512 ≤ length l → written l 0 (blockBytes w) ≡ blockBytes w ++ drop 512 l
-written-front w l h =
-    let e : 0 + length (blockBytes w) ≡ 512 = omega (arith, length-block-bytes w) in
-    written-fits l (blockBytes w) 0 (length-block-bytes w) (omega arith) ∙ rw e
+pub stored-front : (rule : Rule) (w : ℕ → ℕ) (l : List ℕ) → 512 ≤ length l → stored l 0 (blockBytes rule w) ≡ blockBytes rule w ++ drop 512 l
+stored-front rule w l h =
+    let e : 0 + length (blockBytes rule w) ≡ 512 = omega (arith, length-block-bytes rule w) in
+    stored-fits l (blockBytes rule w) 0 (length-block-bytes rule w) (omega arith) ∙ rw e

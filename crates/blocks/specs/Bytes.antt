@@ -4,7 +4,8 @@ use mathlib.Core.Bool.{cond}
 use Prim.Native.Nat.{ℕ, zero, suc, _+_, _/_, _%_}
 use lib.Dec.{leb}
 use lib.ListN.{length, getD, take, drop}
-use Rattle.blocks.specs.Words.{checkSum}
+use Rattle.blocks.specs.Words.{sumBy}
+use Rattle.blocks.specs.declared.Rule.{Rule}
 
 -- the eight bytes of a word, lowest first
 unfoldable pub bytes : ℕ → List ℕ
@@ -17,9 +18,9 @@ unfoldable pub rowTo : (ℕ → List ℕ) → ℕ → List ℕ
 rowTo f zero = []
 rowTo f (suc n) = rowTo f n ++ f n
 
--- a block: words 0 to 62 and their sum
-unfoldable pub blockBytes : (ℕ → ℕ) → List ℕ
-blockBytes w = rowTo (λ k. bytes (w k)) 63 ++ bytes (checkSum w 63)
+-- a block: words 0 to 62 and their check
+unfoldable pub blockBytes : Rule → (ℕ → ℕ) → List ℕ
+blockBytes rule w = rowTo (λ k. bytes (w k)) 63 ++ bytes (sumBy rule w)
 
 -- word k of an array of words
 abbrev pub wordAt : List ℕ → ℕ → ℕ
@@ -30,5 +31,5 @@ abbrev pub put : List ℕ → ℕ → List ℕ → List ℕ
 put l from bs = take from l ++ bs ++ drop (from + length bs) l
 
 -- a slice once `bs` is written to it at an index: as it was, where `bs` does not fit
-unfoldable pub written : List ℕ → ℕ → List ℕ → List ℕ
-written l from bs = cond (leb (from + length bs) (length l)) (put l from bs) l
+unfoldable pub stored : List ℕ → ℕ → List ℕ → List ℕ
+stored l from bs = cond (leb (from + length bs) (length l)) (put l from bs) l

@@ -4,6 +4,8 @@ use mathlib.Core.Bool.{Bool}
 use Prim.Native.Nat.{ℕ, zero, suc, _+_, _*_, _%_, _^_}
 use lib.Dec.{eqb}
 use lib.ListN.{getD, take, drop}
+use Rattle.blocks.specs.declared.Rule.{Rule}
+use Rattle.blocks.specs.declared.Rule.the-variants.{Plain}
 
 -- the byte at an index; past the end 0
 abbrev pub byte : List ℕ → ℕ → ℕ
@@ -14,7 +16,7 @@ abbrev pub wordOf : ℕ → ℕ → ℕ → ℕ → ℕ → ℕ → ℕ → ℕ 
 wordOf a b c d e f g h = a + b * 256 + c * 65536 + d * 16777216 + (e + f * 256 + g * 65536 + h * 16777216) * 4294967296
 
 -- the word whose lowest byte stands at an index
-unfoldable pub wordFrom : List ℕ → ℕ → ℕ
+abbrev pub wordFrom : List ℕ → ℕ → ℕ
 wordFrom s at =
     wordOf (byte s at) (byte s (at + 1)) (byte s (at + 2)) (byte s (at + 3)) (byte s (at + 4)) (byte s (at + 5)) (byte s (at + 6)) (byte s (at + 7))
 
@@ -31,6 +33,10 @@ unfoldable pub checkSum : (ℕ → ℕ) → ℕ → ℕ
 checkSum w zero = 0
 checkSum w (suc n) = (checkSum w n + w n) % 2 ^ 64
 
--- of a block's words: is word 63 the sum of words 0 to 62?
-unfoldable pub checkRight : (ℕ → ℕ) → Bool
-checkRight w = eqb (checkSum w 63) (w 63)
+-- the check of a block's words 0 to 62, by a rule: plainly their sum
+unfoldable pub sumBy : Rule → (ℕ → ℕ) → ℕ
+sumBy Plain w = checkSum w 63
+
+-- of a block's words: is word 63 the check of the others?
+unfoldable pub checkRight : Rule → (ℕ → ℕ) → Bool
+checkRight rule w = eqb (sumBy rule w) (w 63)

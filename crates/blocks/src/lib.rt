@@ -1,10 +1,15 @@
-// Blocks of 512 bytes: 64 little-endian words of 64 bits, the last the sum of the others.
+// Blocks of 512 bytes: 64 little-endian words of 64 bits, the last the check of the others.
 ghost use mathlib.Core.Path.{_≡_};
 ghost use mathlib.Core.List.{_++_};
 ghost use Prim.Native.Nat.{_≤_, _<_, _+_, _*_};
 ghost use lib.ListN.{length, drop};
-ghost use Rattle.blocks.specs.Words.{byte, word, wordOf, wordFrom, block, checkSum, checkRight};
-ghost use Rattle.blocks.specs.Bytes.{bytes, put, written, blockBytes, wordAt};
+ghost use Rattle.blocks.specs.Words.{byte, word, wordOf, wordFrom, block, checkSum, sumBy, checkRight};
+ghost use Rattle.blocks.specs.Bytes.{bytes, rowTo, put, stored, blockBytes, wordAt};
+
+// How a block's check is worked out: plainly the sum of its words 0 to 62.
+pub enum Rule {
+    Plain,
+}
 
 fn wide(x: u8) -> u64
     ensures { λ r. ⌜ (r ≡ x) × (r < 256) ⌝ }
@@ -121,8 +126,9 @@ fn sum_short(s: &[u8]) -> u64
     sum
 }
 
-// The sum of words 0 to 62 of a block, modulo 2^64. A whole block has a loop of its own: with `word`'s test in it the sum takes four times as long.
-fn block_sum(s: &[u8]) -> u64
+// The sum of words 0 to 62 of a block, modulo 2^64. A whole block has a loop of its own: with `word`'s test in it the
+// sum takes four times as long.
+fn plain_sum(s: &[u8]) -> u64
     ensures { λ r. ⌜ r ≡ checkSum (word (now (s .entry))) 63 ⌝ }
 {
     if 504 <= s.len() {
@@ -132,11 +138,19 @@ fn block_sum(s: &[u8]) -> u64
     }
 }
 
-// Is word 63 of a block the sum of the words before it?
-pub fn check_right(s: &[u8]) -> bool
-    ensures { λ r. ⌜ r ≡ checkRight (word (now (s .entry))) ⌝ }
+fn sum_by(rule: Rule, s: &[u8]) -> u64
+    ensures { λ r. ⌜ r ≡ sumBy rule (word (now (s .entry))) ⌝ }
 {
-    block_sum(s) == word(s, 63)
+    match rule {
+        Rule::Plain => plain_sum(s),
+    }
+}
+
+// Is word 63 of a block the check of the words before it?
+pub fn check_right(rule: Rule, s: &[u8]) -> bool
+    ensures { λ r. ⌜ r ≡ checkRight rule (word (now (s .entry))) ⌝ }
+{
+    sum_by(rule, s) == word(s, 63)
 }
 
 fn write_from(out: &mut [u8], from: usize, w: u64)
@@ -162,46 +176,63 @@ fn store_word(out: &mut [u8], k: usize, w: u64)
 
 // Word k of a slice is written; where the slice is too short, nothing.
 pub fn write_word(out: &mut [u8], k: usize, w: u64)
-    ensures { λ _. ⌜ now (out .exit) ≡ written (now (out .entry)) (8 * k) (bytes w) ⌝ }
+    ensures { λ _. ⌜ now (out .exit) ≡ stored (now (out .entry)) (8 * k) (bytes w) ⌝ }
 {
     if k < out.len() / 8 {
         store_word(out, k, w);
     }
 }
 
-fn store_block(out: &mut [u8], ws: &[u64; 64])
-    requires { ⌜ 512 ≤ length (now out) ⌝ }
-    ensures { λ _. ⌜ now (out .exit) ≡ blockBytes (wordAt (now (ws .entry))) ++ drop 512 (now (out .entry)) ⌝ }
+fn words_sum(ws: &[u64; 64]) -> u64
+    ensures { λ r. ⌜ r ≡ checkSum (wordAt (now (ws .entry))) 63 ⌝ }
 {
     let mut sum: u64 = 0;
     for k in 0usize..63 {
-        let w = ws[k];
-        store_word(out, k, w);
-        sum = std::num::wrapping_add_u64(sum, w);
+        sum = std::num::wrapping_add_u64(sum, ws[k]);
     }
-    store_word(out, 63, sum);
+    sum
 }
 
-fn store_at(out: &mut [u8], b: usize, ws: &[u64; 64])
-    requires { ⌜ 512 * b + 512 ≤ length (now out) ⌝ }
-    ensures { λ _. ⌜ now (out .exit) ≡ put (now (out .entry)) (512 * b) (blockBytes (wordAt (now (ws .entry)))) ⌝ }
+fn words_sum_by(rule: Rule, ws: &[u64; 64]) -> u64
+    ensures { λ r. ⌜ r ≡ sumBy rule (wordAt (now (ws .entry))) ⌝ }
 {
-    let from = 512 * b;
-    store_block(&mut out[from..], ws);
+    match rule {
+        Rule::Plain => words_sum(ws),
+    }
 }
 
-// Block b of a slice is written: words 0 to 62 of `ws` and their sum. Where the slice is too short, nothing.
-pub fn write_at(out: &mut [u8], b: usize, ws: &[u64; 64])
-    ensures { λ _. ⌜ now (out .exit) ≡ written (now (out .entry)) (512 * b) (blockBytes (wordAt (now (ws .entry)))) ⌝ }
+// Words 0 to 62 of `ws`, then word 63.
+fn store_words(out: &mut [u8], ws: &[u64; 64], check: u64)
+    requires { ⌜ 512 ≤ length (now out) ⌝ }
+    ensures { λ _. ⌜ now (out .exit) ≡ (rowTo (λ k. bytes (wordAt (now (ws .entry)) k)) 63 ++ bytes check) ++ drop 512 (now (out .entry)) ⌝ }
+{
+    for k in 0usize..63 {
+        store_word(out, k, ws[k]);
+    }
+    store_word(out, 63, check);
+}
+
+fn store_at(out: &mut [u8], b: usize, rule: Rule, ws: &[u64; 64])
+    requires { ⌜ 512 * b + 512 ≤ length (now out) ⌝ }
+    ensures { λ _. ⌜ now (out .exit) ≡ put (now (out .entry)) (512 * b) (blockBytes rule (wordAt (now (ws .entry)))) ⌝ }
+{
+    let check = words_sum_by(rule, ws);
+    let from = 512 * b;
+    store_words(&mut out[from..], ws, check);
+}
+
+// Block b of a slice is written: words 0 to 62 of `ws` and their check. Where the slice is too short, nothing.
+pub fn write_at(out: &mut [u8], b: usize, rule: Rule, ws: &[u64; 64])
+    ensures { λ _. ⌜ now (out .exit) ≡ stored (now (out .entry)) (512 * b) (blockBytes rule (wordAt (now (ws .entry)))) ⌝ }
 {
     if b < out.len() / 512 {
-        store_at(out, b, ws);
+        store_at(out, b, rule, ws);
     }
 }
 
 // The first block of a slice is written, as by `write_at`.
-pub fn write_block(out: &mut [u8], ws: &[u64; 64])
-    ensures { λ _. ⌜ now (out .exit) ≡ written (now (out .entry)) 0 (blockBytes (wordAt (now (ws .entry)))) ⌝ }
+pub fn write_block(out: &mut [u8], rule: Rule, ws: &[u64; 64])
+    ensures { λ _. ⌜ now (out .exit) ≡ stored (now (out .entry)) 0 (blockBytes rule (wordAt (now (ws .entry)))) ⌝ }
 {
-    write_at(out, 0, ws);
+    write_at(out, 0, rule, ws);
 }

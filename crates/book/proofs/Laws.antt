@@ -4,34 +4,42 @@ use mathlib.Core.Bool.{Bool, true, false, not, _&&_, true≢false}
 use Prim.Native.Nat.{ℕ, zero, suc, _+_, _≤_, _<_, _-_, _*_}
 use native.Mathlib.Numerals.{add-one}
 use native.Mathlib.Omega.{arith}
-use borrow.Author.Tests.{leb-true, eq-eqb, ne-eqb}
+use borrow.Author.Tests.{leb-true, eq-eqb, ne-eqb, lt-ltb, le-ltb}
 use lib.Dec.{eqb, ltb, leb}
 use Rattle.floats.specs.Fold.{allTo}
 use Rattle.floats.specs.Outcome.{Out, ok, no, need}
 use Rattle.floats.proofs.Folds.{all-at}
+use Rattle.book.specs.declared.Head.{Head}
 use Rattle.book.specs.declared.Opened.{Opened}
 use Rattle.book.specs.declared.Opened.the-variants.{Book, No}
 use Rattle.book.specs.Places.{pairCount, blockCount, rowFrom, pairPlace}
 use Rattle.book.specs.Book.{headRight, openedOf}
 
-pub opened-ok : (o : Out ℕ) {n : ℕ} → Book n ≡ openedOf o → o ≡ ok n
+pub opened-ok : (o : Out Head) {h : Head} → Book h ≡ openedOf o → o ≡ ok h
 unfolding openedOf
 opened-ok (ok m) e = cc
 opened-ok (no r) e = let z : _≡_ {A = ℕ} 0 1 = cc in absurd (omega arith)
 
-pub opened-no : (o : Out ℕ) {r : ℕ} → No r ≡ openedOf o → o ≡ no r
+pub opened-no : (o : Out Head) {r : ℕ} → No r ≡ openedOf o → o ≡ no r
 unfolding openedOf
 opened-no (ok m) e = let z : _≡_ {A = ℕ} 0 1 = cc in absurd (omega arith)
 opened-no (no r) e = cc
 
 -- a question that is answered no, and one that is answered yes
-pub says-no : (r : ℕ) (o : Out ℕ) {b : Bool} → b ≡ false → No r ≡ openedOf (need b r o)
+pub says-no : (r : ℕ) (o : Out Head) {b : Bool} → b ≡ false → No r ≡ openedOf (need b r o)
 unfolding need openedOf
 says-no r o e = rw e
 
-pub says-yes : (r : ℕ) (o : Out ℕ) {b : Bool} {x : Opened} → b ≡ true → x ≡ openedOf o → x ≡ openedOf (need b r o)
+pub says-yes : (r : ℕ) (o : Out Head) {b : Bool} {x : Opened} → b ≡ true → x ≡ openedOf o → x ≡ openedOf (need b r o)
 unfolding need
 says-yes r o e h = rw e h
+
+-- question 1's second test
+pub none : {l : ℕ} → l ≡ 0 → ltb 0 l ≡ false
+none {l} e = le-ltb 0 l (omega arith)
+
+pub some : {l : ℕ} → (l ≡ 0 → ⊥) → ltb 0 l ≡ true
+some {l} f = lt-ltb 0 l (omega arith)
 
 -- the rows of pairs end where the book does, and a count of pairs is small: at n up to 8 antt computes it
 fitting : ℕ → ℕ → Bool
@@ -39,7 +47,8 @@ fitting n i = leb (rowFrom n i) (blockCount n)
 
 pub row-fits : (n i : ℕ) → n ≤ 8 → i ≤ n → rowFrom n i ≤ blockCount n
 unfolding fitting allTo rowFrom
-row-fits n i a b = leb-true (rowFrom n i) (blockCount n) (all-at (fitting n) (suc n) i (omega arith) (all-at (λ m. allTo (fitting m) (suc m)) 9 n (omega arith) refl))
+row-fits n i a b =
+    leb-true (rowFrom n i) (blockCount n) (all-at (fitting n) (suc n) i (omega arith) (all-at (λ m. allTo (fitting m) (suc m)) 9 n (omega arith) refl))
 
 pub few : (n : ℕ) → n ≤ 8 → n * (n - 1) ≤ 56
 unfolding allTo

@@ -15,7 +15,8 @@ use Rattle.floats.proofs.Folds.{all-cong}
 use Rattle.book.proofs.Laws.{row-above}
 use Rattle.book.specs.Places.{words, pairCount, rowFrom}
 use Rattle.book.specs.Named.{pairNamed, named, Agree}
-use Rattle.book.specs.Book.{floatsFinite, headRight, solventRight, rangeRight, termCount, recordRight, recordsRight, casNew, pairRight, rowRight, boundsFinite, pairFinite, alphasEqual, pairsOf, solventsOf, headOf, bookOf}
+use Rattle.book.specs.Book.{floatsFinite, headRight, solventRight, rangeRight, termCount, recordRight, recordsRight, casNew, pairRight, rowRight}
+use Rattle.book.specs.Book.{boundsFinite, pairFinite, alphasEqual, headIn, pairsOf, solventsOf, headOf, ruleOf, bookOf}
 
 -- a block's tests read only its named words
 pub floats-same : (w v : ℕ → ℕ) (f n : ℕ) → ((k : ℕ) → k < n → w (f + k) ≡ v (f + k)) → floatsFinite w f n ≡ floatsFinite v f n
@@ -40,10 +41,10 @@ module _ (w v : ℕ → ℕ) (e : (k : ℕ) → k < 45 → w k ≡ v k) where
   record-same f h =
       let c : w (f + 4) ≡ v (f + 4) = e (f + 4) (omega arith) in
       let m : termCount v f ≤ 8 = min-le-right (v (f + 4)) 8 in
+      let used : (g : ℕ) → g + 8 ≤ 45 → floatsFinite w g (termCount v f) ≡ floatsFinite v g (termCount v f) =
+      λ g h. floats-same w v g (termCount v f) (λ k l. e (g + k) (omega arith)) in
       let a : floatsFinite w f 4 ≡ floatsFinite v f 4 = floats-same w v f 4 (λ k l. e (f + k) (omega arith)) in
-      let n : floatsFinite w (f + 5) (termCount v f) ≡ floatsFinite v (f + 5) (termCount v f) = floats-same w v (f + 5) (termCount v f) (λ k l. e (f + 5 + k) (omega arith)) in
-      let t : floatsFinite w (f + 13) (termCount v f) ≡ floatsFinite v (f + 13) (termCount v f) = floats-same w v (f + 13) (termCount v f) (λ k l. e (f + 13 + k) (omega arith)) in
-      rw (c, a, n, t, range-same f h)
+      rw (c, a, used (f + 5) (omega arith), used (f + 13) (omega arith), range-same f h)
 
   records-same : recordsRight w ≡ recordsRight v
   unfolding recordsRight
@@ -119,31 +120,38 @@ module _ (s t : List ℕ) (a : Agree s t) where
       }
 
 module _ (s t : List ℕ) (a : Agree s t) where
-  pairs-same : pairsOf (words s) (words s 0 2) ≡ pairsOf (words t) (words s 0 2)
-  unfolding pairsOf rowRight
+  pairs-same : pairsOf (words s) (headIn (words s 0)) ≡ pairsOf (words t) (headIn (words s 0))
+  unfolding pairsOf rowRight headIn
   pairs-same =
       let n = words s 0 2 in
-      let q7 = all-cong n (λ i l. all-cong (n - i - 1) (λ d m. pair-same _ _ (pair-agrees s t a (rowFrom n i + d) (omega (arith, row-above n i))) i (i + 1 + d))) in
+      let q7 =
+      all-cong n (λ i l. all-cong (n - i - 1) (λ d m. pair-same _ _ (pair-agrees s t a (rowFrom n i + d) (omega (arith, row-above n i))) i (i + 1 + d))) in
       let q8 = all-cong (pairCount n) (λ d m. finite-same _ _ (pair-agrees s t a (1 + n + d) (omega arith))) in
       let q9 = all-cong (pairCount n) (λ d m. alphas-same _ _ (pair-agrees s t a (1 + n + d) (omega arith))) in
       rw (q7, q8, q9)
 
-  solvents-same : solventsOf (words s) (words s 0 2) ≡ solventsOf (words t) (words s 0 2)
-  unfolding solventsOf casNew
+  solvents-same : solventsOf (words s) (headIn (words s 0)) ≡ solventsOf (words t) (headIn (words s 0))
+  unfolding solventsOf casNew headIn
   solvents-same =
       let n = words s 0 2 in
       let q4 = all-cong n (λ i l. solvent-same (words s (i + 1)) (words t (i + 1)) (solvent-agrees s t a i l) i) in
       let q5 = all-cong n (λ i l. records-same (words s (i + 1)) (words t (i + 1)) (solvent-agrees s t a i l)) in
-      let q6 = all-cong n (λ i l. all-cong i (λ j m. cas-same (solvent-agrees s t a j (omega arith) 2 (omega arith)) (solvent-agrees s t a i l 2 (omega arith)))) in
+      let cas : (i : ℕ) → i < n → words s (i + 1) 2 ≡ words t (i + 1) 2 = λ i l. solvent-agrees s t a i l 2 (omega arith) in
+      let q6 = all-cong n (λ i l. all-cong i (λ j m. cas-same (cas j (omega arith)) (cas i l))) in
       rw (q4, q5, q6, pairs-same)
     where
       cas-same : {a b c d : ℕ} → a ≡ b → c ≡ d → not (eqb a c) ≡ not (eqb b d)
       cas-same p q = rw (p, q)
 
+  head-in-same : headIn (words s 0) ≡ headIn (words t 0)
+  unfolding headIn
+  head-in-same = rw (head-agrees s t a 1 (omega arith), head-agrees s t a 2 (omega arith))
+
   -- the checks of both are right: then the same is answered
-  pub book-unread : allTo (λ k. checkRight (words s k)) (length s / 512) ≡ true → allTo (λ k. checkRight (words t k)) (length t / 512) ≡ true → bookOf s ≡ bookOf t
+  pub book-unread : allTo (λ k. checkRight (ruleOf s) (words s k)) (length s / 512) ≡ true
+      → allTo (λ k. checkRight (ruleOf t) (words t k)) (length t / 512) ≡ true → bookOf s ≡ bookOf t
   unfolding bookOf headOf
   book-unread p q =
       let h = head-same (words s 0) (words t 0) (head-agrees s t a) in
       let n = head-agrees s t a 2 (omega arith) in
-      rw (p, q, h, solvents-same, a .size, n)
+      rw (p, q, h, solvents-same, head-in-same, a .size, n)

@@ -1,24 +1,23 @@
--- Questions 1 to 9 in document 01's order, each put to all blocks before the next. In a test of one block w k is its word k; over a whole book
+-- Questions 1 to 9 in the order of docs/FORMAT.md, each put to all blocks before the next. In a test of one block w k is its word k; over a whole book
 -- w j k is word k of block j. Assumes nothing.
 use mathlib.Core.List.{List}
 use mathlib.Core.Bool.{Bool, true, not, cond, _&&_}
 use Prim.Native.Nat.{ℕ, _+_, _-_, _/_, _%_}
 use lib.Dec.{eqb, ltb, leb}
-use lib.Ieee.{Float, lt, le, eq}
+use lib.Ieee.{lt, le, eq}
 use lib.ListN.{length}
 use Rattle.blocks.specs.Words.{checkRight}
+use Rattle.blocks.specs.declared.Rule.{Rule}
+use Rattle.blocks.specs.declared.Rule.the-variants.{Plain}
 use Rattle.floats.specs.Arithmetic.{0f}
-use Rattle.floats.specs.Small.{isFinite, floatOf}
+use Rattle.floats.specs.Small.{isFinite, float}
 use Rattle.floats.specs.Fold.{allTo}
 use Rattle.floats.specs.Vector.{places}
 use Rattle.floats.specs.Outcome.{Out, ok, no, need}
 use Rattle.book.specs.Places.{words, pairCount, blockCount, rowFrom}
+use Rattle.book.specs.declared.Head.{Head}
 use Rattle.book.specs.declared.Opened.{Opened}
 use Rattle.book.specs.declared.Opened.the-variants.{Book, No}
-
--- the float in word k
-abbrev pub float : (ℕ → ℕ) → ℕ → Float
-float w k = floatOf (w k)
 
 -- words f to f + n - 1 are finite floats
 unfoldable pub floatsFinite : (ℕ → ℕ) → ℕ → ℕ → Bool
@@ -73,32 +72,40 @@ pairFinite w = floatsFinite w 3 12 && boundsFinite w
 unfoldable pub alphasEqual : (ℕ → ℕ) → Bool
 alphasEqual w = eq (float w 11) (float w 13) && eq (float w 12) (float w 14)
 
+-- what block 0 says of the book
+unfoldable pub headIn : (ℕ → ℕ) → Head
+headIn w = record { n = w 2; version = w 1 }
+
 -- questions 7 to 9, on the pairs
-unfoldable pub pairsOf : (ℕ → ℕ → ℕ) → ℕ → Out ℕ
-pairsOf w n =
-    need (allTo (λ i. rowRight w i (rowFrom n i) (n - i - 1)) n) 7
-    (need (allTo (λ d. pairFinite (w (1 + n + d))) (pairCount n)) 8
-    (need (allTo (λ d. alphasEqual (w (1 + n + d))) (pairCount n)) 9 (ok n)))
+unfoldable pub pairsOf : (ℕ → ℕ → ℕ) → Head → Out Head
+pairsOf w h =
+    need (allTo (λ i. rowRight w i (rowFrom (h .n) i) (h .n - i - 1)) (h .n)) 7
+    (need (allTo (λ d. pairFinite (w (1 + h .n + d))) (pairCount (h .n))) 8
+    (need (allTo (λ d. alphasEqual (w (1 + h .n + d))) (pairCount (h .n))) 9 (ok h)))
 
 -- questions 4 to 6, on the solvents, then those on the pairs
-unfoldable pub solventsOf : (ℕ → ℕ → ℕ) → ℕ → Out ℕ
-solventsOf w n =
-    need (allTo (λ i. solventRight (w (i + 1)) i) n) 4
-    (need (allTo (λ i. recordsRight (w (i + 1))) n) 5
-    (need (allTo (casNew w) n) 6 (pairsOf w n)))
+unfoldable pub solventsOf : (ℕ → ℕ → ℕ) → Head → Out Head
+solventsOf w h =
+    need (allTo (λ i. solventRight (w (i + 1)) i) (h .n)) 4
+    (need (allTo (λ i. recordsRight (w (i + 1))) (h .n)) 5
+    (need (allTo (casNew w) (h .n)) 6 (pairsOf w h)))
 
 -- question 3, on block 0 and the number of blocks, then the others
-unfoldable pub headOf : (ℕ → ℕ → ℕ) → ℕ → Out ℕ
-headOf w count = need (headRight (w 0)) 3 (need (eqb count (blockCount (w 0 2))) 3 (solventsOf w (w 0 2)))
+unfoldable pub headOf : (ℕ → ℕ → ℕ) → ℕ → Out Head
+headOf w count = need (headRight (w 0)) 3 (need (eqb count (blockCount (w 0 2))) 3 (solventsOf w (headIn (w 0))))
 
--- questions 1 and 2, then the others: the number of solvents, or the number of the first question that is answered no
-unfoldable pub bookOf : List ℕ → Out ℕ
+-- by which rule the blocks of a call are checked, from the book's bytes
+unfoldable pub ruleOf : List ℕ → Rule
+ruleOf s = Plain
+
+-- questions 1 and 2, then the others: what block 0 says, or the number of the first question that is answered no
+unfoldable pub bookOf : List ℕ → Out Head
 bookOf s =
     need (eqb (length s % 512) 0) 1
     (need (ltb 0 (length s)) 1
-    (need (allTo (λ k. checkRight (words s k)) (length s / 512)) 2 (headOf (words s) (length s / 512))))
+    (need (allTo (λ k. checkRight (ruleOf s) (words s k)) (length s / 512)) 2 (headOf (words s) (length s / 512))))
 
 -- as the code answers
-unfoldable pub openedOf : Out ℕ → Opened
-openedOf (ok n) = Book n
+unfoldable pub openedOf : Out Head → Opened
+openedOf (ok h) = Book h
 openedOf (no r) = No r

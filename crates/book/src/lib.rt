@@ -2,15 +2,22 @@
 ghost use mathlib.Core.Path.{_≡_};
 ghost use Prim.Native.Nat.{_≤_, _<_, _+_, _*_, _-_};
 ghost use lib.ListN.{length};
-ghost use Rattle.blocks.specs.Words.{word, block, checkRight};
-ghost use Rattle.floats.specs.Small.{isFinite, floatOf};
+ghost use Rattle.blocks.specs.Words.{word, wordFrom, block, checkRight};
+ghost use Rattle.floats.specs.Small.{isFinite, floatOf, float};
 ghost use Rattle.floats.specs.Fold.{allTo};
 ghost use Rattle.book.specs.Places.{words, pairCount, blockCount, rowFrom};
-ghost use Rattle.book.specs.Book.{float, floatsFinite, headRight, solventRight, rangeRight, recordRight, recordsRight, casNew, pairRight, rowRight, boundsFinite, pairFinite, alphasEqual, pairsOf, solventsOf, headOf, bookOf, openedOf};
+ghost use Rattle.book.specs.Book.{floatsFinite, headRight, solventRight, rangeRight, recordRight, recordsRight, casNew, pairRight, rowRight, boundsFinite, pairFinite, alphasEqual, pairsOf, solventsOf, headOf, ruleOf, bookOf, openedOf};
+use blocks::Rule;
 
-// A book that passed, with its number of solvents, or the number of the question that was answered no.
+// What block 0 says: the number of solvents, and the version.
+pub struct Head {
+    pub n: usize,
+    pub version: u64,
+}
+
+// A book that passed, or the number of the question that was answered no.
 pub enum Opened {
-    Book(usize),
+    Book(Head),
     No(u64),
 }
 
@@ -24,12 +31,10 @@ fn whole_block(book: &[u8], k: usize) -> &[u8]
     &book[from..to]
 }
 
-// A word of a whole block, read with no test for the slice's end.
-fn word(s: &[u8], k: usize) -> u64
-    requires { ⌜ (length (now s) ≡ 512) × (k < 64) ⌝ }
-    ensures { λ r. ⌜ r ≡ word (now (s .entry)) k ⌝ }
+fn word_from(s: &[u8], at: usize) -> u64
+    requires { ⌜ at + 8 ≤ length (now s) ⌝ }
+    ensures { λ r. ⌜ r ≡ wordFrom (now (s .entry)) at ⌝ }
 {
-    let at = 8 * k;
     blocks::word_of(
         s[at],
         s[at + 1],
@@ -40,6 +45,14 @@ fn word(s: &[u8], k: usize) -> u64
         s[at + 6],
         s[at + 7],
     )
+}
+
+// A word of a whole block, read with no test for the slice's end.
+fn word(s: &[u8], k: usize) -> u64
+    requires { ⌜ (length (now s) ≡ 512) × (k < 64) ⌝ }
+    ensures { λ r. ⌜ r ≡ word (now (s .entry)) k ⌝ }
+{
+    word_from(s, 8 * k)
 }
 
 fn float_at(s: &[u8], k: usize) -> f64
@@ -68,12 +81,12 @@ fn floats_finite(s: &[u8], from: usize, count: usize) -> bool
     right
 }
 
-fn checks_right(book: &[u8], count: usize) -> bool
-    ensures { λ r. ⌜ r ≡ allTo (λ k. checkRight (words (now (book .entry)) k)) count ⌝ }
+fn checks_right(rule: Rule, book: &[u8], count: usize) -> bool
+    ensures { λ r. ⌜ r ≡ allTo (λ k. checkRight rule (words (now (book .entry)) k)) count ⌝ }
 {
     let mut k = 0;
     while k < count {
-        if !blocks::check_right(blocks::block(book, k)) {
+        if !blocks::check_right(rule, blocks::block(book, k)) {
             return false;
         }
         k += 1;
@@ -307,10 +320,11 @@ fn all_alphas_equal(book: &[u8], from: usize, count: usize) -> bool
     true
 }
 
-fn open_pairs(book: &[u8], n: usize) -> Opened
-    requires { ⌜ (n ≤ 8) × (512 * blockCount n ≤ length (now book)) ⌝ }
-    ensures { λ r. ⌜ r ≡ openedOf (pairsOf (words (now (book .entry))) n) ⌝ }
+fn open_pairs(book: &[u8], head: Head) -> Opened
+    requires { ⌜ (head .n ≤ 8) × (512 * blockCount (head .n) ≤ length (now book)) ⌝ }
+    ensures { λ r. ⌜ r ≡ openedOf (pairsOf (words (now (book .entry))) head) ⌝ }
 {
+    let n = head.n;
     if !pairs_right(book, n) {
         return Opened::No(7);
     }
@@ -321,13 +335,14 @@ fn open_pairs(book: &[u8], n: usize) -> Opened
     if !all_alphas_equal(book, 1 + n, count) {
         return Opened::No(9);
     }
-    Opened::Book(n)
+    Opened::Book(head)
 }
 
-fn open_solvents(book: &[u8], n: usize) -> Opened
-    requires { ⌜ (n ≤ 8) × (512 * blockCount n ≤ length (now book)) ⌝ }
-    ensures { λ r. ⌜ r ≡ openedOf (solventsOf (words (now (book .entry))) n) ⌝ }
+fn open_solvents(book: &[u8], head: Head) -> Opened
+    requires { ⌜ (head .n ≤ 8) × (512 * blockCount (head .n) ≤ length (now book)) ⌝ }
+    ensures { λ r. ⌜ r ≡ openedOf (solventsOf (words (now (book .entry))) head) ⌝ }
 {
+    let n = head.n;
     if !solvents_right(book, n) {
         return Opened::No(4);
     }
@@ -337,25 +352,33 @@ fn open_solvents(book: &[u8], n: usize) -> Opened
     if !cas_distinct(book, n) {
         return Opened::No(6);
     }
-    open_pairs(book, n)
+    open_pairs(book, head)
 }
 
 fn open_head(book: &[u8], count: usize) -> Opened
     requires { ⌜ (0 < count) × (512 * count ≤ length (now book)) ⌝ }
     ensures { λ r. ⌜ r ≡ openedOf (headOf (words (now (book .entry))) count) ⌝ }
 {
-    let head = whole_block(book, 0);
-    if !head_right(head) {
+    let first = whole_block(book, 0);
+    if !head_right(first) {
         return Opened::No(3);
     }
-    let n = word(head, 2) as usize;
+    let n = word(first, 2) as usize;
     if count != 1 + n + pair_count(n) {
         return Opened::No(3);
     }
-    open_solvents(book, n)
+    let version = word(first, 1);
+    open_solvents(book, Head { n, version })
 }
 
-// Questions 1 to 9: the number of solvents, or the number of the first question that is answered no.
+// The rule by which the blocks of a call are checked: a book's own, its question's and its answer's.
+pub fn rule_of(book: &[u8]) -> Rule
+    ensures { λ r. ⌜ r ≡ ruleOf (now (book .entry)) ⌝ }
+{
+    Rule::Plain
+}
+
+// Questions 1 to 9: what block 0 says, or the number of the first question that is answered no.
 pub fn open_book(book: &[u8]) -> Opened
     ensures { λ r. ⌜ r ≡ openedOf (bookOf (now (book .entry))) ⌝ }
 {
@@ -366,7 +389,7 @@ pub fn open_book(book: &[u8]) -> Opened
         return Opened::No(1);
     }
     let count = book.len() / 512;
-    if !checks_right(book, count) {
+    if !checks_right(rule_of(book), book, count) {
         return Opened::No(2);
     }
     open_head(book, count)

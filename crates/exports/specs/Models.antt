@@ -9,19 +9,18 @@ use Rattle.floats.specs.Arithmetic.{0f, 1f, 2f}
 use Rattle.floats.specs.Vector.{at, fillFrom}
 use Rattle.floats.specs.Outcome.{Out, ok, no, bind}
 use Rattle.thermo_types.specs.Quantities.{positiveOf}
-use Rattle.book.specs.Places.{words}
+use Rattle.book.specs.declared.Head.{Head}
 use Rattle.book.specs.Book.{bookOf}
-use Rattle.records.specs.Tables.{tauWord, alphaWord, table}
 use Rattle.liquid.specs.Vapor.{Vapor, vaporPressureOf}
-use Rattle.nrtl.specs.declared.Energies.{Energies}
-use Rattle.nrtl.specs.State.{Excess, excessOf}
-use Rattle.nrtl.specs.Answers.{energiesOf}
+use Rattle.excess.specs.declared.Energies.{Energies}
+use Rattle.excess.specs.State.{Excess}
+use Rattle.excess.specs.Answers.{energiesOf}
 use Rattle.thermo_models.specs.declared.Assessment.{Assessment}
 use Rattle.thermo_models.specs.declared.ValidityStatus.{ValidityStatus}
 use Rattle.thermo_models.specs.declared.ValidityStatus.the-variants.{Unassessed, WithinDeclaredDomain, Extrapolated}
 use Rattle.thermo_models.specs.Domain.{vaporRecord}
-use Rattle.thermo_models.specs.Validity.{validityOf}
-use Rattle.exports.specs.Slices.{eightOf, numberOf}
+use Rattle.thermo_models.specs.Mixture.{Mixture, mixtureOf}
+use Rattle.exports.specs.Slices.{eightOf, outcomeNumber}
 
 -- ---- vapor pressure of solvent i at t
 
@@ -31,7 +30,7 @@ vaporFrom book i t = bind (positiveOf t 13) (λ v. vaporPressureOf (vaporRecord 
 
 -- the book's questions (1 to 9) first
 unfoldable pub vaporAt : List ℕ → ℕ → Float → Out Vapor
-vaporAt book i t = bind (bookOf book) (λ n. vaporFrom book i t)
+vaporAt book i t = bind (bookOf book) (λ h. vaporFrom book i t)
 
 -- p, ln p and its two derivatives in the first four entries; a refusal leaves the slice as it was
 unfoldable pub vaporWritten : Out Vapor → List Float → List Float
@@ -39,7 +38,7 @@ vaporWritten (ok v) old = set (set (set (set old 0 (v .pressure)) 1 (v .lnPressu
 vaporWritten (no r) old = old
 
 pub record VaporGives (o : Out Vapor) (r : ℕ) (old new : List Float) : Type 0 where
-  pub number : r ≡ numberOf o
+  pub number : r ≡ outcomeNumber o
   pub floats : new ≡ vaporWritten o old
 
 -- ---- the excess state at t and x
@@ -48,19 +47,17 @@ pub record Assessed : Type 0 where
   pub excess : Excess
   pub assessment : Assessment
 
--- from the book's parameters, with its validity
-unfoldable pub excessIn : List ℕ → ℕ → Float → List Float → Out Assessed
-excessIn book n t x =
-    bind (excessOf (table (tauWord (words book) n) 4 n) (table (alphaWord (words book) n) 2 n) n t (at x)) (λ e.
-    ok (record { excess = e; assessment = validityOf book n t x }))
+-- of the mixture, with its validity
+unfoldable pub excessIn : Mixture → Float → List Float → Out Assessed
+excessIn m t x = bind (m .excess t x) (λ e. ok (record { excess = e; assessment = m .validity t x }))
 
 -- t (13) first
 unfoldable pub excessFrom : List ℕ → ℕ → Float → List Float → Out Assessed
-excessFrom book n t x = bind (positiveOf t 13) (λ v. excessIn book n v (eightOf x))
+excessFrom book n t x = bind (positiveOf t 13) (λ v. excessIn (mixtureOf book n) v (eightOf x))
 
 -- the book's questions (1 to 9) first
 unfoldable pub excessAt : List ℕ → Float → List Float → Out Assessed
-excessAt book t x = bind (bookOf book) (λ n. excessFrom book n t x)
+excessAt book t x = bind (bookOf book) (λ h. excessFrom book (h .n) t x)
 
 -- word 35 and word 36 as floats
 unfoldable pub statusFloat : ValidityStatus → Float
@@ -84,5 +81,5 @@ excessWritten (ok s) old =
 excessWritten (no r) old = old
 
 pub record ExcessGives (o : Out Assessed) (r : ℕ) (old new : List Float) : Type 0 where
-  pub number : r ≡ numberOf o
+  pub number : r ≡ outcomeNumber o
   pub floats : new ≡ excessWritten o old

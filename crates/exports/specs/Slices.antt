@@ -8,6 +8,7 @@ use lib.Ieee.{Float}
 use Rattle.floats.specs.Vector.{at, vec, fill}
 use Rattle.floats.specs.Outcome.{Out, ok, no}
 use Rattle.thermo_types.specs.declared.Verdict.{Verdict}
+use Rattle.book.specs.declared.Head.{Head}
 use Rattle.thermo_types.specs.declared.Verdict.the-variants.{Passed, Refused}
 
 -- the first eight entries, NaN past the end
@@ -15,21 +16,21 @@ unfoldable pub eightOf : List Float → List Float
 eightOf l = vec (at l) 8
 
 -- f 0 to f (count - 1) in the first places of a slice that has them; a shorter one stays as it is
-unfoldable pub stored : (ℕ → Float) → ℕ → List Float → List Float
-stored f count old = cond (leb count (length old)) (fill f count old) old
+unfoldable pub filledFront : (ℕ → Float) → ℕ → List Float → List Float
+filledFront f count old = cond (leb count (length old)) (fill f count old) old
 
 -- 0 for an answer, else the number of the refusal
-unfoldable pub numberOf : {A : Type 0} → Out A → ℕ
-numberOf (ok a) = 0
-numberOf (no r) = r
+unfoldable pub outcomeNumber : {A : Type 0} → Out A → ℕ
+outcomeNumber (ok a) = 0
+outcomeNumber (no r) = r
 
 unfoldable pub verdictNumber : Verdict → ℕ
 verdictNumber Passed = 0
 verdictNumber (Refused r) = r
 
 -- 100 + n for a book of n solvents, else the refusal's number
-unfoldable pub bookNumber : Out ℕ → ℕ
-bookNumber (ok n) = 100 + n
+unfoldable pub bookNumber : Out Head → ℕ
+bookNumber (ok h) = 100 + h .n
 bookNumber (no r) = r
 
 -- how often the benchmark's call is made: not at all without a temperature

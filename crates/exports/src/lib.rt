@@ -12,15 +12,16 @@ ghost use Rattle.thermo_types.specs.Composition.{withFractions, normalizeOf};
 ghost use Rattle.thermo_types.specs.Quantities.{positiveOf};
 ghost use Rattle.liquid.specs.Vapor.{vaporPressureOf};
 ghost use Rattle.thermo_models.specs.Domain.{vaporRecord};
+ghost use Rattle.thermo_models.specs.Mixture.{mixtureOf};
 ghost use Rattle.book.specs.Book.{bookOf};
-ghost use Rattle.sheet.specs.Sheet.{sheetOf, Answers};
-ghost use Rattle.rice_exports.specs.Splits.{number, written, sized, constrainedOf, negativeOf};
-ghost use Rattle.exports.specs.Slices.{eightOf, stored, numberOf, verdictNumber, bookNumber, repeated};
+ghost use Rattle.rice_exports.specs.Splits.{splitNumber, splitWritten, sized, constrainedOf, negativeOf};
+ghost use Rattle.exports.specs.Slices.{eightOf, filledFront, outcomeNumber, verdictNumber, bookNumber, repeated};
 ghost use Rattle.exports.specs.Models.{vaporFrom, vaporAt, VaporGives, excessIn, excessFrom, excessAt, ExcessGives, statusFloat, flagFloat, energiesStored};
 use book::Opened;
+use excess::Energies;
 use liquid::VaporPressure;
-use nrtl::Energies;
 use thermo_models::Assessment;
+use thermo_models::Tabled;
 use thermo_models::ValidityStatus;
 use thermo_types::NewTemperature;
 use thermo_types::Temperature;
@@ -118,7 +119,7 @@ fn refusal(v: Verdict) -> u64
 // 0, or 15, 16, 18.
 #[no_mangle]
 pub extern "C" fn zektonk_fractions(x: &[f64], n: usize) -> u64
-    ensures { λ r. ⌜ r ≡ numberOf (withFractions (at (eightOf (now (x .entry)))) (places n) (ok (places n))) ⌝ }
+    ensures { λ r. ⌜ r ≡ outcomeNumber (withFractions (at (eightOf (now (x .entry)))) (places n) (ok (places n))) ⌝ }
 {
     let a = eight(x);
     refusal(thermo_types::with_fractions(&a, n))
@@ -136,7 +137,7 @@ fn store(a: &[f64; 8], out: &mut [f64])
 // The first n of eight entries over their sum, 0.0 past them; a slice shorter than eight stays.
 #[no_mangle]
 pub extern "C" fn zektonk_normalize(x: &mut [f64], n: usize)
-    ensures { λ _. ⌜ now (x .exit) ≡ stored (at (normalizeOf (at (eightOf (now (x .entry)))) (places n))) 8 (now (x .entry)) ⌝ }
+    ensures { λ _. ⌜ now (x .exit) ≡ filledFront (at (normalizeOf (at (eightOf (now (x .entry)))) (places n))) 8 (now (x .entry)) ⌝ }
 {
     if x.len() < 8 {
         return;
@@ -192,7 +193,7 @@ pub extern "C" fn zektonk_vapor_pressure(book: &[u8], i: usize, t: f64, out: &mu
     }
     let opened = book::open_book(book);
     match opened {
-        Opened::Book(_n) => vapor_of(book, i, t, out),
+        Opened::Book(_head) => vapor_of(book, i, t, out),
         Opened::No(r) => r,
     }
 }
@@ -251,14 +252,15 @@ fn store_state(lg: &[f64; 8], sl: &[f64; 8], e: Energies, a: Assessment, out: &m
 
 fn excess_in(book: &[u8], n: usize, t: Temperature, x: &[f64; 8], out: &mut [f64]) -> u64
     requires { ⌜ 23 ≤ length (now out) ⌝ }
-    ensures { λ r. ⌜ ExcessGives (excessIn (now (book .entry)) (places n) (t .0) (now (x .entry))) r (now (out .entry)) (now (out .exit)) ⌝ }
+    ensures { λ r. ⌜ ExcessGives (excessIn (mixtureOf (now (book .entry)) (places n)) (t .0) (now (x .entry))) r (now (out .entry)) (now (out .exit)) ⌝ }
 {
-    let mut tau = [0.0; 256];
-    let mut alpha = [0.0; 128];
+    let mut parameters = [0.0; 384];
+    let mut table = [0.0; 512];
     let mut lg = [0.0; 8];
     let mut sl = [0.0; 8];
-    records::parameters(book, n, &mut tau, &mut alpha);
-    let e = nrtl::excess_at(&tau, &alpha, n, t, x, &mut lg, &mut sl);
+    records::parameters(book, n, &mut parameters);
+    let s = thermo_models::tables(&parameters, n, t, &mut table);
+    let e = thermo_models::excess(&table, s, x, &mut lg, &mut sl);
     let verdict = e.verdict;
     if let Verdict::Refused(r) = verdict {
         return r;
@@ -293,7 +295,7 @@ pub extern "C" fn zektonk_excess(book: &[u8], t: f64, x: &[f64], out: &mut [f64]
     }
     let opened = book::open_book(book);
     match opened {
-        Opened::Book(n) => excess_of(book, n, t, x, out),
+        Opened::Book(head) => excess_of(book, head.n, t, x, out),
         Opened::No(r) => r,
     }
 }
@@ -307,8 +309,8 @@ pub extern "C" fn zektonk_rachford_rice(
     max_iterations: u64,
     out: &mut [f64],
 ) -> u64
-    ensures { λ r. ⌜ r ≡ cond (sized (now (z .entry)) (now (k .entry)) (now (out .entry))) (number (constrainedOf (now (z .entry)) (now (k .entry)) n «max_iterations»)) 0 ⌝ }
-    ensures { λ _. ⌜ now (out .exit) ≡ cond (sized (now (z .entry)) (now (k .entry)) (now (out .entry))) (written (constrainedOf (now (z .entry)) (now (k .entry)) n «max_iterations») (now (out .entry))) (now (out .entry)) ⌝ }
+    ensures { λ r. ⌜ r ≡ cond (sized (now (z .entry)) (now (k .entry)) (now (out .entry))) (splitNumber (constrainedOf (now (z .entry)) (now (k .entry)) n «max_iterations»)) 0 ⌝ }
+    ensures { λ _. ⌜ now (out .exit) ≡ cond (sized (now (z .entry)) (now (k .entry)) (now (out .entry))) (splitWritten (constrainedOf (now (z .entry)) (now (k .entry)) n «max_iterations») (now (out .entry))) (now (out .entry)) ⌝ }
 {
     rice_exports::constrained_split(z, k, n, max_iterations, out)
 }
@@ -322,8 +324,8 @@ pub extern "C" fn zektonk_rachford_rice_negative(
     max_iterations: u64,
     out: &mut [f64],
 ) -> u64
-    ensures { λ r. ⌜ r ≡ cond (sized (now (z .entry)) (now (k .entry)) (now (out .entry))) (number (negativeOf (now (z .entry)) (now (k .entry)) n «max_iterations»)) 0 ⌝ }
-    ensures { λ _. ⌜ now (out .exit) ≡ cond (sized (now (z .entry)) (now (k .entry)) (now (out .entry))) (written (negativeOf (now (z .entry)) (now (k .entry)) n «max_iterations») (now (out .entry))) (now (out .entry)) ⌝ }
+    ensures { λ r. ⌜ r ≡ cond (sized (now (z .entry)) (now (k .entry)) (now (out .entry))) (splitNumber (negativeOf (now (z .entry)) (now (k .entry)) n «max_iterations»)) 0 ⌝ }
+    ensures { λ _. ⌜ now (out .exit) ≡ cond (sized (now (z .entry)) (now (k .entry)) (now (out .entry))) (splitWritten (negativeOf (now (z .entry)) (now (k .entry)) n «max_iterations») (now (out .entry))) (now (out .entry)) ⌝ }
 {
     rice_exports::negative_split(z, k, n, max_iterations, out)
 }
@@ -334,27 +336,20 @@ pub extern "C" fn zektonk_open_book(book: &[u8]) -> u64
     ensures { λ r. ⌜ r ≡ bookNumber (bookOf (now (book .entry))) ⌝ }
 {
     match book::open_book(book) {
-        Opened::Book(n) => 100 + (n as u64),
+        Opened::Book(head) => 100 + (head.n as u64),
         Opened::No(r) => r,
     }
 }
 
 // For the benchmark: the activity of x at t, `count` times from one table. Answers `count`.
-fn repeat(
-    table: &[f64; 512],
-    alphas: Verdict,
-    n: usize,
-    t: Temperature,
-    x: &[f64; 8],
-    count: u64,
-) -> u64
+fn repeat(table: &[f64; 512], s: Tabled, x: &[f64; 8], count: u64) -> u64
     ensures { λ r. ⌜ r ≡ count ⌝ }
 {
     let mut lg = [0.0; 8];
     let mut sl = [0.0; 8];
     let mut k = 0;
     while k < count {
-        thermo_models::activity(table, alphas, n, t, x, &mut lg, &mut sl);
+        thermo_models::activity(table, s, x, &mut lg, &mut sl);
         k += 1;
     }
     k
@@ -363,12 +358,11 @@ fn repeat(
 fn repeat_from(book: &[u8], n: usize, t: Temperature, x: &[f64; 8], count: u64) -> u64
     ensures { λ r. ⌜ r ≡ count ⌝ }
 {
-    let mut tau = [0.0; 256];
-    let mut alpha = [0.0; 128];
+    let mut parameters = [0.0; 384];
     let mut table = [0.0; 512];
-    records::parameters(book, n, &mut tau, &mut alpha);
-    let alphas = thermo_models::tables(&tau, &alpha, n, t, &mut table);
-    repeat(&table, alphas, n, t, x, count)
+    records::parameters(book, n, &mut parameters);
+    let s = thermo_models::tables(&parameters, n, t, &mut table);
+    repeat(&table, s, x, count)
 }
 
 // Tables of a book of n solvents at t, then the activity of x `count` times; `count`, or 0 where t is none.
@@ -390,12 +384,4 @@ pub extern "C" fn zektonk_repeat_activity(
         }
         NewTemperature::No(_r) => 0,
     }
-}
-
-// The whole call: 0 and the answer's blocks in `out`, or the refusal's number.
-#[no_mangle]
-pub extern "C" fn zektonk_answer(book: &[u8], question: &[u8], out: &mut [u8]) -> u64
-    ensures { λ r. ⌜ Answers (sheetOf (now (book .entry)) (now (question .entry)) (length (now (out .entry)))) r (now (out .entry)) (now (out .exit)) ⌝ }
-{
-    sheet::answer(book, question, out)
 }

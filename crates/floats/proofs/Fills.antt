@@ -16,11 +16,6 @@ module _ {A : Type 0} where
   unfolding fillFrom
   fillFrom-turn f base k m₀ p q = rw (add-one, p, q)
 
-  -- a turn of the outer loop: the inner loop has come to j, its end
-  pub fillRows-turn : (f : ℕ → ℕ → A) (n k j : ℕ) (m₀ : List A) {m m′ : List A} → j ≡ n → m ≡ fillRows f n k m₀ → m′ ≡ fillFrom (f k) (k * 8) j m → m′ ≡ fillRows f n (k + 1) m₀
-  unfolding fillRows
-  fillRows-turn f n k j m₀ e p q = rw (add-one, q, p, e)
-
   pub fillRows-next : (f : ℕ → ℕ → A) (n k : ℕ) (m₀ : List A) {m m′ : List A} → m ≡ fillRows f n k m₀ → m′ ≡ fillFrom (f k) (k * 8) n m → m′ ≡ fillRows f n (k + 1) m₀
   unfolding fillRows
   fillRows-next f n k m₀ p q = rw (add-one, q, p)

@@ -1,7 +1,7 @@
 -- Laws of folds, sums and tests over an index: one turn of a loop, its end, and equal steps. Assumes nothing.
 use Prim.Native.Nat.{ℕ, zero, suc, _+_, _<_, _≤_}
 use mathlib.Core.Path.{_≡_, refl, sym, _∙_, ap}
-use mathlib.Core.Bool.{Bool, true, false, not, _&&_, _||_, true≢false}
+use mathlib.Core.Bool.{Bool, true, false, not, _&&_, true≢false}
 use mathlib.Core.Logic.{⊎-elim}
 use native.Mathlib.Nat.{eq-or-lt-of-le}
 use native.Mathlib.Numerals.{add-one}
@@ -9,7 +9,7 @@ use native.Mathlib.Omega.{arith}
 use borrow.Author.Tests.{not-true, not-false}
 use lib.Ieee.{Float}
 use Rattle.floats.specs.Arithmetic.{_⊕_}
-use Rattle.floats.specs.Fold.{foldTo, sumFrom, allTo, anyTo}
+use Rattle.floats.specs.Fold.{foldTo, sumFrom, allTo}
 
 -- ---- folds
 module _ {S : Type 0} (step : ℕ → S → S) (s₀ : S) where
@@ -83,13 +83,6 @@ all-cong {p} {q} (suc n) e =
     let a : allTo p n ≡ allTo q n = all-cong n (λ k l. e k (omega arith)) in
     let b : p n ≡ q n = e n (omega arith) in
     rw (a, b)
-
-pub any-next : (p : ℕ → Bool) (k : ℕ) {r b t : Bool} → r ≡ (b || t) → t ≡ p k → b ≡ anyTo p k → r ≡ anyTo p (k + 1)
-unfolding anyTo
-any-next p k e q h = rw (add-one, e, q, h)
-
-pub any-done : (p : ℕ → Bool) (k n : ℕ) {b : Bool} → k ≡ n → b ≡ anyTo p k → b ≡ anyTo p n
-any-done p k n e h = h ∙ ap (anyTo p) e
 
 -- a test `if !f(..)`: what f ensures of its result says what the test found
 pub was-no : {b t : Bool} → not b ≡ true → b ≡ t → t ≡ false

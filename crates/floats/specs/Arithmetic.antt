@@ -40,3 +40,7 @@ abbrev pub ∞ : Float
 
 abbrev pub -∞ : Float
 -∞ = # 0xfff0000000000000
+
+-- four times the machine epsilon, 2^-50
+abbrev pub 4ε : Float
+4ε = # 0x3cd0000000000000

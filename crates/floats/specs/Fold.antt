@@ -1,6 +1,6 @@
 -- Loops over the indices 0 to n - 1, in order, for every n: folds, sums and tests. Assumes nothing.
 use Prim.Native.Nat.{ℕ, zero, suc}
-use mathlib.Core.Bool.{Bool, true, false, cond, _&&_, _||_}
+use mathlib.Core.Bool.{Bool, true, cond, _&&_}
 use lib.Ieee.{Float, lt}
 use Rattle.floats.specs.Arithmetic.{_⊕_, 0f}
 
@@ -21,11 +21,7 @@ sumTo f n = sumFrom 0f f n
 abbrev pub active : {S : Type 0} → (ℕ → Float) → (ℕ → S → S) → ℕ → S → S
 active z f i s = cond (lt 0f (z i)) (f i s) s
 
--- a test of every index below n, and of some index below n
+-- a test of every index below n
 unfoldable pub allTo : (ℕ → Bool) → ℕ → Bool
 allTo p zero = true
 allTo p (suc n) = allTo p n && p n
-
-unfoldable pub anyTo : (ℕ → Bool) → ℕ → Bool
-anyTo p zero = false
-anyTo p (suc n) = anyTo p n || p n

@@ -28,3 +28,7 @@ bitsOf x = toBits binary64 x
 -- the float of any 64 bits; `ofBits` gives the one NaN for every pattern of a NaN
 abbrev pub floatOf : ℕ → Float
 floatOf b = ofBits binary64 b
+
+-- the float in word k
+abbrev pub float : (ℕ → ℕ) → ℕ → Float
+float w k = floatOf (w k)

@@ -1,6 +1,6 @@
 -- Jets that agree in value and slope: these never depend on second derivatives, so code can leave those away. Assumes nothing.
 use Prim.Native.Nat.{ℕ, zero, suc, _<_}
-use mathlib.Core.Path.{_≡_, refl, ap}
+use mathlib.Core.Path.{_≡_}
 use native.Mathlib.Omega.{arith}
 use lib.Ieee.{Float}
 use Rattle.floats.specs.Fold.{foldTo}
@@ -11,12 +11,6 @@ infixl 4 _≃_
 pub record _≃_ (a b : Jet) : Type 0 where
   pub v : a .v ≡ b .v
   pub d : a .d ≡ b .d
-
-pub near-refl : (a : Jet) → a ≃ a
-near-refl a = record { v = refl; d = refl }
-
-pub near-of : {a b : Jet} → a ≡ b → a ≃ b
-near-of e = record { v = ap (λ (j : Jet). j .v) e; d = ap (λ (j : Jet). j .d) e }
 
 pub two-near : {x y : Float} {a : Jet} → x ≡ a .v → y ≡ a .d → twoJ x y ≃ a
 unfolding twoJ

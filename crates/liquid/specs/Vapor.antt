@@ -73,5 +73,11 @@ vaporPressureOf a t = need (inRange (a .low) (a .high) t) 22 (representable (vap
 
 -- as the code answers; zeros with a refusal
 unfoldable pub vaporAnswer : Out Vapor → VaporPressure
-vaporAnswer (ok v) = record { verdict = Passed; pressure = v .pressure; «ln_pressure» = v .lnPressure; «d_ln_pressure_dt» = v .slope; «d2_ln_pressure_dt2» = v .curvature }
+vaporAnswer (ok v) = record {
+  verdict = Passed;
+  pressure = v .pressure;
+  «ln_pressure» = v .lnPressure;
+  «d_ln_pressure_dt» = v .slope;
+  «d2_ln_pressure_dt2» = v .curvature;
+}
 vaporAnswer (no r) = record { verdict = Refused r; pressure = 0f; «ln_pressure» = 0f; «d_ln_pressure_dt» = 0f; «d2_ln_pressure_dt2» = 0f }

@@ -1,4 +1,5 @@
-// Vapor pressure of a pure liquid (liquid.rs), from the solvent's record: p = p_r exp((T_r/T) Σ n_k θ^t_k), θ = 1 − T/T_r.
+// Vapor pressure of a pure liquid (liquid.rs), from the solvent's record:
+// p = p_r exp((T_r/T) Σ n_k θ^t_k), θ = 1 − T/T_r.
 ghost use mathlib.Core.Path.{_≡_};
 ghost use Prim.Native.Nat.{_≤_};
 ghost use Rattle.floats.specs.Arithmetic.{_⊗_};

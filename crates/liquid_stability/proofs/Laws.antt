@@ -11,29 +11,30 @@ use lib.Dec.{T, le→leb}
 use lib.IntN.{pos}
 use lib.ListN.{set, replicate}
 use lib.Ieee.{Float, nan, binary64, lt, le, ofInt, inFloat}
-use Rattle.floats.specs.Arithmetic.{_⊕_, _⊖_, _⊗_, #, 0f, 1f}
+use Rattle.floats.specs.Arithmetic.{_⊕_, _⊖_, _⊗_, _⊘_, 0f, 1f}
 use Rattle.floats.specs.Small.{isFinite, maxOf, absOf}
 use Rattle.floats.specs.Fold.{foldTo, active}
-use Rattle.floats.specs.Vector.{at, zeros8}
+use Rattle.floats.specs.Vector.{at, vec, zeros8}
 use Rattle.floats.specs.Outcome.{Out, ok, no, bind, need, choose}
-use Rattle.floats.proofs.Folds.{fold-cong}
+use Rattle.floats.proofs.Folds.{fold-turn, fold-cong, was-no, was-yes}
 use Rattle.floats.proofs.Fills.{fill-at, fill-cong}
-use Rattle.floats.proofs.Outcomes.{bind-no}
+use Rattle.floats.proofs.Outcomes.{bind-yes, bind-no}
 use Rattle.numerics.specs.Numerics.{expOf}
 use Rattle.thermo_types.specs.declared.Verdict.{Verdict}
 use Rattle.thermo_types.specs.declared.Verdict.the-variants.{Passed, Refused}
+use Rattle.thermo_types.specs.declared.ActivityOptions.{ActivityOptions}
 use Rattle.thermo_types.specs.Verdicts.{verdictOf}
-use Rattle.thermo_types.proofs.Passing.{verdict-no}
 use Rattle.thermo_models.specs.Model.{Activity, lnGammaOf}
+use Rattle.thermo_models.proofs.Answers.{verdict-passed, verdict-refused}
 use Rattle.liquid_stability.specs.declared.LiquidStabilityTrial.{LiquidStabilityTrial}
 use Rattle.liquid_stability.specs.declared.LiquidStability.{LiquidStability}
 use Rattle.liquid_stability.specs.declared.Measured.{Measured}
 use Rattle.liquid_stability.specs.declared.Judged.{Judged}
-use Rattle.liquid_stability.specs.declared.Judged.the-variants as judged
+use Rattle.liquid_stability.specs.declared.Judged.the-variants.{No, Found, More}
 use Rattle.liquid_stability.specs.declared.Turned.{Turned}
 use Rattle.liquid_stability.specs.declared.Tried.{Tried}
-use Rattle.liquid_stability.specs.Stability.{presentCount, tangent, startOf, totalOf, trialComposition, distanceOf, nextOf, changeOf, apartOf, trivialAt, unstable, trialWith, noTrial, Trials, noTrials, withTrial, trialFrom, trialsTo, stabilityOf, stabilityAnswer}
-use Rattle.liquid_stability.specs.Steps.{LnGammaIs, startFrom, amountsOf, presentSum, sharesOf, measureAt, Measures, judgeOf, turnWith, turnOf, trialAnswer, withoutTrials}
+use Rattle.liquid_stability.specs.Stability.{lnWTolerance, trivialDistance, presentCount, tangent, startFrom, othersIn, totalOf, trialComposition, distanceOf, nextOf, changeOf, apartOf, unstable, trialWith, noTrial, Trials, noTrials, withTrial, judge, trialFrom, trialsTo, stabilityOf, withoutTrials, stabilityAnswer}
+use Rattle.liquid_stability.specs.Steps.{amountsOf, after, Judges, TrialTurn, trialAnswer}
 
 -- ---- the solvents present
 at-present : {A : Type 0} (b : Bool) {u v : A} (w : A) → (b ≡ true → u ≡ v) → cond b u w ≡ cond b v w
@@ -68,144 +69,119 @@ module _ (x : List Float) (k : ℕ) where
   unfolding presentCount
   count-absent h t e = absent-turn x _ _ k h t e
 
-  pub sum-present : (big : List Float) {r s : Float} → s ≡ presentSum x big k → lt 0f (at x k) ≡ true → r ≡ s ⊕ at big k → r ≡ presentSum x big (k + 1)
-  unfolding presentSum
-  sum-present big h t e = present-turn x _ _ k h t e
-
-  pub sum-absent : (big : List Float) {r s : Float} → s ≡ presentSum x big k → lt 0f (at x k) ≡ false → r ≡ s → r ≡ presentSum x big (k + 1)
-  unfolding presentSum
-  sum-absent big h t e = absent-turn x _ _ k h t e
-
 -- ---- a turn's composition from W
 module _ (x lnW : List Float) (n : ℕ) (h : n ≤ 8) {big : List Float} (pb : big ≡ amountsOf x lnW n) where
   amount-at : (k : ℕ) → k < n → lt 0f (at x k) ≡ true → at big k ≡ expOf (at lnW k)
   unfolding amountsOf
   amount-at k l t =
-      let e : at big k ≡ cond (lt 0f (at x k)) (expOf (at lnW k)) 0f = ap (λ (m : List Float). at m k) pb ∙ fill-at (λ i. cond (lt 0f (at x i)) (expOf (at lnW i)) 0f) n zeros8 nan k h l in
+      let e : at big k ≡ cond (lt 0f (at x k)) (expOf (at lnW k)) 0f = ap (λ (m : List Float). at m k) pb ∙ fill-at
+      (λ i. cond (lt 0f (at x i)) (expOf (at lnW i)) 0f) n zeros8 nan k h l in
       rw t at e
 
-  pub total-is : {s : Float} → s ≡ presentSum x big n → s ≡ totalOf x lnW n
-  unfolding presentSum totalOf
+  total-is : {s : Float} → s ≡ foldTo (active (at x) (λ i a. a ⊕ at big i)) 0f n → s ≡ totalOf x lnW n
+  unfolding totalOf
   total-is {s} e = e ∙ fold-cong 0f n (λ k a l. at-present (lt 0f (at x k)) a (λ t. ap (λ (v : Float). a ⊕ v) (amount-at k l t)))
 
-  pub composition-is : {s : Float} {w : List Float} → s ≡ presentSum x big n → w ≡ sharesOf x big s n → w ≡ trialComposition x lnW n
-  unfolding sharesOf trialComposition
+  composition-is : {s : Float} {w : List Float} → s ≡ foldTo (active (at x) (λ i a. a ⊕ at big i)) 0f n
+      → w ≡ vec (λ i. cond (lt 0f (at x i)) (at big i ⊘ s) 0f) n → w ≡ trialComposition x lnW n
+  unfolding trialComposition
   composition-is {s} {w} e q = q ∙ fill-cong _ _ n zeros8 (λ k l. at-present (lt 0f (at x k)) 0f (λ t. rw (amount-at k l t, total-is e)))
 
-  -- one more solvent measured
-  module _ (lg d w : List Float) (k : ℕ) (l : k < n) {m m′ : Measured} (q : Measures x lnW lg d w k m) (e : m′ ≡ measureAt (at x k) (at lnW k) (at big k) (at lg k) (at d k) (at w k) m) where
-    abbrev Pick : Bool → Type 0
-    Pick b = lt 0f (at x k) ≡ b → Measures x lnW lg d w (k + 1) m′
+  -- tm with one more solvent
+  pub distance-turn : (lg d : List Float) (k : ℕ) → k < n → {r m : Float}
+      → r ≡ cond (lt 0f (at x k)) (m ⊕ at big k ⊗ (at lnW k ⊕ at lg k ⊖ at d k ⊖ 1f)) m → m ≡ distanceOf x lnW lg d k → r ≡ distanceOf x lnW lg d (k + 1)
+  unfolding distanceOf
+  distance-turn lg d k l {r} {m} e q = fold-turn _ _ k (e ∙ at-present (lt 0f (at x k)) m (λ t. rw (amount-at k l t))) q
 
-    picked : (b : Bool) → Pick b
-    unfolding measureAt distanceOf changeOf apartOf
-    picked true t =
-        let a : at big k ≡ expOf (at lnW k) = amount-at k l t in
-        let p : m′ ≡ record { distance = m .distance ⊕ expOf (at lnW k) ⊗ (at lnW k ⊕ at lg k ⊖ at d k ⊖ 1f); change = maxOf (m .change) (absOf (at d k ⊖ at lg k ⊖ at lnW k)); apart = maxOf (m .apart) (absOf (at w k ⊖ at x k)) } = rw (a, t) at e in
-        record {
-          distance = present-turn x _ _ k (q .distance) t (ap (λ (v : Measured). v .distance) p);
-          change = present-turn x _ _ k (q .change) t (ap (λ (v : Measured). v .change) p);
-          apart = present-turn x _ _ k (q .apart) t (ap (λ (v : Measured). v .apart) p);
-        }
-    picked false t =
-        let p : m′ ≡ m = rw t at e in
-        record {
-          distance = absent-turn x _ _ k (q .distance) t (ap (λ (v : Measured). v .distance) p);
-          change = absent-turn x _ _ k (q .change) t (ap (λ (v : Measured). v .change) p);
-          apart = absent-turn x _ _ k (q .apart) t (ap (λ (v : Measured). v .apart) p);
-        }
+-- the changes with one more solvent
+pub change-turn : (x lnW lg d : List Float) (k : ℕ) {r m : Float} → r ≡ cond (lt 0f (at x k)) (maxOf m (absOf (at d k ⊖ at lg k ⊖ at lnW k))) m
+    → m ≡ changeOf x lnW lg d k → r ≡ changeOf x lnW lg d (k + 1)
+unfolding changeOf
+change-turn x lnW lg d k e q = fold-turn _ _ k e q
 
-    pub measure-turn : Measures x lnW lg d w (k + 1) m′
-    measure-turn = picked (lt 0f (at x k)) refl
+pub apart-turn : (x w : List Float) (k : ℕ) {r m : Float} → r ≡ cond (lt 0f (at x k)) (maxOf m (absOf (at w k ⊖ at x k))) m → m ≡ apartOf x w k
+    → r ≡ apartOf x w (k + 1)
+unfolding apartOf
+apart-turn x w k e q = fold-turn _ _ k e q
 
-pub measure-done : (x lnW lg d w : List Float) (k n : ℕ) {m : Measured} → k ≡ n → Measures x lnW lg d w k m → Measures x lnW lg d w n m
-measure-done x lnW lg d w k n e q = rw e at q
+-- ---- how a turn goes on
+module _ (threshold tm change : Float) (trivial : Bool) {f : Bool} (pf : f ≡ isFinite tm) where
+  pub judge-finite : not f ≡ true → Judges threshold tm change trivial (No 25)
+  unfolding after judge need
+  judge-finite q = record { goes = λ found rest. rw (was-no q pf) }
 
-pub measure-none : (x lnW lg d w : List Float) → Measures x lnW lg d w 0 (record { distance = 1f; change = 0f; apart = 0f })
-unfolding distanceOf changeOf apartOf foldTo
-measure-none x lnW lg d w = record { distance = refl; change = refl; apart = refl }
+  module _ (q : not f ≡ false) {u : Bool} (pu : u ≡ unstable threshold tm trivial) where
+    pub judge-unstable : u ≡ true → Judges threshold tm change trivial (Found false)
+    unfolding after judge need choose
+    judge-unstable h = record { goes = λ found rest. rw (was-yes q pf, ← pu, h) }
+
+    pub judge-converged : u ≡ false → le change lnWTolerance ≡ true → Judges threshold tm change trivial (Found trivial)
+    unfolding after judge need choose
+    judge-converged h g = record { goes = λ found rest. rw (was-yes q pf, ← pu, h, g) }
+
+    pub judge-more : u ≡ false → le change lnWTolerance ≡ false → Judges threshold tm change trivial More
+    unfolding after judge need choose
+    judge-more h g = record { goes = λ found rest. rw (was-yes q pf, ← pu, h, g) }
 
 -- ---- a whole turn
-module _ (E : List Float → Out Activity) (threshold : Float) (n : ℕ) (h : n ≤ 8) (x d lnW : List Float) {big w lg nx : List Float} {s : Float} {m : Measured} {v : Verdict} {j : Judged} where
-  pub turn-is : big ≡ amountsOf x lnW n → s ≡ presentSum x big n → w ≡ sharesOf x big s n → LnGammaIs (E w) v lg → Measures x lnW lg d w n m
-      → j ≡ judgeOf v threshold (m .distance) (m .change) (le (m .apart) (# 0x3eb0c6f7a0b5ed8d)) → nx ≡ nextOf d lg n
-      → _≡_ {A = Turned} (record { judged = j; distance = m .distance; composition = w; next = nx }) (turnOf E threshold n x d lnW)
-  unfolding turnOf turnWith
-  turn-is pb ps pw pg pm pj pn =
-      let q : w ≡ trialComposition x lnW n = composition-is x lnW n h pb ps pw in
-      rw (← q, ← pg .verdict, ← pg .values, ← pm .distance, ← pm .change, ← pm .apart, ← pj, ← pn)
+module _ (E : List Float → Out Activity) (threshold : Float) (n : ℕ) (h : n ≤ 8) (x d lnW : List Float) {big w lg : List Float} {s : Float} {v : Verdict}
+    (pb : big ≡ amountsOf x lnW n) (ps : s ≡ foldTo (active (at x) (λ i a. a ⊕ at big i)) 0f n) (pw : w ≡ vec (λ i. cond (lt 0f (at x i)) (at big i ⊘ s) 0f) n)
+    (pv : v ≡ verdictOf (E w)) (pg : lg ≡ lnGammaOf (E w)) where
+  is : w ≡ trialComposition x lnW n
+  is = composition-is x lnW n h pb ps pw
 
--- what follows a turn
-after : Judged → (Bool → LiquidStabilityTrial) → Out LiquidStabilityTrial → Out LiquidStabilityTrial
-after (judged.No r) f rest = no r
-after (judged.Found b) f rest = ok (f b)
-after judged.More f rest = rest
+  pub turn-refused : {r : ℕ} {tm : Float} {nx : List Float} → v ≡ Refused r
+      → TrialTurn E threshold n x d lnW (record { judged = No r; distance = tm; composition = w; next = nx })
+  unfolding trialFrom after
+  turn-refused q = record { goes = λ j left done. rw (← is, bind-no _ (verdict-refused (E w) pv q)) }
 
-tests : (f u c t : Bool) (T : Bool → LiquidStabilityTrial) (rest : Out LiquidStabilityTrial)
-    → need f 25 (choose u (ok (T false)) (choose c (ok (T t)) rest)) ≡ after (cond f (cond u (judged.Found false) (cond c (judged.Found t) judged.More)) (judged.No 25)) T rest
-unfolding need choose after
-tests true true c t T rest = refl
-tests true false true t T rest = refl
-tests true false false t T rest = refl
-tests false u c t T rest = refl
+  pub turn-judged : {m : Measured} {jd : Judged} {nx : List Float} → v ≡ Passed → m .distance ≡ distanceOf x lnW lg d n → m .change ≡ changeOf x lnW lg d n
+      → m .apart ≡ apartOf x w n
+      → Judges threshold (m .distance) (m .change) (le (m .apart) trivialDistance) jd
+      → nx ≡ nextOf d lg n → TrialTurn E threshold n x d lnW (record { judged = jd; distance = m .distance; composition = w; next = nx })
+  unfolding trialFrom lnGammaOf
+  turn-judged q pd pc pa pj pn =
+      let a = verdict-passed (E w) pv q in
+      let g : lg ≡ a .0 .lnGamma = pg ∙ ap lnGammaOf (a .1) in
+      record { goes = λ j left done. rw (← is, bind-yes _ (a .1), ← g, ← pd, ← pc, ← pa, ← pn) (sym (pj .goes _ _)) }
 
+-- ---- a trial
 module _ (E : List Float → Out Activity) (threshold : Float) (n : ℕ) (x d : List Float) (j : ℕ) where
   abbrev run : ℕ → ℕ → List Float → Out LiquidStabilityTrial
   run left done lnW = trialFrom E threshold n x d j left done lnW
 
-  abbrev rest-of : ℕ → ℕ → Turned → Out LiquidStabilityTrial
-  rest-of left done s = after (s .judged) (trialWith j (s .distance) (s .composition) (suc done)) (run left (suc done) (s .next))
-
-  turn-given : (left done : ℕ) (lnW : List Float) (o : Out Activity)
-      → bind o (λ a.
-      need (isFinite (distanceOf x lnW (a .lnGamma) d n)) 25
-      (choose (unstable threshold (distanceOf x lnW (a .lnGamma) d n) (trivialAt x (trialComposition x lnW n) n))
-      (ok (trialWith j (distanceOf x lnW (a .lnGamma) d n) (trialComposition x lnW n) (suc done) false))
-      (choose (le (changeOf x lnW (a .lnGamma) d n) (# 0x3ddb7cdfd9d7bdbb))
-      (ok (trialWith j (distanceOf x lnW (a .lnGamma) d n) (trialComposition x lnW n) (suc done) (trivialAt x (trialComposition x lnW n) n)))
-      (run left (suc done) (nextOf d (a .lnGamma) n)))))
-      ≡ rest-of left done (turnWith threshold x d lnW n o)
-  unfolding bind turnWith judgeOf verdictOf lnGammaOf after
-  turn-given left done lnW (no r) = refl
-  turn-given left done lnW (ok a) =
-      tests (isFinite (distanceOf x lnW (a .lnGamma) d n)) (unstable threshold (distanceOf x lnW (a .lnGamma) d n) (trivialAt x (trialComposition x lnW n) n))
-      (le (changeOf x lnW (a .lnGamma) d n) (# 0x3ddb7cdfd9d7bdbb)) (trivialAt x (trialComposition x lnW n) n)
-      (trialWith j (distanceOf x lnW (a .lnGamma) d n) (trialComposition x lnW n) (suc done)) (run left (suc done) (nextOf d (a .lnGamma) n))
-
-  turn-after : (left done : ℕ) (lnW : List Float) → run (suc left) done lnW ≡ rest-of left done (turnOf E threshold n x d lnW)
-  unfolding trialFrom turnOf
-  turn-after left done lnW = turn-given left done lnW (E (trialComposition x lnW n))
-
   -- the loop after `done` turns of at most `limit`: what is left to run from here is the whole run W
   module _ (limit done : ℕ) (lnW : List Float) {W : Out LiquidStabilityTrial} (whole : trialFrom E threshold n x d j (limit - done) done lnW ≡ W) where
-    pub trial-out : limit ≤ done → W ≡ no 27
+    pub trial-out : limit ≤ done → {t : Tried} → t ≡ trialAnswer (no 27) → t ≡ trialAnswer W
     unfolding trialFrom
-    trial-out l =
+    trial-out l e =
         let z : limit - done ≡ 0 = omega arith in
-        sym whole ∙ rw z
+        rw (← whole, z) e
 
-    module _ (l : done < limit) {s : Turned} (ps : s ≡ turnOf E threshold n x d lnW) where
-      turned : W ≡ rest-of (limit - (done + 1)) done s
+    module _ (l : done < limit) {s : Turned} (ps : TrialTurn E threshold n x d lnW s) where
+      turned : W ≡ after (s .judged) (trialWith j (s .distance) (s .composition) (suc done)) (run (limit - (done + 1)) (suc done) (s .next))
       turned =
           let z : limit - done ≡ suc (limit - (done + 1)) = omega arith in
-          sym whole ∙ rw (z, ps) (turn-after (limit - (done + 1)) done lnW)
+          sym whole ∙ rw z (ps .goes j (limit - (done + 1)) done)
 
-      pub trial-refused : {r : ℕ} → s .judged ≡ judged.No r → W ≡ no r
+      pub trial-refused : {r : ℕ} {t : Tried} → s .judged ≡ No r → t ≡ trialAnswer (no r) → t ≡ trialAnswer W
       unfolding after
-      trial-refused e = rw e at turned
+      trial-refused q e = rw (turned, q) e
 
-      pub trial-found : {b : Bool} → s .judged ≡ judged.Found b → W ≡ ok (trialWith j (s .distance) (s .composition) (done + 1) b)
+      pub trial-found : {b : Bool} {t : Tried} → s .judged ≡ Found b → t ≡ trialAnswer (ok (trialWith j (s .distance) (s .composition) (done + 1) b))
+          → t ≡ trialAnswer W
       unfolding after
-      trial-found e = rw add-one (rw e at turned)
+      trial-found q e = rw (turned, q, ← add-one) e
 
-      pub trial-more : s .judged ≡ judged.More → run (limit - (done + 1)) (done + 1) (s .next) ≡ W
+      pub trial-more : s .judged ≡ More → run (limit - (done + 1)) (done + 1) (s .next) ≡ W
       unfolding after
       trial-more e =
           let q : done + 1 ≡ suc done = omega arith in
           let t : W ≡ run (limit - (done + 1)) (suc done) (s .next) = rw e at turned in
           rw (ap (λ k. run (limit - (done + 1)) k (s .next)) q) (sym t)
 
-  pub trial-start : (limit : ℕ) (lnW : List Float) {l : List Float} → l ≡ lnW → trialFrom E threshold n x d j (limit - 0) 0 l ≡ trialFrom E threshold n x d j limit 0 lnW
+  pub trial-start : (limit : ℕ) (lnW : List Float) {l : List Float} → l ≡ lnW
+      → trialFrom E threshold n x d j (limit - 0) 0 l ≡ trialFrom E threshold n x d j limit 0 lnW
   trial-start limit lnW e =
       let z : limit - 0 ≡ limit = omega arith in
       rw (z, e)
@@ -226,11 +202,14 @@ module _ {s : Tried} where
 abbrev pub soFar : Bool → ℕ → List LiquidStabilityTrial → Out Trials
 soFar stable count trials = ok (record { stable = stable; count = count; trials = trials })
 
-module _ (E : List Float → Out Activity) (threshold : Float) (n : ℕ) (x d : List Float) (limit : ℕ) where
+module _ (E : List Float → Out Activity) (n : ℕ) (o : ActivityOptions) (x d : List Float) where
   abbrev runs : ℕ → Out Trials
-  runs k = trialsTo E threshold n x d limit k
+  runs k = trialsTo E n o x d k
 
-  pub trials-none : {t : LiquidStabilityTrial} → t ≡ noTrial → trialsTo E threshold n x d limit 0 ≡ soFar true 0 (replicate 8 t)
+  abbrev tried : Float → ℕ → Out LiquidStabilityTrial
+  tried others k = trialFrom E (o .«tm_threshold») n x d k (o .«max_iterations») 0 (startFrom others n k)
+
+  pub trials-none : {t : LiquidStabilityTrial} → t ≡ noTrial → trialsTo E n o x d 0 ≡ soFar true 0 (replicate 8 t)
   unfolding trialsTo noTrials
   trials-none e = rw e
 
@@ -242,78 +221,67 @@ module _ (E : List Float → Out Activity) (threshold : Float) (n : ℕ) (x d : 
   stays-to k zero r e = rw (zero-add k) e
   stays-to k (suc m) r e = rw (suc-add m k) (stays (m + k) r (stays-to k m r e))
 
-  module _ (k : ℕ) {s : Trials} (h : trialsTo E threshold n x d limit k ≡ ok s) where
+  module _ (k : ℕ) {s : Trials} (h : trialsTo E n o x d k ≡ ok s) where
     pub trials-skip : {stable : Bool} {count : ℕ} {trials : List LiquidStabilityTrial} → lt 0f (at x k) ≡ false
-        → trials ≡ s .trials → count ≡ s .count → stable ≡ s .stable → trialsTo E threshold n x d limit (k + 1) ≡ soFar stable count trials
+        → trials ≡ s .trials → count ≡ s .count → stable ≡ s .stable → trialsTo E n o x d (k + 1) ≡ soFar stable count trials
     unfolding trialsTo bind choose
     trials-skip t pt pc ps = rw (ps, pc, pt, add-one, h, t)
 
-    module _ (t : lt 0f (at x k) ≡ true) {others : Float} (po : others ≡ ofInt binary64 (pos (presentCount x n - 1))) where
-      started : startFrom others k n ≡ startOf x n k
-      unfolding startFrom startOf
-      started = rw po
-
-      pub trials-refused : {r : ℕ} → k < n → trialFrom E threshold n x d k limit 0 (startFrom others k n) ≡ no r → trialsTo E threshold n x d limit n ≡ no r
-      unfolding trialsTo bind choose
-      trials-refused {r} l e =
-          let a : runs (suc k) ≡ no r = rw (h, t, ← started, e) in
+    module _ (t : lt 0f (at x k) ≡ true) {others : Float} (po : others ≡ othersIn x n) {u : Tried} (pu : u ≡ trialAnswer (tried others k)) where
+      pub trials-refused : {r : ℕ} {a : LiquidStability} → k < n → u .verdict ≡ Refused r → a ≡ withoutTrials (Refused r) false
+          → a ≡ stabilityAnswer (trialsTo E n o x d n)
+      unfolding trialsTo bind choose stabilityAnswer
+      trials-refused {r} l q e =
+          let p : runs (suc k) ≡ no r = rw (h, t, ← po, tried-no _ pu q) in
           let z : n ≡ (n - suc k) + suc k = omega arith in
-          ap (λ (i : ℕ). runs i) z ∙ stays-to (suc k) (n - suc k) r a
+          let g : runs n ≡ no r = ap (λ (i : ℕ). runs i) z ∙ stays-to (suc k) (n - suc k) r p in
+          rw g e
 
-      pub trials-more : {r : LiquidStabilityTrial} {u stable : Bool} {count : ℕ} {trials : List LiquidStabilityTrial}
-          → trialFrom E threshold n x d k limit 0 (startFrom others k n) ≡ ok r → u ≡ unstable threshold (r .distance) (r .trivial)
-          → trials ≡ set (s .trials) (s .count) r → count ≡ s .count + 1 → stable ≡ (s .stable && not u)
-          → trialsTo E threshold n x d limit (k + 1) ≡ soFar stable count trials
+      pub trials-more : {b stable : Bool} {count : ℕ} {trials : List LiquidStabilityTrial}
+          → u .verdict ≡ Passed → b ≡ unstable (o .«tm_threshold») (u .trial .distance) (u .trial .trivial)
+          → trials ≡ set (s .trials) (s .count) (u .trial) → count ≡ s .count + 1 → stable ≡ (s .stable && not b)
+          → trialsTo E n o x d (k + 1) ≡ soFar stable count trials
       unfolding trialsTo bind choose withTrial
-      trials-more {count = count} e pu pt pc ps =
-          let q : count ≡ suc (s .count) = pc ∙ add-one _ in
-          rw (ps, q, pt, add-one, h, t, ← started, e, pu)
+      trials-more {count = count} q pb pt pc ps =
+          let c : count ≡ suc (s .count) = pc ∙ add-one _ in
+          rw (ps, c, pt, add-one, h, t, ← po, tried-ok _ pu q, pb)
 
-  pub trials-done : (k : ℕ) {s : Trials} → k ≡ n → trialsTo E threshold n x d limit k ≡ ok s → trialsTo E threshold n x d limit n ≡ ok s
-  trials-done k e h = rw e at h
+  pub trials-done : (k : ℕ) {stable : Bool} {count : ℕ} {trials : List LiquidStabilityTrial} → k ≡ n → trialsTo E n o x d k ≡ soFar stable count trials
+      → _≡_ {A = LiquidStability} (record { verdict = Passed; stable = stable; count = count; trials = trials }) (stabilityAnswer (trialsTo E n o x d n))
+  unfolding stabilityAnswer
+  trials-done k e h = ap stabilityAnswer (sym h ∙ ap (λ (i : ℕ). runs i) e)
 
 -- ---- the answer
-pub stopped : (o : Out Trials) {s : LiquidStability} {r : ℕ} → s ≡ withoutTrials (Refused r) false → o ≡ no r → s ≡ stabilityAnswer o
-unfolding withoutTrials stabilityAnswer
-stopped o e q = rw q e
-
-pub ended : (o : Out Trials) {stable : Bool} {count : ℕ} {trials : List LiquidStabilityTrial} → o ≡ soFar stable count trials
-    → _≡_ {A = LiquidStability} (record { verdict = Passed; stable = stable; count = count; trials = trials }) (stabilityAnswer o)
-unfolding stabilityAnswer
-ended o q = rw q
-
-verdict-ok : {A : Type 0} (o : Out A) {v : Verdict} → v ≡ verdictOf o → v ≡ Passed → (a : A) × (o ≡ ok a)
-unfolding verdictOf
-verdict-ok (ok a) e q = (a, refl)
-verdict-ok (no r) e q = let z : _≡_ {A = ℕ} 0 1 = cc in absurd (omega arith)
-
-module _ (E : List Float → Out Activity) (threshold : Float) (n : ℕ) (x : List Float) (limit : ℕ) {v : Verdict} {lg : List Float} (pg : LnGammaIs (E x) v lg) {s : LiquidStability} where
-  pub feed-refused : {r : ℕ} → v ≡ Refused r → s ≡ withoutTrials (Refused r) false → s ≡ stabilityAnswer (stabilityOf E threshold n x limit)
-  unfolding stabilityOf
-  feed-refused q e = stopped _ e (bind-no _ (verdict-no (E x) (sym q ∙ pg .verdict)))
+module _ (E : List Float → Out Activity) (n : ℕ) (o : ActivityOptions) (x : List Float) {v : Verdict} (pv : v ≡ verdictOf (E x)) {s : LiquidStability} where
+  pub feed-refused : {r : ℕ} → v ≡ Refused r → s ≡ withoutTrials (Refused r) false → s ≡ stabilityAnswer (stabilityOf E n o x)
+  unfolding stabilityOf stabilityAnswer
+  feed-refused q e = rw (bind-no _ (verdict-refused (E x) pv q)) e
 
   module _ (q : v ≡ Passed) {c : ℕ} (pc : c ≡ presentCount x n) where
-    pub few-present : c < 2 → s ≡ withoutTrials Passed true → s ≡ stabilityAnswer (stabilityOf E threshold n x limit)
-    unfolding stabilityOf bind choose withoutTrials stabilityAnswer noTrials
+    pub few-present : c < 2 → s ≡ withoutTrials Passed true → s ≡ stabilityAnswer (stabilityOf E n o x)
+    unfolding stabilityOf bind choose stabilityAnswer noTrials
     few-present l e =
-        let a = verdict-ok (E x) (pg .verdict) q in
+        let a = verdict-passed (E x) pv q in
         rw (a .1, ← pc, lt-ltb c 2 l) e
 
-    pub tested : {d : List Float} → 2 ≤ c → d ≡ tangent x lg n → s ≡ stabilityAnswer (trialsTo E threshold n x d limit n) → s ≡ stabilityAnswer (stabilityOf E threshold n x limit)
+    pub tested : {lg d : List Float} → lg ≡ lnGammaOf (E x) → 2 ≤ c → d ≡ tangent x lg n → s ≡ stabilityAnswer (trialsTo E n o x d n)
+        → s ≡ stabilityAnswer (stabilityOf E n o x)
     unfolding stabilityOf bind choose lnGammaOf
-    tested {d} l pd e =
-        let a = verdict-ok (E x) (pg .verdict) q in
-        let g : lg ≡ a .0 .lnGamma = pg .values ∙ ap lnGammaOf (a .1) in
+    tested {lg} pg l pd e =
+        let a = verdict-passed (E x) pv q in
+        let g : lg ≡ a .0 .lnGamma = pg ∙ ap lnGammaOf (a .1) in
         rw (a .1, ← pc, le-ltb c 2 l, ← g, ← pd) e
 
-pub others-is : (x : List Float) (n : ℕ) {c : ℕ} → c ≡ presentCount x n → ofInt binary64 (pos (c - 1)) ≡ ofInt binary64 (pos (presentCount x n - 1))
-others-is x n e = rw e
+module _ (x : List Float) (n : ℕ) {c : ℕ} (e : c ≡ presentCount x n) where
+  pub others-is : ofInt binary64 (pos (c - 1)) ≡ othersIn x n
+  unfolding othersIn
+  others-is = rw e
 
-pub others-fit : (x : List Float) (n : ℕ) {c : ℕ} → n ≤ 8 → c ≡ presentCount x n → T (inFloat binary64 (pos (c - 1)))
-unfolding inFloat
-others-fit x n {c} h e =
-    let l : presentCount x n ≤ n = count-le x n in
-    le→leb (c - 1) 9007199254740992 (omega arith)
+  pub others-fit : n ≤ 8 → T (inFloat binary64 (pos (c - 1)))
+  unfolding inFloat
+  others-fit h =
+      let l : presentCount x n ≤ n = count-le x n in
+      le→leb (c - 1) 9007199254740992 (omega arith)
 
 -- ---- what a caller learns from the answer's verdict
 module _ {s : LiquidStability} where

@@ -2,18 +2,22 @@
 // Compositions are `[f64; 8]`, 0.0 past n; a solvent is named by its index in the book.
 ghost use mathlib.Core.Path.{_≡_};
 ghost use mathlib.Core.Bool.{cond};
-ghost use Prim.Native.Nat.{_≤_, _-_};
+ghost use Prim.Native.Nat.{_≤_};
 ghost use lib.Dec.{eqb};
-ghost use lib.IntN.{pos};
-ghost use lib.Ieee.{binary64, lt, ofInt};
-ghost use Rattle.floats.specs.Arithmetic.{_⊕_, _⊘_, 0f};
-ghost use Rattle.floats.specs.Vector.{places};
+ghost use lib.Ieee.{lt};
+ghost use Rattle.floats.specs.Arithmetic.{_⊕_, _⊖_, _⊗_, _⊘_, 0f, 1f};
+ghost use Rattle.floats.specs.Small.{maxOf, absOf};
+ghost use Rattle.floats.specs.Fold.{foldTo, active};
+ghost use Rattle.floats.specs.Vector.{at, vec, places};
 ghost use Rattle.floats.specs.Outcome.{ok, no};
 ghost use Rattle.numerics.specs.Numerics.{expOf, lnOf};
+ghost use Rattle.thermo_types.specs.Verdicts.{verdictOf};
+ghost use Rattle.thermo_models.specs.Model.{lnGammaOf};
 ghost use Rattle.thermo_models.specs.Activity.{activityOn};
-ghost use Rattle.liquid_stability.specs.Stability.{presentCount, tangent, nextOf, unstable, trialWith, noTrial, trialFrom, trialsTo, stabilityOf, stabilityAnswer};
-ghost use Rattle.liquid_stability.specs.Steps.{LnGammaIs, startFrom, amountsOf, presentSum, sharesOf, measureAt, Measures, judgeOf, turnOf, trialAnswer, withoutTrials};
-use thermo_types::Temperature;
+ghost use Rattle.liquid_stability.specs.Stability.{presentCount, tangent, startFrom, othersIn, distanceOf, changeOf, apartOf, nextOf, unstable, trialWith, noTrial, trialFrom, trialsTo, stabilityOf, withoutTrials, stabilityAnswer};
+ghost use Rattle.liquid_stability.specs.Steps.{amountsOf, Judges, TrialTurn, trialAnswer};
+use thermo_models::Tabled;
+use thermo_types::ActivityOptions;
 use thermo_types::Verdict;
 
 // A trial that started near solvent `component` (its index in the book).
@@ -81,20 +85,12 @@ pub fn present_count(x: &[f64; 8], n: usize) -> usize
     present(x, floats::places(n))
 }
 
-// ln γ of x at t; its slopes aren't used here.
-fn ln_gamma(
-    table: &[f64; 512],
-    alphas: Verdict,
-    n: usize,
-    t: Temperature,
-    x: &[f64; 8],
-    lg: &mut [f64; 8],
-) -> Verdict
-    requires { ⌜ n ≤ 8 ⌝ }
-    ensures { λ r. ⌜ LnGammaIs (activityOn (now (table .entry)) alphas n (t .0) (now (x .entry))) r (now (lg .exit)) ⌝ }
+// ln γ of x; its slopes aren't used here.
+fn ln_gamma(table: &[f64; 512], at: Tabled, x: &[f64; 8], lg: &mut [f64; 8]) -> Verdict
+    ensures { λ r. ⌜ (r ≡ verdictOf (activityOn (now (table .entry)) at (now (x .entry)))) × (now (lg .exit) ≡ lnGammaOf (activityOn (now (table .entry)) at (now (x .entry)))) ⌝ }
 {
     let mut sl = [0.0; 8];
-    thermo_models::activity(table, alphas, n, t, x, lg, &mut sl)
+    thermo_models::activity(table, at, x, lg, &mut sl)
 }
 
 fn tangent_at(x: f64, lg: f64) -> f64
@@ -121,13 +117,22 @@ fn pick(i: usize, j: usize, a: f64, b: f64) -> f64
     if i == j { a } else { b }
 }
 
-// ln W at the start of the trial near solvent j: 0.999 of it, 0.001 shared by the others.
-fn start(others: f64, j: usize, n: usize) -> [f64; 8]
+// At the start this is shared by the solvents that the trial isn't near.
+const START_REST: f64 = 0.001;
+
+// A trial is back at the tested composition within this.
+const TRIVIAL_DISTANCE: f64 = 1e-6;
+
+// A trial has converged where ln W changes by at most this.
+const LN_W_TOLERANCE: f64 = 1e-10;
+
+// ln W at the start of the trial near solvent j.
+fn start(others: f64, n: usize, j: usize) -> [f64; 8]
     requires { ⌜ n ≤ 8 ⌝ }
-    ensures { λ r. ⌜ r ≡ startFrom others j n ⌝ }
+    ensures { λ r. ⌜ r ≡ startFrom others n j ⌝ }
 {
-    let a = numerics::ln(1.0 - 0.001);
-    let b = numerics::ln(0.001 / others);
+    let a = numerics::ln(1.0 - START_REST);
+    let b = numerics::ln(START_REST / others);
     let mut ln_w = [0.0; 8];
     for i in 0..n {
         ln_w[i] = pick(i, j, a, b);
@@ -153,15 +158,19 @@ fn amounts(x: &[f64; 8], ln_w: &[f64; 8], n: usize) -> [f64; 8]
     big
 }
 
+fn add_amount(x: f64, big: f64, s: f64) -> f64
+    ensures { λ r. ⌜ r ≡ cond (lt 0f x) (s ⊕ big) s ⌝ }
+{
+    if x > 0.0 { s + big } else { s }
+}
+
 fn total(x: &[f64; 8], big: &[f64; 8], n: usize) -> f64
     requires { ⌜ n ≤ 8 ⌝ }
-    ensures { λ r. ⌜ r ≡ presentSum (now (x .entry)) (now (big .entry)) n ⌝ }
+    ensures { λ r. ⌜ r ≡ foldTo (active (at (now (x .entry))) (λ i s. s ⊕ at (now (big .entry)) i)) 0f n ⌝ }
 {
     let mut s = 0.0;
     for i in 0..n {
-        if x[i] > 0.0 {
-            s = s + big[i];
-        }
+        s = add_amount(x[i], big[i], s);
     }
     s
 }
@@ -175,7 +184,7 @@ fn share(x: f64, big: f64, s: f64) -> f64
 // w_i = W_i / Σ W.
 fn composition(x: &[f64; 8], big: &[f64; 8], s: f64, n: usize) -> [f64; 8]
     requires { ⌜ n ≤ 8 ⌝ }
-    ensures { λ r. ⌜ r ≡ sharesOf (now (x .entry)) (now (big .entry)) s n ⌝ }
+    ensures { λ r. ⌜ r ≡ vec (λ i. cond (lt 0f (at (now (x .entry)) i)) (at (now (big .entry)) i ⊘ s) 0f) n ⌝ }
 {
     let mut w = [0.0; 8];
     for i in 0..n {
@@ -185,7 +194,7 @@ fn composition(x: &[f64; 8], big: &[f64; 8], s: f64, n: usize) -> [f64; 8]
 }
 
 fn measure_at(x: f64, ln_w: f64, big: f64, lg: f64, d: f64, w: f64, m: Measured) -> Measured
-    ensures { λ r. ⌜ r ≡ measureAt x «ln_w» big lg d w m ⌝ }
+    ensures { λ r. ⌜ (r .distance ≡ cond (lt 0f x) (m .distance ⊕ big ⊗ («ln_w» ⊕ lg ⊖ d ⊖ 1f)) (m .distance)) × (r .change ≡ cond (lt 0f x) (maxOf (m .change) (absOf (d ⊖ lg ⊖ «ln_w»))) (m .change)) × (r .apart ≡ cond (lt 0f x) (maxOf (m .apart) (absOf (w ⊖ x))) (m .apart)) ⌝ }
 {
     if x > 0.0 {
         Measured {
@@ -209,7 +218,7 @@ fn measure(
     n: usize,
 ) -> Measured
     requires { ⌜ (n ≤ 8) × (now big ≡ amountsOf (now x) (now «ln_w») n) ⌝ }
-    ensures { λ r. ⌜ Measures (now (x .entry)) (now («ln_w» .entry)) (now (lg .entry)) (now (d .entry)) (now (w .entry)) n r ⌝ }
+    ensures { λ r. ⌜ (r .distance ≡ distanceOf (now (x .entry)) (now («ln_w» .entry)) (now (lg .entry)) (now (d .entry)) n) × (r .change ≡ changeOf (now (x .entry)) (now («ln_w» .entry)) (now (lg .entry)) (now (d .entry)) n) × (r .apart ≡ apartOf (now (x .entry)) (now (w .entry)) n) ⌝ }
 {
     let mut m = Measured {
         distance: 1.0,
@@ -240,19 +249,16 @@ fn is_unstable(threshold: f64, tm: f64, trivial: bool) -> bool
     (tm < threshold) & !trivial
 }
 
-fn judge(v: Verdict, threshold: f64, tm: f64, change: f64, trivial: bool) -> Judged
-    ensures { λ r. ⌜ r ≡ judgeOf v threshold tm change trivial ⌝ }
+fn judge(threshold: f64, tm: f64, change: f64, trivial: bool) -> Judged
+    ensures { λ r. ⌜ Judges threshold tm change trivial r ⌝ }
 {
-    if let Verdict::Refused(r) = v {
-        return Judged::No(r);
-    }
     if !floats::is_finite(tm) {
         return Judged::No(25);
     }
     if is_unstable(threshold, tm, trivial) {
         return Judged::Found(false);
     }
-    if change <= 1e-10 {
+    if change <= LN_W_TOLERANCE {
         return Judged::Found(trivial);
     }
     Judged::More
@@ -261,24 +267,31 @@ fn judge(v: Verdict, threshold: f64, tm: f64, change: f64, trivial: bool) -> Jud
 // One turn of a trial: the activity of w is asked for once.
 fn turn(
     table: &[f64; 512],
-    alphas: Verdict,
+    at: Tabled,
     n: usize,
-    t: Temperature,
     threshold: f64,
     x: &[f64; 8],
     d: &[f64; 8],
     ln_w: &[f64; 8],
 ) -> Turned
     requires { ⌜ n ≤ 8 ⌝ }
-    ensures { λ r. ⌜ r ≡ turnOf (activityOn (now (table .entry)) alphas n (t .0)) threshold n (now (x .entry)) (now (d .entry)) (now («ln_w» .entry)) ⌝ }
+    ensures { λ r. ⌜ TrialTurn (activityOn (now (table .entry)) at) threshold n (now (x .entry)) (now (d .entry)) (now («ln_w» .entry)) r ⌝ }
 {
     let big = amounts(x, ln_w, n);
     let s = total(x, &big, n);
     let w = composition(x, &big, s, n);
     let mut lg = [0.0; 8];
-    let v = ln_gamma(table, alphas, n, t, &w, &mut lg);
+    let v = ln_gamma(table, at, &w, &mut lg);
+    if let Verdict::Refused(r) = v {
+        return Turned {
+            judged: Judged::No(r),
+            distance: 0.0,
+            composition: w,
+            next: lg,
+        };
+    }
     let m = measure(x, ln_w, &big, &lg, d, &w, n);
-    let judged = judge(v, threshold, m.distance, m.change, m.apart <= 1e-6);
+    let judged = judge(threshold, m.distance, m.change, m.apart <= TRIVIAL_DISTANCE);
     let ln_next = next(d, &lg, n);
     Turned {
         judged,
@@ -288,7 +301,8 @@ fn turn(
     }
 }
 
-fn no_trial() -> LiquidStabilityTrial
+// An entry that no trial has filled.
+pub fn no_trial() -> LiquidStabilityTrial
     ensures { λ r. ⌜ r ≡ noTrial ⌝ }
 {
     let z = [0.0; 8];
@@ -330,23 +344,21 @@ fn found(j: usize, tm: f64, w: [f64; 8], iterations: u64, trivial: bool) -> Trie
 // The trial near solvent j, where `others` more are present: 24, 25, and 27 at its limit.
 fn trial(
     table: &[f64; 512],
-    alphas: Verdict,
+    at: Tabled,
     n: usize,
-    t: Temperature,
-    threshold: f64,
+    o: ActivityOptions,
     x: &[f64; 8],
     d: &[f64; 8],
-    j: usize,
     others: f64,
-    limit: u64,
+    j: usize,
 ) -> Tried
     requires { ⌜ n ≤ 8 ⌝ }
-    ensures { λ r. ⌜ r ≡ trialAnswer (trialFrom (activityOn (now (table .entry)) alphas n (t .0)) threshold n (now (x .entry)) (now (d .entry)) j limit 0 (startFrom others j n)) ⌝ }
+    ensures { λ r. ⌜ r ≡ trialAnswer (trialFrom (activityOn (now (table .entry)) at) (o .«tm_threshold») n (now (x .entry)) (now (d .entry)) j (o .«max_iterations») 0 (startFrom others n j)) ⌝ }
 {
-    let mut ln_w = start(others, j, n);
+    let mut ln_w = start(others, n, j);
     let mut done = 0;
-    while done < limit {
-        let s = turn(table, alphas, n, t, threshold, x, d, &ln_w);
+    while done < o.max_iterations {
+        let s = turn(table, at, n, o.tm_threshold, x, d, &ln_w);
         let judged = s.judged;
         match judged {
             Judged::No(r) => return refused(r),
@@ -379,17 +391,15 @@ fn without_trials(verdict: Verdict, stable: bool) -> LiquidStability
 // One trial near each solvent present. All of them run: a later trial's refusal stands before an unstable one's answer.
 fn trials(
     table: &[f64; 512],
-    alphas: Verdict,
+    at: Tabled,
     n: usize,
-    t: Temperature,
-    threshold: f64,
+    o: ActivityOptions,
     x: &[f64; 8],
     d: &[f64; 8],
     others: f64,
-    limit: u64,
 ) -> LiquidStability
-    requires { ⌜ (n ≤ 8) × (others ≡ ofInt binary64 (pos (presentCount (now x) n - 1))) ⌝ }
-    ensures { λ r. ⌜ r ≡ stabilityAnswer (trialsTo (activityOn (now (table .entry)) alphas n (t .0)) threshold n (now (x .entry)) (now (d .entry)) limit n) ⌝ }
+    requires { ⌜ (n ≤ 8) × (others ≡ othersIn (now x) n) ⌝ }
+    ensures { λ r. ⌜ r ≡ stabilityAnswer (trialsTo (activityOn (now (table .entry)) at) n o (now (x .entry)) (now (d .entry)) n) ⌝ }
 {
     let none = no_trial();
     let mut trials = [none; 8];
@@ -397,7 +407,7 @@ fn trials(
     let mut stable = true;
     for j in 0..n {
         if x[j] > 0.0 {
-            let s = trial(table, alphas, n, t, threshold, x, d, j, others, limit);
+            let s = trial(table, at, n, o, x, d, others, j);
             let v = s.verdict;
             if let Verdict::Refused(r) = v {
                 return without_trials(Verdict::Refused(r), false);
@@ -405,7 +415,7 @@ fn trials(
             let found = s.trial;
             trials[count] = found;
             count += 1;
-            stable = stable & !is_unstable(threshold, found.distance, found.trivial);
+            stable = stable & !is_unstable(o.tm_threshold, found.distance, found.trivial);
         }
     }
     LiquidStability {
@@ -419,18 +429,16 @@ fn trials(
 // The activity of x (24, 25) stands before the question how many solvents are present.
 fn test_liquid(
     table: &[f64; 512],
-    alphas: Verdict,
+    at: Tabled,
     n: usize,
-    t: Temperature,
+    o: ActivityOptions,
     x: &[f64; 8],
-    threshold: f64,
-    limit: u64,
 ) -> LiquidStability
     requires { ⌜ n ≤ 8 ⌝ }
-    ensures { λ r. ⌜ r ≡ stabilityAnswer (stabilityOf (activityOn (now (table .entry)) alphas n (t .0)) threshold n (now (x .entry)) limit) ⌝ }
+    ensures { λ r. ⌜ r ≡ stabilityAnswer (stabilityOf (activityOn (now (table .entry)) at) n o (now (x .entry))) ⌝ }
 {
     let mut lg = [0.0; 8];
-    let v = ln_gamma(table, alphas, n, t, x, &mut lg);
+    let v = ln_gamma(table, at, x, &mut lg);
     if let Verdict::Refused(r) = v {
         return without_trials(Verdict::Refused(r), false);
     }
@@ -440,21 +448,17 @@ fn test_liquid(
     }
     let d = tangent(x, &lg, n);
     let others = (count - 1) as f64;
-    trials(table, alphas, n, t, threshold, x, &d, others, limit)
+    trials(table, at, n, o, x, &d, others)
 }
 
-// Trials of the liquid x at t, one near each solvent present: 24, 25, 27. Fewer than two present: stable, no trials.
+// Trials of the liquid x, one near each solvent present: 24, 25, 27. Fewer than two present: stable, no trials.
 pub fn liquid_stability(
     table: &[f64; 512],
-    alphas: Verdict,
-    n: usize,
-    t: Temperature,
+    at: Tabled,
+    o: ActivityOptions,
     x: &[f64; 8],
-    threshold: f64,
-    max_iterations: u64,
 ) -> LiquidStability
-    ensures { λ r. ⌜ r ≡ stabilityAnswer (stabilityOf (activityOn (now (table .entry)) alphas (places n) (t .0)) threshold (places n) (now (x .entry)) «max_iterations») ⌝ }
+    ensures { λ r. ⌜ r ≡ stabilityAnswer (stabilityOf (activityOn (now (table .entry)) at) (places (at .n)) o (now (x .entry))) ⌝ }
 {
-    let m = floats::places(n);
-    test_liquid(table, alphas, m, t, x, threshold, max_iterations)
+    test_liquid(table, at, floats::places(at.n), o, x)
 }

@@ -3,4 +3,3 @@ mod Turns
 mod Tests
 mod Whole
 pub mod Tabled
-pub mod Finite

@@ -1,4 +1,4 @@
--- On a table that `tables` made, `excess` of the table is `excess` of the parameters: H = τ G is the product that the definition takes, C / S once
+-- On a table that `tables` made, NRTL of the table is NRTL of the parameters: H = τ G is the product that the definition takes, C / S once
 -- is C / S each time, and Jets without second derivatives give the same values and slopes. Assumes nothing.
 use Prim.Native.Nat.{ℕ, _+_, _*_, _<_, _≤_}
 use mathlib.Core.Path.{_≡_, refl, ap}
@@ -7,32 +7,29 @@ use mathlib.Core.List.{List}
 use native.Mathlib.Omega.{arith}
 use lib.ListN.{length}
 use lib.Ieee.{Float}
-use Rattle.floats.specs.Small.{isFinite}
 use Rattle.floats.specs.Vector.{at, zeros8}
 use Rattle.floats.specs.Outcome.{need}
-use Rattle.floats.specs.Fold.{allTo}
 use Rattle.floats.proofs.Folds.{all-cong}
 use Rattle.floats.proofs.Fills.{fill-cong}
-use Rattle.thermo_types.specs.declared.Verdict.{Verdict}
 use Rattle.thermo_types.specs.declared.Verdict.the-variants.{Passed, Refused}
+use Rattle.thermo_types.specs.Composition.{allFinite}
 use Rattle.jet.specs.declared.Jet.{Jet}
 use Rattle.jet.specs.Jets.{scaleJ, mulJ, twoJ}
 use Rattle.jet.proofs.Sums.{sumJet-cong}
 use Rattle.jet.proofs.Near.{_≃_, two-near, scale-near, div-near, sub-near, mul-near, sum-near}
 use Rattle.nrtl_tables.specs.Pair.{tauAt, gAt, alphasRight}
-use Rattle.nrtl_tables.specs.Table.{keptOf, tableRows, tableOf, tableVerdict, Tabled}
+use Rattle.nrtl_tables.specs.Table.{gPlane, hPlane, tauPlane, keptOf, tableRows, tableOf, tableVerdict}
 use Rattle.nrtl_tables.proofs.Planes.{rows-at}
-use Rattle.nrtl.specs.declared.Energies.{Energies}
-use Rattle.nrtl.specs.Columns.{colS, colC, ratio, termJ, lnFrom, gibbsFrom, lnGammaOf, reducedOf}
-use Rattle.nrtl.specs.State.{stateFrom, excessOf}
-use Rattle.nrtl.specs.On.{jetAt, jets, twos, firstTwo, sOn, rOn, lnGammaOn, reducedOn, passing, excessOn}
-use Rattle.nrtl.specs.Answers.{Gives}
+use Rattle.excess.specs.State.{stateWith, stateFrom}
+use Rattle.nrtl.specs.Columns.{colS, colC, ratio, termJ, lnFrom, gibbsFrom, lnGammaJ, reducedJ}
+use Rattle.nrtl.specs.State.{nrtlOf}
+use Rattle.nrtl.specs.On.{jetAt, jets, twos, firstTwo, sOn, rOn, lnGammaOn, reducedOn, passing, nrtlOn}
 
 -- the table m stands for τ and G, below n
-pub record Stands (T G : ℕ → ℕ → Jet) (n : ℕ) (m : List Float) : Type 0 where
-  pub g : (i j : ℕ) → i < n → j < n → jets m 0 i j ≡ G i j
-  pub h : (i j : ℕ) → i < n → j < n → jets m 192 i j ≡ mulJ (T i j) (G i j)
-  pub tau : (i j : ℕ) → i < n → j < n → twos m 384 i j ≡ firstTwo (T i j)
+pub record TableOf (T G : ℕ → ℕ → Jet) (n : ℕ) (m : List Float) : Type 0 where
+  pub g : (i j : ℕ) → i < n → j < n → jets m gPlane i j ≡ G i j
+  pub h : (i j : ℕ) → i < n → j < n → jets m hPlane i j ≡ mulJ (T i j) (G i j)
+  pub tau : (i j : ℕ) → i < n → j < n → twos m tauPlane i j ≡ firstTwo (T i j)
 
 jet-is : (j : Jet) {a b c : Float} → a ≡ j .v → b ≡ j .d → c ≡ j .dd → _≡_ {A = Jet} (record { v = a; d = b; dd = c }) j
 jet-is j p q r = rw (p, q, r)
@@ -40,7 +37,7 @@ jet-is j p q r = rw (p, q, r)
 pub two-is : {a b c d : Float} → a ≡ c → b ≡ d → twoJ a b ≡ twoJ c d
 two-is p q = rw (p, q)
 
-pub rows-stand : (T G : ℕ → ℕ → Jet) (n : ℕ) (old : List Float) → length old ≡ 512 → n ≤ 8 → Stands T G n (tableRows T G n n old)
+pub rows-stand : (T G : ℕ → ℕ → Jet) (n : ℕ) (old : List Float) → length old ≡ 512 → n ≤ 8 → TableOf T G n (tableRows T G n n old)
 unfolding jetAt keptOf
 rows-stand T G n old len n8 = record {
   g = λ i j a b. jet-is (G i j) (e i j a b 0 (omega arith)) (e i j a b 1 (omega arith)) (e i j a b 2 (omega arith));
@@ -58,61 +55,59 @@ term-near x t g s r = mul-near (div-near (scale-near x g) s) (sub-near t r)
 first-near : {a b : Jet} → a ≡ b → firstTwo a ≃ b
 first-near e = two-near (ap (λ (j : Jet). j .v) e) (ap (λ (j : Jet). j .d) e)
 
-module _ (T G : ℕ → ℕ → Jet) (n : ℕ) (m : List Float) (s : Stands T G n m) (x : ℕ → Float) where
+module _ (T G : ℕ → ℕ → Jet) (n : ℕ) (m : List Float) (s : TableOf T G n m) (x : ℕ → Float) where
   s-is : (k : ℕ) → k < n → sOn m x n k ≡ colS G x n k
   unfolding colS
   s-is k l = sumJet-cong n refl (λ i a. ap (λ (j : Jet). scaleJ j (x i)) (s .g i k a l))
 
-  c-is : (k : ℕ) → k < n → colS (jets m 192) x n k ≡ colC T G x n k
+  c-is : (k : ℕ) → k < n → colS (jets m hPlane) x n k ≡ colC T G x n k
   unfolding colS colC
   c-is k l = sumJet-cong n refl (λ i a. ap (λ (j : Jet). scaleJ j (x i)) (s .h i k a l))
 
   r-is : (k : ℕ) → k < n → rOn m x n k ≡ ratio T G x n k
   r-is k l = rw (s-is k l, c-is k l)
 
-  pub reduced-is : reducedOn m x n ≡ reducedOf T G x n
+  pub reduced-is : reducedOn m x n ≡ reducedJ T G x n
   unfolding gibbsFrom
   reduced-is = sumJet-cong n refl (λ i a. ap (λ (j : Jet). scaleJ j (x i)) (r-is i a))
 
-  g-near : (i j : ℕ) → i < n → j < n → twos m 0 i j ≃ G i j
+  g-near : (i j : ℕ) → i < n → j < n → twos m gPlane i j ≃ G i j
   unfolding jetAt
   g-near i j a b = first-near (s .g i j a b)
 
-  t-near : (i j : ℕ) → i < n → j < n → twos m 384 i j ≃ T i j
+  t-near : (i j : ℕ) → i < n → j < n → twos m tauPlane i j ≃ T i j
   unfolding twoJ
   t-near i j a b = two-near (ap (λ (q : Jet). q .v) (s .tau i j a b)) (ap (λ (q : Jet). q .d) (s .tau i j a b))
 
-  pub ln-near : (i : ℕ) → i < n → lnGammaOn m x n i ≃ lnGammaOf T G x n i
+  pub ln-near : (i : ℕ) → i < n → lnGammaOn m x n i ≃ lnGammaJ T G x n i
   unfolding lnFrom
-  ln-near i l = sum-near _ _ n (first-near (r-is i l)) (λ j h. term-near (x j) (t-near i j l h) (g-near i j l h) (first-near (s-is j h)) (first-near (r-is j h)))
+  ln-near i l =
+      sum-near _ _ n (first-near (r-is i l)) (λ j h. term-near (x j) (t-near i j l h) (g-near i j l h) (first-near (s-is j h)) (first-near (r-is j h)))
 
 -- a state has values and slopes of ln γ alone
 pub state-near : {e e′ : Jet} (L L′ : ℕ → Jet) (n : ℕ) (t : Float) → e ≡ e′ → ((i : ℕ) → i < n → L i ≃ L′ i) → stateFrom e L n t ≡ stateFrom e′ L′ n t
 unfolding stateFrom
 state-near {e} {e′} L L′ n t p h =
-    let a : allTo (λ i. isFinite (L i .v)) n ≡ allTo (λ i. isFinite (L′ i .v)) n = all-cong n (λ i l. rw (h i l .v)) in
-    let b : allTo (λ i. isFinite (L i .d)) n ≡ allTo (λ i. isFinite (L′ i .d)) n = all-cong n (λ i l. rw (h i l .d)) in
+    let a : allFinite (λ i. L i .v) n ≡ allFinite (λ i. L′ i .v) n = all-cong n (λ i l. rw (h i l .v)) in
+    let b : allFinite (λ i. L i .d) n ≡ allFinite (λ i. L′ i .d) n = all-cong n (λ i l. rw (h i l .d)) in
     rw (p, a, b, fill-cong (λ i. L i .v) (λ i. L′ i .v) n zeros8 (λ i l. h i l .v), fill-cong (λ i. L i .d) (λ i. L′ i .d) n zeros8 (λ i l. h i l .d))
 
-module _ (tau alpha : List Float) (n : ℕ) (t : Float) (old : List Float) (len : length old ≡ 512) (n8 : n ≤ 8) (x : ℕ → Float) where
-  filled : stateFrom (reducedOn (tableRows (tauAt tau t) (gAt tau alpha t) n n old) x n) (lnGammaOn (tableRows (tauAt tau t) (gAt tau alpha t) n n old) x n) n t
-      ≡ stateFrom (reducedOf (tauAt tau t) (gAt tau alpha t) x n) (lnGammaOf (tauAt tau t) (gAt tau alpha t) x n) n t
+module _ (P : List Float) (n : ℕ) (t : Float) (old : List Float) (len : length old ≡ 512) (n8 : n ≤ 8) (x : ℕ → Float) where
+  filled : stateFrom (reducedOn (tableRows (tauAt P t) (gAt P t) n n old) x n) (lnGammaOn (tableRows (tauAt P t) (gAt P t) n n old) x n) n t
+      ≡ stateFrom (reducedJ (tauAt P t) (gAt P t) x n) (lnGammaJ (tauAt P t) (gAt P t) x n) n t
   filled =
-      let s = rows-stand (tauAt tau t) (gAt tau alpha t) n old len n8 in
-      state-near _ _ n t (reduced-is (tauAt tau t) (gAt tau alpha t) n _ s x) (ln-near (tauAt tau t) (gAt tau alpha t) n _ s x)
+      let s = rows-stand (tauAt P t) (gAt P t) n old len n8 in
+      state-near _ _ n t (reduced-is (tauAt P t) (gAt P t) n _ s x) (ln-near (tauAt P t) (gAt P t) n _ s x)
 
-  inner : (b : Bool) → passing (cond b Passed (Refused 24)) (stateFrom (reducedOn (cond b (tableRows (tauAt tau t) (gAt tau alpha t) n n old) old) x n) (lnGammaOn (cond b (tableRows (tauAt tau t) (gAt tau alpha t) n n old) old) x n) n t)
-      ≡ need b 24 (stateFrom (reducedOf (tauAt tau t) (gAt tau alpha t) x n) (lnGammaOf (tauAt tau t) (gAt tau alpha t) x n) n t)
+  inner : (b : Bool)
+      → passing (cond b Passed (Refused 24))
+      (stateFrom (reducedOn (cond b (tableRows (tauAt P t) (gAt P t) n n old) old) x n) (lnGammaOn (cond b (tableRows (tauAt P t) (gAt P t) n n old) old) x n) n t)
+      ≡ need b 24 (stateFrom (reducedJ (tauAt P t) (gAt P t) x n) (lnGammaJ (tauAt P t) (gAt P t) x n) n t)
   unfolding passing need
   inner true = filled
   inner false = refl
 
   -- the law: a table and a verdict of `tables` carry the parameters
-  pub excess-tabled : excessOn (tableOf tau alpha n t old) (tableVerdict alpha n t) n t x ≡ excessOf tau alpha n t x
-  unfolding excessOn excessOf tableOf tableVerdict
-  excess-tabled = rw (inner (alphasRight alpha t n))
-
--- what a caller of `tables` and `excess` learns
-pub tabled-gives : (tau alpha : List Float) (n : ℕ) (t : Float) (old : List Float) (x : ℕ → Float) {m : List Float} {v : Verdict} {r : Energies} {lg sl : List Float} → length old ≡ 512 → n ≤ 8
-    → Tabled tau alpha n t v old m → Gives (excessOn m v n t x) r lg sl → Gives (excessOf tau alpha n t x) r lg sl
-tabled-gives tau alpha n t old x len n8 p g = rw (← excess-tabled tau alpha n t old len n8 x, ← p .verdict, ← p .table) g
+  pub nrtl-filled : nrtlOn (tableOf P n t old) (tableVerdict P n t) n t x ≡ nrtlOf P n t x
+  unfolding nrtlOn nrtlOf tableOf tableVerdict
+  nrtl-filled = rw (inner (alphasRight P t n))

@@ -13,15 +13,16 @@ use Rattle.floats.proofs.Fills.{fill-turn}
 use Rattle.jet.specs.declared.Jet.{Jet}
 use Rattle.jet.specs.Jets.{addJ, scaleJ, divJ}
 use Rattle.jet.proofs.Sums.{sumJet-turn}
+use Rattle.nrtl_tables.specs.Table.{hPlane}
 use Rattle.nrtl.specs.Columns.{colS, gibbsFrom}
 use Rattle.nrtl.specs.On.{jets, sOn, rOn}
-use Rattle.nrtl.specs.Steps.{pairOf, SumTurn, SumsTo, GammasTo}
+use Rattle.nrtl.specs.Steps.{sumsKept, SumTurn, SumsTo, GammasTo}
 
 -- the code's s, q, c, p and r: S_i, C_i, C_i / S_i, that times x_i, and the next partial sum
 pub sum-turn : (m : List Float) (x : ℕ → Float) (n i : ℕ) (old : List Float) {e r s q c p : Jet}
-    → s ≡ sOn m x n i → q ≡ colS (jets m 192) x n i → c ≡ divJ q s → p ≡ scaleJ c (x i) → r ≡ addJ e p
+    → s ≡ sOn m x n i → q ≡ colS (jets m hPlane) x n i → c ≡ divJ q s → p ≡ scaleJ c (x i) → r ≡ addJ e p
     → SumTurn (sOn m x n) (rOn m x n) x i e r old (set (set (set (set old (i * 4) (s .v)) (i * 4 + 1) (s .d)) (i * 4 + 2) (c .v)) (i * 4 + 3) (c .d))
-unfolding fillFrom pairOf
+unfolding fillFrom sumsKept
 sum-turn m x n i old {e} {r} {s} {q} {c} {p} ps pq pc pp pr =
     let k : c ≡ rOn m x n i = pc ∙ rw (pq, ps) in
     let z : i * 4 + 0 ≡ i * 4 = omega arith in
@@ -30,7 +31,8 @@ sum-turn m x n i old {e} {r} {s} {q} {c} {p} ps pq pc pp pr =
       kept = rw (ps, k, z);
     }
 
-pub sums-turn : (S R : ℕ → Jet) (x : ℕ → Float) (k : ℕ) (old : List Float) {e r : Jet} {mid new : List Float} → SumTurn S R x k e r mid new → SumsTo S R x k e old mid → SumsTo S R x (k + 1) r old new
+pub sums-turn : (S R : ℕ → Jet) (x : ℕ → Float) (k : ℕ) (old : List Float) {e r : Jet} {mid new : List Float} → SumTurn S R x k e r mid new
+    → SumsTo S R x k e old mid → SumsTo S R x (k + 1) r old new
 unfolding gibbsFrom
 sums-turn S R x k old p q = record {
   total = sumJet-turn _ _ k (p .next) refl (q .total);

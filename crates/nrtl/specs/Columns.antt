@@ -27,9 +27,9 @@ unfoldable pub gibbsFrom : (ℕ → Jet) → (ℕ → Float) → ℕ → Jet
 gibbsFrom R x n = sumJetTo (λ i. scaleJ (R i) (x i)) n
 
 -- ln γ_i = C_i / S_i + Σ_j (G_ij x_j / S_j) (τ_ij - C_j / S_j)
-abbrev pub lnGammaOf : (ℕ → ℕ → Jet) → (ℕ → ℕ → Jet) → (ℕ → Float) → ℕ → ℕ → Jet
-lnGammaOf T G x n i = lnFrom T G (colS G x n) (ratio T G x n) x n i
+abbrev pub lnGammaJ : (ℕ → ℕ → Jet) → (ℕ → ℕ → Jet) → (ℕ → Float) → ℕ → ℕ → Jet
+lnGammaJ T G x n i = lnFrom T G (colS G x n) (ratio T G x n) x n i
 
 -- g^E / RT = Σ_i x_i C_i / S_i
-abbrev pub reducedOf : (ℕ → ℕ → Jet) → (ℕ → ℕ → Jet) → (ℕ → Float) → ℕ → Jet
-reducedOf T G x n = gibbsFrom (ratio T G x n) x n
+abbrev pub reducedJ : (ℕ → ℕ → Jet) → (ℕ → ℕ → Jet) → (ℕ → Float) → ℕ → Jet
+reducedJ T G x n = gibbsFrom (ratio T G x n) x n

@@ -2,5 +2,4 @@
 pub mod Columns
 pub mod State
 pub mod On
-pub mod Answers
 pub mod Steps

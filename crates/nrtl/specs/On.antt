@@ -1,18 +1,16 @@
--- `excess` of any table, as lists of 512 entries have it: entry (i, j) of plane k at k * 64 + i * 8 + j. Assumes nothing.
+-- NRTL's excess state of any table, as lists of 512 entries have it: entry (i, j) of plane k at k * 64 + i * 8 + j. Assumes nothing.
 use Prim.Native.Nat.{ℕ, _+_, _*_}
 use mathlib.Core.List.{List}
-use lib.Ieee.{Float, lt}
-use Rattle.floats.specs.Arithmetic.{0f}
-use Rattle.floats.specs.Small.{isFinite}
+use lib.Ieee.{Float}
 use Rattle.floats.specs.Vector.{at}
-use Rattle.floats.specs.Outcome.{Out, no, need}
+use Rattle.floats.specs.Outcome.{Out, no}
 use Rattle.thermo_types.specs.declared.Verdict.{Verdict}
 use Rattle.thermo_types.specs.declared.Verdict.the-variants.{Passed, Refused}
-use Rattle.thermo_types.specs.Composition.{withFractions}
 use Rattle.jet.specs.declared.Jet.{Jet}
 use Rattle.jet.specs.Jets.{twoJ, divJ}
+use Rattle.excess.specs.State.{Excess, stateFrom, withState}
+use Rattle.nrtl_tables.specs.Table.{gPlane, hPlane, tauPlane}
 use Rattle.nrtl.specs.Columns.{colS, lnFrom, gibbsFrom}
-use Rattle.nrtl.specs.State.{Excess, stateFrom}
 
 -- the Jet whose three planes begin at b, and the one of two planes
 unfoldable pub jetAt : List Float → ℕ → ℕ → Jet
@@ -30,10 +28,10 @@ twos m b i j = twoAt m b (i * 8 + j)
 
 -- S and C / S, with H = τ G from the table
 abbrev pub sOn : List Float → (ℕ → Float) → ℕ → ℕ → Jet
-sOn m x n i = colS (jets m 0) x n i
+sOn m x n i = colS (jets m gPlane) x n i
 
 abbrev pub rOn : List Float → (ℕ → Float) → ℕ → ℕ → Jet
-rOn m x n i = divJ (colS (jets m 192) x n i) (sOn m x n i)
+rOn m x n i = divJ (colS (jets m hPlane) x n i) (sOn m x n i)
 
 -- value and slope alone
 abbrev pub firstTwo : Jet → Jet
@@ -41,7 +39,7 @@ firstTwo j = twoJ (j .v) (j .d)
 
 -- ln γ_i without its second derivative
 abbrev pub lnGammaOn : List Float → (ℕ → Float) → ℕ → ℕ → Jet
-lnGammaOn m x n i = lnFrom (twos m 384) (twos m 0) (λ j. firstTwo (sOn m x n j)) (λ j. firstTwo (rOn m x n j)) x n i
+lnGammaOn m x n i = lnFrom (twos m tauPlane) (twos m gPlane) (λ j. firstTwo (sOn m x n j)) (λ j. firstTwo (rOn m x n j)) x n i
 
 abbrev pub reducedOn : List Float → (ℕ → Float) → ℕ → Jet
 reducedOn m x n = gibbsFrom (rOn m x n) x n
@@ -51,10 +49,5 @@ unfoldable pub passing : {A : Type 0} → Verdict → Out A → Out A
 passing Passed next = next
 passing (Refused r) next = no r
 
-unfoldable pub excessOn : List Float → Verdict → ℕ → Float → (ℕ → Float) → Out Excess
-excessOn m alphas n t x =
-    need (isFinite t) 13
-    (need (lt 0f t) 13
-    (withFractions x n
-    (passing alphas
-    (stateFrom (reducedOn m x n) (lnGammaOn m x n) n t))))
+unfoldable pub nrtlOn : List Float → Verdict → ℕ → Float → (ℕ → Float) → Out Excess
+nrtlOn m alphas n t x = withState t x n (passing alphas (stateFrom (reducedOn m x n) (lnGammaOn m x n) n t))

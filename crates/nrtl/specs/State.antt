@@ -1,73 +1,15 @@
--- The NRTL excess state at a temperature and a composition, or a refusal (13, 15, 16, 18, 24, 25). Assumes nothing.
+-- NRTL's excess state at a temperature and a composition, or a refusal (13, 15, 16, 18, 24, 25). Assumes nothing.
 use Prim.Native.Nat.{ℕ}
 use mathlib.Core.List.{List}
-use lib.Ieee.{Float, neg, lt}
-use Rattle.floats.specs.Arithmetic.{_⊕_, _⊖_, _⊗_, _⊘_, #, 0f, 2f}
-use Rattle.floats.specs.Small.{isFinite}
-use Rattle.floats.specs.Fold.{allTo}
-use Rattle.floats.specs.Vector.{vec}
-use Rattle.floats.specs.Outcome.{Out, ok, need}
-use Rattle.thermo_types.specs.Composition.{withFractions}
-use Rattle.jet.specs.declared.Jet.{Jet}
+use lib.Ieee.{Float}
+use Rattle.floats.specs.Outcome.{Out, need}
+use Rattle.excess.specs.State.{Excess, stateFrom, withState}
 use Rattle.nrtl_tables.specs.Pair.{tauAt, gAt, alphasRight}
-use Rattle.nrtl.specs.Columns.{lnGammaOf, reducedOf}
+use Rattle.nrtl.specs.Columns.{lnGammaJ, reducedJ}
 
--- ln γ and its slopes by T (1/K) in arrays of eight, +0 past n; g^E / RT; energies in J/mol, entropy and heat capacity in J/(mol K)
-pub record Excess : Type 0 where
-  pub lnGamma : List Float
-  pub slopes : List Float
-  pub reduced : Float
-  pub gibbs : Float
-  pub enthalpy : Float
-  pub entropy : Float
-  pub heatCapacity : Float
-
--- the molar gas constant R, 8.31446261815324 J/(mol K)
-abbrev pub gasR : Float
-gasR = # 0x4020a1013e8990be
-
--- ---- from e = g^E / RT
-
--- g^E = R T e
-unfoldable pub gibbsOf : Jet → Float → Float
-gibbsOf e t = gasR ⊗ t ⊗ e .v
-
--- h^E = - R T² e'
-unfoldable pub enthalpyOf : Jet → Float → Float
-enthalpyOf e t = neg gasR ⊗ t ⊗ t ⊗ e .d
-
--- c_p^E = - R (2 T e' + T² e'')
-unfoldable pub heatCapacityOf : Jet → Float → Float
-heatCapacityOf e t = neg gasR ⊗ (2f ⊗ t ⊗ e .d ⊕ t ⊗ t ⊗ e .dd)
-
--- s^E = (h^E - g^E) / T
-unfoldable pub entropyOf : Jet → Float → Float
-entropyOf e t = (enthalpyOf e t ⊖ gibbsOf e t) ⊘ t
-
--- the state from e and ln γ, refused (25) where one of its numbers isn't finite
-unfoldable pub stateFrom : Jet → (ℕ → Jet) → ℕ → Float → Out Excess
-stateFrom e L n t =
-    need (isFinite (gibbsOf e t)) 25
-    (need (isFinite (enthalpyOf e t)) 25
-    (need (isFinite (heatCapacityOf e t)) 25
-    (need (isFinite (entropyOf e t)) 25
-    (need (allTo (λ i. isFinite (L i .v)) n) 25
-    (need (allTo (λ i. isFinite (L i .d)) n) 25
-    (ok (record {
-      lnGamma = vec (λ i. L i .v) n;
-      slopes = vec (λ i. L i .d) n;
-      reduced = e .v;
-      gibbs = gibbsOf e t;
-      enthalpy = enthalpyOf e t;
-      entropy = entropyOf e t;
-      heatCapacity = heatCapacityOf e t;
-    })))))))
-
--- `excess` of the parameters tau and alpha for n solvents, at t (K) and the mole fractions x
-unfoldable pub excessOf : List Float → List Float → ℕ → Float → (ℕ → Float) → Out Excess
-excessOf tau alpha n t x =
-    need (isFinite t) 13
-    (need (lt 0f t) 13
-    (withFractions x n
-    (need (alphasRight alpha t n) 24
-    (stateFrom (reducedOf (tauAt tau t) (gAt tau alpha t) x n) (lnGammaOf (tauAt tau t) (gAt tau alpha t) x n) n t))))
+-- of the parameters P for n solvents, at t (K) and the mole fractions x
+unfoldable pub nrtlOf : List Float → ℕ → Float → (ℕ → Float) → Out Excess
+nrtlOf P n t x =
+    withState t x n
+    (need (alphasRight P t n) 24
+    (stateFrom (reducedJ (tauAt P t) (gAt P t) x n) (lnGammaJ (tauAt P t) (gAt P t) x n) n t))

@@ -7,20 +7,17 @@ use lib.Ieee.{Float}
 use Rattle.floats.specs.Small.{isFinite}
 use Rattle.floats.specs.Fold.{foldTo, allTo}
 use Rattle.floats.specs.Vector.{at, fill, fillFrom}
-use Rattle.thermo_types.specs.declared.Verdict.the-variants.{Passed}
 use Rattle.jet.specs.declared.Jet.{Jet}
 use Rattle.jet.specs.Jets.{addJ, scaleJ, twoJ}
-use Rattle.nrtl.specs.declared.Energies.{Energies}
 use Rattle.nrtl.specs.Columns.{gibbsFrom}
-use Rattle.nrtl.specs.State.{gibbsOf, enthalpyOf, entropyOf, heatCapacityOf}
 
 -- kept of a solvent: S and R = C / S without second derivatives
-unfoldable pub pairOf : Jet → Jet → ℕ → Float
-pairOf s r k = at (s .v ∷ s .d ∷ r .v ∷ r .d ∷ []) k
+unfoldable pub sumsKept : Jet → Jet → ℕ → Float
+sumsKept s r k = at (s .v ∷ s .d ∷ r .v ∷ r .d ∷ []) k
 
 -- the first n solvents
-abbrev pub sumsOf : (ℕ → Jet) → (ℕ → Jet) → ℕ → List Float → List Float
-sumsOf S R n old = foldTo (λ i (l : List Float). fillFrom (pairOf (S i) (R i)) (i * 4) 4 l) old n
+abbrev pub sumsIn : (ℕ → Jet) → (ℕ → Jet) → ℕ → List Float → List Float
+sumsIn S R n old = foldTo (λ i (l : List Float). fillFrom (sumsKept (S i) (R i)) (i * 4) 4 l) old n
 
 abbrev pub twoOf : List Float → ℕ → Jet
 twoOf l k = twoJ (at l k) (at l (k + 1))
@@ -34,22 +31,15 @@ rIn l j = twoOf l (j * 4 + 2)
 -- turn i of the sums: the next partial sum of g^E / RT, and the array
 pub record SumTurn (S R : ℕ → Jet) (x : ℕ → Float) (i : ℕ) (e r : Jet) (old new : List Float) : Type 0 where
   pub next : r ≡ addJ e (scaleJ (R i) (x i))
-  pub kept : new ≡ fillFrom (pairOf (S i) (R i)) (i * 4) 4 old
+  pub kept : new ≡ fillFrom (sumsKept (S i) (R i)) (i * 4) 4 old
 
 -- the sums up to k
 pub record SumsTo (S R : ℕ → Jet) (x : ℕ → Float) (k : ℕ) (r : Jet) (old new : List Float) : Type 0 where
   pub total : r ≡ gibbsFrom R x k
-  pub kept : new ≡ sumsOf S R k old
+  pub kept : new ≡ sumsIn S R k old
 
 -- ln γ up to k, and whether all of it is finite
 pub record GammasTo (L : ℕ → Jet) (k : ℕ) (finite : Bool) (lg₀ sl₀ lg sl : List Float) : Type 0 where
   pub right : finite ≡ allTo (λ i. isFinite (L i .v) && isFinite (L i .d)) k
   pub values : lg ≡ fill (λ i. L i .v) k lg₀
   pub slopes : sl ≡ fill (λ i. L i .d) k sl₀
-
--- the energies, not yet tested
-unfoldable pub energiesAt : Jet → Float → Energies
-energiesAt e t = record { verdict = Passed; reduced = e .v; gibbs = gibbsOf e t; enthalpy = enthalpyOf e t; entropy = entropyOf e t; «heat_capacity» = heatCapacityOf e t }
-
-unfoldable pub energiesFinite : Energies → Bool
-energiesFinite e = isFinite (e .gibbs) && isFinite (e .enthalpy) && isFinite (e .«heat_capacity») && isFinite (e .entropy)

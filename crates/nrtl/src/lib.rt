@@ -4,25 +4,19 @@
 ghost use mathlib.Core.Path.{_≡_};
 ghost use Prim.Native.Nat.{_≤_, _<_, _+_, _*_};
 ghost use Rattle.floats.specs.Vector.{at, places};
-ghost use Rattle.floats.specs.Outcome.{no};
+ghost use Rattle.excess.specs.State.{stateFrom};
+ghost use Rattle.excess.specs.Answers.{Gives};
+ghost use Rattle.nrtl_tables.specs.Table.{gPlane, tauPlane};
 ghost use Rattle.nrtl.specs.Columns.{colS, termJ, lnFrom};
-ghost use Rattle.nrtl.specs.State.{stateFrom, excessOf};
-ghost use Rattle.nrtl.specs.On.{jetAt, twoAt, jets, twos, sOn, rOn, lnGammaOn, reducedOn, passing, excessOn};
-ghost use Rattle.nrtl.specs.Answers.{Gives};
-ghost use Rattle.nrtl.specs.Steps.{twoOf, sIn, rIn, SumTurn, SumsTo, GammasTo, energiesAt, energiesFinite};
+ghost use Rattle.nrtl.specs.On.{jetAt, twoAt, jets, twos, sOn, rOn, lnGammaOn, reducedOn, passing, nrtlOn};
+ghost use Rattle.nrtl.specs.Steps.{twoOf, sIn, rIn, SumTurn, SumsTo, GammasTo};
+use excess::Energies;
 use jet::Jet;
+use nrtl_tables::G_PLANE;
+use nrtl_tables::H_PLANE;
+use nrtl_tables::TAU_PLANE;
 use thermo_types::Temperature;
 use thermo_types::Verdict;
-
-// g^E/RT; g^E and h^E in J/mol, s^E and c_p^E in J/(mol K). All 0.0 where the verdict is a refusal.
-pub struct Energies {
-    pub verdict: Verdict,
-    pub reduced: f64,
-    pub gibbs: f64,
-    pub enthalpy: f64,
-    pub entropy: f64,
-    pub heat_capacity: f64,
-}
 
 // ---- the sums S and C / S
 
@@ -68,8 +62,8 @@ fn sum_at(
     requires { ⌜ (n ≤ 8) × (i < 8) ⌝ }
     ensures { λ r. ⌜ SumTurn (sOn (now (table .entry)) (at (now (x .entry))) n) (rOn (now (table .entry)) (at (now (x .entry))) n) (at (now (x .entry))) i ge r (now (sums .entry)) (now (sums .exit)) ⌝ }
 {
-    let s = column(table, 0, x, n, i);
-    let r = column(table, 192, x, n, i).div(s);
+    let s = column(table, G_PLANE, x, n, i);
+    let r = column(table, H_PLANE, x, n, i).div(s);
     sums[i * 4] = s.v;
     sums[i * 4 + 1] = s.d;
     sums[i * 4 + 2] = r.v;
@@ -105,12 +99,12 @@ fn term(tau: Jet, g: Jet, s: Jet, r: Jet, x: f64) -> Jet
 
 fn term_at(table: &[f64; 512], sums: &[f64; 32], x: &[f64; 8], i: usize, j: usize) -> Jet
     requires { ⌜ (i < 8) × (j < 8) ⌝ }
-    ensures { λ r. ⌜ r ≡ termJ (twos (now (table .entry)) 384 i j) (twos (now (table .entry)) 0 i j) (sIn (now (sums .entry)) j) (rIn (now (sums .entry)) j) (at (now (x .entry)) j) ⌝ }
+    ensures { λ r. ⌜ r ≡ termJ (twos (now (table .entry)) tauPlane i j) (twos (now (table .entry)) gPlane i j) (sIn (now (sums .entry)) j) (rIn (now (sums .entry)) j) (at (now (x .entry)) j) ⌝ }
 {
     let e = i * 8 + j;
     term(
-        two_at(table, 384, e),
-        two_at(table, 0, e),
+        two_at(table, TAU_PLANE, e),
+        two_at(table, G_PLANE, e),
         two_of(sums, j * 4),
         two_of(sums, j * 4 + 2),
         x[j],
@@ -119,7 +113,7 @@ fn term_at(table: &[f64; 512], sums: &[f64; 32], x: &[f64; 8], i: usize, j: usiz
 
 fn ln_gamma_at(table: &[f64; 512], sums: &[f64; 32], x: &[f64; 8], n: usize, i: usize) -> Jet
     requires { ⌜ (n ≤ 8) × (i < 8) ⌝ }
-    ensures { λ r. ⌜ r ≡ lnFrom (twos (now (table .entry)) 384) (twos (now (table .entry)) 0) (sIn (now (sums .entry))) (rIn (now (sums .entry))) (at (now (x .entry))) n i ⌝ }
+    ensures { λ r. ⌜ r ≡ lnFrom (twos (now (table .entry)) tauPlane) (twos (now (table .entry)) gPlane) (sIn (now (sums .entry))) (rIn (now (sums .entry))) (at (now (x .entry))) n i ⌝ }
 {
     let mut l = two_of(sums, i * 4 + 2);
     for j in 0..n {
@@ -137,7 +131,7 @@ fn ln_gammas(
     slopes: &mut [f64; 8],
 ) -> bool
     requires { ⌜ n ≤ 8 ⌝ }
-    ensures { λ r. ⌜ GammasTo (lnFrom (twos (now (table .entry)) 384) (twos (now (table .entry)) 0) (sIn (now (sums .entry))) (rIn (now (sums .entry))) (at (now (x .entry))) n)
+    ensures { λ r. ⌜ GammasTo (lnFrom (twos (now (table .entry)) tauPlane) (twos (now (table .entry)) gPlane) (sIn (now (sums .entry))) (rIn (now (sums .entry))) (at (now (x .entry))) n)
         n r (now («ln_gamma» .entry)) (now (slopes .entry)) (now («ln_gamma» .exit)) (now (slopes .exit)) ⌝ }
 {
     let mut finite = true;
@@ -152,67 +146,25 @@ fn ln_gammas(
 
 // ---- the state
 
-// R = 8.31446261815324 J/(mol K).
-fn energies_at(e: Jet, t: f64) -> Energies
-    ensures { λ r. ⌜ r ≡ energiesAt e t ⌝ }
-{
-    let gibbs = 8.31446261815324 * t * e.v;
-    let enthalpy = -8.31446261815324 * t * t * e.d;
-    Energies {
-        verdict: Verdict::Passed,
-        reduced: e.v,
-        gibbs: gibbs,
-        enthalpy: enthalpy,
-        entropy: (enthalpy - gibbs) / t,
-        heat_capacity: -8.31446261815324 * (2.0 * t * e.d + t * t * e.dd),
-    }
-}
-
-fn energies_finite(e: Energies) -> bool
-    ensures { λ r. ⌜ r ≡ energiesFinite e ⌝ }
-{
-    floats::is_finite(e.gibbs)
-        & floats::is_finite(e.enthalpy)
-        & floats::is_finite(e.heat_capacity)
-        & floats::is_finite(e.entropy)
-}
-
-fn refuse(number: u64, values: &mut [f64; 8], slopes: &mut [f64; 8]) -> Energies
-    ensures { λ r. ⌜ Gives (no number) r (now (values .exit)) (now (slopes .exit)) ⌝ }
-{
-    *values = [0.0; 8];
-    *slopes = [0.0; 8];
-    Energies {
-        verdict: Verdict::Refused(number),
-        reduced: 0.0,
-        gibbs: 0.0,
-        enthalpy: 0.0,
-        entropy: 0.0,
-        heat_capacity: 0.0,
-    }
-}
-
 fn state(
     table: &[f64; 512],
     n: usize,
-    t: f64,
+    t: Temperature,
     x: &[f64; 8],
     ln_gamma: &mut [f64; 8],
     slopes: &mut [f64; 8],
 ) -> Energies
     requires { ⌜ n ≤ 8 ⌝ }
-    ensures { λ r. ⌜ Gives (stateFrom (reducedOn (now (table .entry)) (at (now (x .entry))) n) (lnGammaOn (now (table .entry)) (at (now (x .entry))) n) n t) r (now («ln_gamma» .exit)) (now (slopes .exit)) ⌝ }
+    ensures { λ r. ⌜ Gives (stateFrom (reducedOn (now (table .entry)) (at (now (x .entry))) n) (lnGammaOn (now (table .entry)) (at (now (x .entry))) n) n (t .0)) r (now («ln_gamma» .exit)) (now (slopes .exit)) ⌝ }
 {
     let mut sums = [0.0; 32];
     *ln_gamma = [0.0; 8];
     *slopes = [0.0; 8];
     let ge = fill_sums(table, x, n, &mut sums);
-    let finite = ln_gammas(table, &sums, x, n, ln_gamma, slopes);
-    let e = energies_at(ge, t);
-    if energies_finite(e) & finite {
-        return e;
+    if ln_gammas(table, &sums, x, n, ln_gamma, slopes) {
+        return excess::state(ge, t, ln_gamma, slopes);
     }
-    refuse(25, ln_gamma, slopes)
+    excess::refuse(25, ln_gamma, slopes)
 }
 
 // Question 24 after the composition has passed.
@@ -220,46 +172,22 @@ fn passed(
     table: &[f64; 512],
     alphas: Verdict,
     n: usize,
-    t: f64,
+    t: Temperature,
     x: &[f64; 8],
     ln_gamma: &mut [f64; 8],
     slopes: &mut [f64; 8],
 ) -> Energies
     requires { ⌜ n ≤ 8 ⌝ }
-    ensures { λ r. ⌜ Gives (passing alphas (stateFrom (reducedOn (now (table .entry)) (at (now (x .entry))) n) (lnGammaOn (now (table .entry)) (at (now (x .entry))) n) n t)) r (now («ln_gamma» .exit)) (now (slopes .exit)) ⌝ }
+    ensures { λ r. ⌜ Gives (passing alphas (stateFrom (reducedOn (now (table .entry)) (at (now (x .entry))) n) (lnGammaOn (now (table .entry)) (at (now (x .entry))) n) n (t .0))) r (now («ln_gamma» .exit)) (now (slopes .exit)) ⌝ }
 {
     match alphas {
         Verdict::Passed => state(table, n, t, x, ln_gamma, slopes),
-        Verdict::Refused(number) => refuse(number, ln_gamma, slopes),
+        Verdict::Refused(number) => excess::refuse(number, ln_gamma, slopes),
     }
 }
 
-fn tested(
-    table: &[f64; 512],
-    alphas: Verdict,
-    n: usize,
-    t: f64,
-    x: &[f64; 8],
-    ln_gamma: &mut [f64; 8],
-    slopes: &mut [f64; 8],
-) -> Energies
-    requires { ⌜ n ≤ 8 ⌝ }
-    ensures { λ r. ⌜ Gives (excessOn (now (table .entry)) alphas n t (at (now (x .entry)))) r (now («ln_gamma» .exit)) (now (slopes .exit)) ⌝ }
-{
-    if !floats::is_finite(t) {
-        return refuse(13, ln_gamma, slopes);
-    }
-    if !(0.0 < t) {
-        return refuse(13, ln_gamma, slopes);
-    }
-    let fractions = thermo_types::with_fractions(x, n);
-    match fractions {
-        Verdict::Passed => passed(table, alphas, n, t, x, ln_gamma, slopes),
-        Verdict::Refused(number) => refuse(number, ln_gamma, slopes),
-    }
-}
-
-// ln γ and slopes (1/K), 0.0 past n, and the energies at t and the mole fractions x, from a table and what `tables` said of its α.
+// ln γ and slopes (1/K), 0.0 past n, and the energies at t and the mole fractions x, from a table and what `tables` said
+// of its α.
 pub fn excess(
     table: &[f64; 512],
     alphas: Verdict,
@@ -269,32 +197,11 @@ pub fn excess(
     ln_gamma: &mut [f64; 8],
     slopes: &mut [f64; 8],
 ) -> Energies
-    ensures { λ r. ⌜ Gives (excessOn (now (table .entry)) alphas (places n) (t .0) (at (now (x .entry)))) r (now («ln_gamma» .exit)) (now (slopes .exit)) ⌝ }
+    ensures { λ r. ⌜ Gives (nrtlOn (now (table .entry)) alphas (places n) (t .0) (at (now (x .entry)))) r (now («ln_gamma» .exit)) (now (slopes .exit)) ⌝ }
 {
-    tested(
-        table,
-        alphas,
-        floats::places(n),
-        t.value(),
-        x,
-        ln_gamma,
-        slopes,
-    )
-}
-
-// The same from the parameters.
-pub fn excess_at(
-    tau: &[f64; 256],
-    alpha: &[f64; 128],
-    n: usize,
-    t: Temperature,
-    x: &[f64; 8],
-    ln_gamma: &mut [f64; 8],
-    slopes: &mut [f64; 8],
-) -> Energies
-    ensures { λ r. ⌜ Gives (excessOf (now (tau .entry)) (now (alpha .entry)) (places n) (t .0) (at (now (x .entry)))) r (now («ln_gamma» .exit)) (now (slopes .exit)) ⌝ }
-{
-    let mut table = [0.0; 512];
-    let alphas = nrtl_tables::tables(tau, alpha, n, t, &mut table);
-    excess(&table, alphas, n, t, x, ln_gamma, slopes)
+    let fractions = excess::with_state(t, x, n);
+    match fractions {
+        Verdict::Passed => passed(table, alphas, floats::places(n), t, x, ln_gamma, slopes),
+        Verdict::Refused(number) => excess::refuse(number, ln_gamma, slopes),
+    }
 }

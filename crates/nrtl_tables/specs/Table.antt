@@ -13,6 +13,16 @@ use Rattle.jet.specs.declared.Jet.{Jet}
 use Rattle.jet.specs.Jets.{mulJ}
 use Rattle.nrtl_tables.specs.Pair.{tauAt, gAt, alphasRight}
 
+-- where the planes of G, of H = τ G and of τ begin
+abbrev pub gPlane : ℕ
+gPlane = 0
+
+abbrev pub hPlane : ℕ
+hPlane = 192
+
+abbrev pub tauPlane : ℕ
+tauPlane = 384
+
 -- what the table keeps of a pair: G, H = τ G, and τ without its second derivative
 unfoldable pub keptOf : Jet → Jet → ℕ → Float
 keptOf t g k = at (g .v ∷ g .d ∷ g .dd ∷ mulJ t g .v ∷ mulJ t g .d ∷ mulJ t g .dd ∷ t .v ∷ t .d ∷ []) k
@@ -30,14 +40,14 @@ abbrev pub tableRows : (ℕ → ℕ → Jet) → (ℕ → ℕ → Jet) → ℕ �
 tableRows T G n m old = foldTo (λ i (l : List Float). tableRow (T i) (G i) i n l) old m
 
 -- an array after the tables of t are made in it: as it was where an α is refused
-unfoldable pub tableOf : List Float → List Float → ℕ → Float → List Float → List Float
-tableOf tau alpha n t old = cond (alphasRight alpha t n) (tableRows (tauAt tau t) (gAt tau alpha t) n n old) old
+unfoldable pub tableOf : List Float → ℕ → Float → List Float → List Float
+tableOf P n t old = cond (alphasRight P t n) (tableRows (tauAt P t) (gAt P t) n n old) old
 
 -- question 24 as a value
 unfoldable pub tableVerdict : List Float → ℕ → Float → Verdict
-tableVerdict alpha n t = cond (alphasRight alpha t n) Passed (Refused 24)
+tableVerdict P n t = cond (alphasRight P t n) Passed (Refused 24)
 
 -- what a call of `tables` gives
-pub record Tabled (tau alpha : List Float) (n : ℕ) (t : Float) (r : Verdict) (old new : List Float) : Type 0 where
-  pub verdict : r ≡ tableVerdict alpha n t
-  pub table : new ≡ tableOf tau alpha n t old
+pub record Filled (P : List Float) (n : ℕ) (t : Float) (r : Verdict) (old new : List Float) : Type 0 where
+  pub verdict : r ≡ tableVerdict P n t
+  pub table : new ≡ tableOf P n t old

@@ -1,4 +1,4 @@
--- ln, exp and powf of document 01, "Helper numbers", step by step. Each ⊕ ⊖ ⊗ ⊘ is one f64 operation in the written order; constants by their bits (fdlibm's). Assumes nothing.
+-- ln, exp and powf of docs/FORMAT.md, "How it is calculated", step by step. Each ⊕ ⊖ ⊗ ⊘ is one f64 operation in the written order; constants by their bits (fdlibm's). Assumes nothing.
 use mathlib.Core.Bool.{true, false, cond}
 use lib.IntN.{ℤ, pos, _+ℤ_, _-ℤ_}
 use lib.Signed.{quotZ}

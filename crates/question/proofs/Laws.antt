@@ -1,30 +1,22 @@
--- Laws of questions in a row and of scans of the fractions. Assumes nothing.
-use mathlib.Core.Path.{_≡_, refl, sym, ap, _∙_}
-use mathlib.Core.Bool.{Bool, true, false, not, _&&_, _||_}
+-- Laws of questions in a row. Assumes nothing.
+use mathlib.Core.Path.{_≡_, refl, ap, _∙_}
+use mathlib.Core.Bool.{Bool, true, false, _&&_}
 use mathlib.Core.List.{List}
 use Prim.Native.Nat.{ℕ, _≤_, _<_}
 use native.Mathlib.Omega.{arith}
-use borrow.Author.Tests.{le-leb, lt-leb}
+use borrow.Author.Tests.{eq-eqb, ne-eqb, le-leb, lt-leb}
 use lib.Dec.{eqb, leb}
-use lib.Ieee.{Float, nan, lt}
-use native.Mathlib.Nat.{min-eq-left}
-use Rattle.floats.specs.Arithmetic.{0f}
-use Rattle.floats.specs.Small.{isFinite}
-use Rattle.floats.specs.Fold.{allTo}
-use Rattle.floats.specs.Vector.{at, vec, zeros8, places}
-use Rattle.floats.specs.Outcome.{Out, ok, no, need}
-use Rattle.floats.proofs.Folds.{all-cong, sum-cong}
-use Rattle.floats.proofs.Fills.{fill-at}
-use Rattle.floats.proofs.Outcomes.{refused}
+use lib.Ieee.{Float}
+use Rattle.floats.specs.Outcome.{Out, ok, no, bind, need}
 use Rattle.thermo_types.specs.declared.Verdict.{Verdict}
 use Rattle.thermo_types.specs.declared.Verdict.the-variants.{Passed, Refused}
 use Rattle.thermo_types.specs.Verdicts.{verdictOf}
-use Rattle.thermo_types.specs.Composition.{sumsToOne}
-use Rattle.thermo_types.proofs.Passing.{verdict-no}
-use Rattle.question.specs.Inputs.{within, needsTemperature, needsPressure, needsOptions, needsRatios}
 use Rattle.question.specs.declared.Question.{Question}
 use Rattle.question.specs.declared.Asked.{Asked}
-use Rattle.question.specs.Asked.{float, fraction, ratio, positive, optionsRight, unless, limited, questionFrom, inputsRight, limitsRight, askedOf}
+use Rattle.question.specs.declared.Task.{Task}
+use Rattle.question.specs.declared.Task.the-variants.{Read, No}
+use Rattle.question.specs.Inputs.{within, isTask}
+use Rattle.question.specs.Asked.{taskRead, inputsRight, limitsRight, askedOf}
 
 -- a question that is answered no, and one that is answered yes
 pub says-no : {A : Type 0} (r : ℕ) (o : Out A) {b : Bool} → b ≡ false → Refused r ≡ verdictOf (need b r o)
@@ -35,53 +27,78 @@ pub says-yes : {A : Type 0} (r : ℕ) (o : Out A) {b : Bool} {v : Verdict} → b
 unfolding need
 says-yes r o e h = rw e h
 
-pub asks-no : (r : ℕ) (o : Out Question) {b : Bool} {x : Asked} → b ≡ false → x ≡ askedOf (no r) → x ≡ askedOf (need b r o)
+-- three of them
+pub says-three : {A : Type 0} (p q r : ℕ) (o : Out A) {a b c : Bool} {v : Verdict} → a ≡ true → b ≡ true → c ≡ true → v ≡ verdictOf o
+    → v ≡ verdictOf (need a p (need b q (need c r o)))
+says-three p q r o e f g h = says-yes p _ e (says-yes q _ f (says-yes r o g h))
+
+pub reads-no : (r : ℕ) (o : Out ℕ) {b : Bool} → b ≡ false → No r ≡ taskRead (need b r o)
+unfolding need taskRead
+reads-no r o e = rw e
+
+pub reads-yes : (r : ℕ) (o : Out ℕ) {b : Bool} {x : Task} → b ≡ true → x ≡ taskRead o → x ≡ taskRead (need b r o)
 unfolding need
-asks-no r o e h = rw e h
+reads-yes r o e h = rw e h
 
-pub asks-yes : (r : ℕ) (o : Out Question) {b : Bool} {x : Asked} → b ≡ true → x ≡ askedOf o → x ≡ askedOf (need b r o)
-unfolding need
-asks-yes r o e h = rw e h
+-- the tests of a word v that was read
+module _ {v w : ℕ} (e : v ≡ w) where
+  pub kind-no : (k : ℕ) → (v ≡ k → ⊥) → eqb w k ≡ false
+  kind-no k f = rw e at (ne-eqb v k f)
 
--- tests in a row before `ok a` can accept nothing but a
-only-ok : {A : Type 0} (a v : A) → ok a ≡ ok v → v ≡ a
-only-ok a v e = cc
+  pub kind-yes : (k : ℕ) → v ≡ k → eqb w k ≡ true
+  kind-yes k f = rw e at (eq-eqb v k f)
 
-only-need : {A : Type 0} (b : Bool) (r : ℕ) (o : Out A) (a : A) → ((v : A) → o ≡ ok v → v ≡ a) → (v : A) → need b r o ≡ ok v → v ≡ a
-unfolding need
-only-need true r o a h v e = h v e
-only-need false r o a h v e = absurd (refused e)
+  pub task-test : {b : Bool} → b ≡ isTask v → b ≡ isTask w
+  task-test h = h ∙ ap isTask e
 
-limits-only : (w : ℕ → ℕ) (o : Out Question) (a : Question) → ((v : Question) → o ≡ ok v → v ≡ a) → (v : Question) → limitsRight w o ≡ ok v → v ≡ a
-unfolding limitsRight
-limits-only w o a h = only-need _ 19 _ a (only-need _ 20 _ a (only-need _ 21 o a h))
+  pub task-is : Read v ≡ taskRead (ok w)
+  unfolding taskRead
+  task-is = ap Read e
 
-inputs-only : (w : ℕ → ℕ) (n : ℕ) (o : Out Question) (a : Question) → ((v : Question) → o ≡ ok v → v ≡ a) → (v : Question) → inputsRight w n o ≡ ok v → v ≡ a
-unfolding inputsRight
-inputs-only w n o a h = only-need _ 13 _ a (only-need _ 14 _ a (only-need _ 15 _ a (only-need _ 16 _ a (only-need _ 17 _ a (only-need _ 18 o a h)))))
+-- the match on a task that was read, and on a verdict
+pub task-no : (o : Out ℕ) (k : ℕ → Out Question) {t : Task} {r : ℕ} {x : Asked} → t ≡ taskRead o → t ≡ No r → x ≡ askedOf (no r) → x ≡ askedOf (bind o k)
+unfolding bind taskRead
+task-no (ok m) k e f h = let z : _≡_ {A = ℕ} 0 1 = cc in absurd (omega arith)
+task-no (no s) k e f h = cc
 
-passed-only : {A : Type 0} (o : Out A) (a : A) → ((v : A) → o ≡ ok v → v ≡ a) → Passed ≡ verdictOf o → o ≡ ok a
-unfolding verdictOf
-passed-only (ok v) a h e = ap ok (h v refl)
-passed-only (no r) a h e = let z : _≡_ {A = ℕ} 0 1 = cc in absurd (omega arith)
+pub task-yes : (o : Out ℕ) (p : Out Question) {t : Task} {m : ℕ} {x : Asked} → t ≡ taskRead o → t ≡ Read m → x ≡ askedOf p → x ≡ askedOf (bind o (λ z. p))
+unfolding bind taskRead
+task-yes (ok m) p e f h = h
+task-yes (no s) p e f h = let z : _≡_ {A = ℕ} 0 1 = cc in absurd (omega arith)
 
--- what the verdict on 13 to 21 says of the question
-pub all-passed : (w : ℕ → ℕ) (n : ℕ) → Passed ≡ verdictOf (inputsRight w n (limitsRight w (ok (questionFrom w n)))) → inputsRight w n (limitsRight w (ok (questionFrom w n))) ≡ ok (questionFrom w n)
-all-passed w n e =
-    let a = questionFrom w n in
-    passed-only (inputsRight w n (limitsRight w (ok a))) a (inputs-only w n (limitsRight w (ok a)) a (limits-only w (ok a) a (only-ok a))) e
+verdict-no : (o : Out ℕ) (k : ℕ → Out Question) {v : Verdict} {r : ℕ} {x : Asked} → v ≡ verdictOf o → v ≡ Refused r → x ≡ askedOf (no r)
+    → x ≡ askedOf (bind o k)
+unfolding bind verdictOf
+verdict-no (ok m) k e f h = let z : _≡_ {A = ℕ} 0 1 = cc in absurd (omega arith)
+verdict-no (no s) k e f h = cc
 
--- a scan of an array that was filled is a scan of what it was filled with
-pub scan-filled : (p : Float → Bool) (f : ℕ → Float) (n : ℕ) {x : List Float} → n ≤ 8 → x ≡ vec f n → allTo (λ i. p (at x i)) n ≡ allTo (λ i. p (f i)) n
-scan-filled p f n h e = all-cong n (λ k l. ap p (ap (λ (y : List Float). at y k) e ∙ fill-at f n zeros8 nan k h l))
+verdict-yes : (o : Out ℕ) (p : Out Question) {v : Verdict} {x : Asked} → v ≡ verdictOf o → v ≡ Passed → x ≡ askedOf p → x ≡ askedOf (bind o (λ z. p))
+unfolding bind verdictOf
+verdict-yes (ok m) p e f h = h
+verdict-yes (no s) p e f h = let z : _≡_ {A = ℕ} 0 1 = cc in absurd (omega arith)
 
-pub one-filled : (f : ℕ → Float) (n : ℕ) {x : List Float} → n ≤ 8 → x ≡ vec f n → sumsToOne (at x) n ≡ sumsToOne f n
-unfolding sumsToOne
-one-filled f n h e =
-    let q = sum-cong 0f n (λ k l. ap (λ (y : List Float). at y k) e ∙ fill-at f n zeros8 nan k h l) in
-    rw q
+-- tests in a row, with anything behind them
+need-bind : (b : Bool) (r : ℕ) (o : Out ℕ) {p : Out Question} (k : ℕ → Out Question) → p ≡ bind o k → need b r p ≡ bind (need b r o) k
+unfolding need bind
+need-bind true r o k e = e
+need-bind false r o k e = refl
 
--- a number in a range of tasks, below it, above it
+module _ (w : ℕ → ℕ) (n : ℕ) (x k : List Float) (a : Question) where
+  behind : inputsRight w n x k (limitsRight w (ok a)) ≡ bind (inputsRight w n x k (limitsRight w (ok (w 1)))) (λ z. ok a)
+  unfolding inputsRight limitsRight bind
+  behind = let f : ℕ → Out Question = λ z. ok a in
+      let limits = need-bind _ 19 _ f (need-bind _ 20 _ f (need-bind _ 21 _ f refl)) in
+      need-bind _ 13 _ f (need-bind _ 14 _ f (need-bind _ 15 _ f (need-bind _ 16 _ f (need-bind _ 17 _ f (need-bind _ 18 _ f limits)))))
+
+  pub rest-no : {v : Verdict} {r : ℕ} {y : Asked} → v ≡ verdictOf (inputsRight w n x k (limitsRight w (ok (w 1)))) → v ≡ Refused r → y ≡ askedOf (no r)
+      → y ≡ askedOf (inputsRight w n x k (limitsRight w (ok a)))
+  rest-no e f h = rw behind (verdict-no _ _ e f h)
+
+  pub rest-yes : {v : Verdict} {y : Asked} → v ≡ verdictOf (inputsRight w n x k (limitsRight w (ok (w 1)))) → v ≡ Passed → y ≡ askedOf (ok a)
+      → y ≡ askedOf (inputsRight w n x k (limitsRight w (ok a)))
+  rest-yes e f h = rw behind (verdict-yes _ _ e f h)
+
+-- ---- a number in a range of tasks, below it, above it
 both : (b : Bool) → b && false ≡ false
 both true = refl
 both false = refl
@@ -94,52 +111,3 @@ below a b k p = rw (lt-leb a k p)
 
 pub above : (a b k : ℕ) → b < k → within a b k ≡ false
 above a b k p = rw (lt-leb k b p) (both (leb a k))
-
--- the tests as the code has them, of words it has read
-module _ (w : ℕ → ℕ) {task : ℕ} (t : task ≡ w 1) where
-  module _ {most outer : ℕ} {options right : Bool} (m : most ≡ w 12) (o : outer ≡ w 14) (n : options ≡ needsOptions task) (r : right ≡ optionsRight w) where
-    pub test-19 : not options || right ≡ unless (needsOptions (w 1)) (optionsRight w)
-    test-19 = rw (n, t, r)
-
-    pub test-20 : not options || (not (eqb most 0) && not (eqb outer 0)) ≡ unless (needsOptions (w 1)) (not (eqb (w 12) 0) && not (eqb (w 14) 0))
-    test-20 = rw (n, t, m, o)
-
-    pub test-21 : {ratios : Bool} → ratios ≡ needsRatios task
-        → (not options || (leb most 1000000 && leb outer 1000000)) && (not ratios || leb most 1000000)
-        ≡ unless (needsOptions (w 1)) (limited (w 12) && limited (w 14)) && unless (needsRatios (w 1)) (limited (w 12))
-    test-21 k = rw (n, k, t, m, o)
-
-  pub test-13 : {v : Float} {needed right : Bool} → needed ≡ needsTemperature task → v ≡ float w 2 → right ≡ positive v → not needed || right ≡ unless (needsTemperature (w 1)) (positive (float w 2))
-  test-13 n e r = rw (n, t, r, e)
-
-  pub test-14 : {v : Float} {needed right : Bool} → needed ≡ needsPressure task → v ≡ float w 3 → right ≡ positive v → not needed || right ≡ unless (needsPressure (w 1)) (positive (float w 3))
-  test-14 n e r = rw (n, t, r, e)
-
-  module _ (n : ℕ) (h : n ≤ 8) {x k : List Float} (p : x ≡ vec (fraction w) n) (q : k ≡ vec (ratio w) n) where
-    pub test-15 : {needed a b : Bool} → needed ≡ needsRatios task → a ≡ allTo (λ i. isFinite (at x i)) n → b ≡ allTo (λ i. isFinite (at k i)) n
-        → a && (not needed || b) ≡ allTo (λ i. isFinite (fraction w i)) n && unless (needsRatios (w 1)) (allTo (λ i. isFinite (ratio w i)) n)
-    test-15 r a b =
-        let e = a ∙ scan-filled isFinite (fraction w) n h p in
-        let f = b ∙ scan-filled isFinite (ratio w) n h q in
-        rw (r, t, e, f)
-
-    pub test-16 : {a : Bool} → a ≡ allTo (λ i. not (lt (at x i) 0f)) n → a ≡ allTo (λ i. not (lt (fraction w i) 0f)) n
-    test-16 a = a ∙ scan-filled (λ v. not (lt v 0f)) (fraction w) n h p
-
-    pub test-17 : {needed b : Bool} → needed ≡ needsRatios task → b ≡ allTo (λ i. lt 0f (at k i)) n → not needed || b ≡ unless (needsRatios (w 1)) (allTo (λ i. lt 0f (ratio w i)) n)
-    test-17 r b =
-        let f = b ∙ scan-filled (λ v. lt 0f v) (ratio w) n h q in
-        rw (r, t, f)
-
-    pub test-18 : {a : Bool} → a ≡ sumsToOne (at x) (places n) → a ≡ sumsToOne (fraction w) n
-    test-18 a = a ∙ rw (min-eq-left h) (one-filled (fraction w) n h p)
-
--- the match on the verdict
-pub asked-no : (o : Out Question) {v : Verdict} {r : ℕ} {x : Asked} → v ≡ verdictOf o → v ≡ Refused r → x ≡ askedOf (no r) → x ≡ askedOf o
-unfolding askedOf
-asked-no o e f h = rw (verdict-no o (sym f ∙ e)) h
-
-pub asked-yes : (w : ℕ → ℕ) (n : ℕ) {v : Verdict} {x : Asked} → v ≡ verdictOf (inputsRight w n (limitsRight w (ok (questionFrom w n)))) → v ≡ Passed
-    → x ≡ record { verdict = Passed; question = questionFrom w n } → x ≡ askedOf (inputsRight w n (limitsRight w (ok (questionFrom w n))))
-unfolding askedOf
-asked-yes w n e f h = rw (all-passed w n (sym f ∙ e)) h

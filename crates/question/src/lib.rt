@@ -1,33 +1,26 @@
-// The question: 512 bytes on standard input or from the desk, read after questions 11 to 21 are answered.
+// The question: 512 bytes on standard input or from the desk. Three steps: block and task (11, 12), the feed, and the
+// rest (13 to 21), put to that feed.
 ghost use mathlib.Core.Path.{_≡_};
-ghost use mathlib.Core.Bool.{not};
 ghost use Prim.Native.Nat.{_≤_, _+_};
-ghost use lib.Ieee.{lt};
-ghost use Rattle.floats.specs.Arithmetic.{0f};
-ghost use Rattle.floats.specs.Small.{isFinite, floatOf};
-ghost use Rattle.floats.specs.Fold.{allTo};
-ghost use Rattle.floats.specs.Vector.{at, vec, places};
+ghost use Rattle.floats.specs.Small.{float};
+ghost use Rattle.floats.specs.Vector.{vec, places};
 ghost use Rattle.floats.specs.Outcome.{ok, no};
 ghost use Rattle.thermo_types.specs.Verdicts.{verdictOf};
-ghost use Rattle.thermo_types.specs.Composition.{sumsToOne};
 ghost use Rattle.blocks.specs.Words.{word};
-ghost use Rattle.question.specs.Inputs.{isTask, needsTemperature, needsPressure, needsOptions, needsRatios};
-ghost use Rattle.question.specs.Asked.{float, fraction, ratio, positive, toleranceRight, optionsRight, questionFrom, inputsRight, limitsRight, questionOf, askedOf};
+ghost use Rattle.question.specs.Inputs.{isTask, needsTemperature, needsPressure, needsOptions, needsRatios, ifNeeded};
+ghost use Rattle.question.specs.Asked.{taskIn, taskRead, feedOf, positive, temperatureRight, pressureRight, inputsFinite, ratiosPositive, inputsRight, toleranceRight, optionsRight, limited, limitsSome, limitsFew, limitsRight, optionsIn, questionFrom, restOf, questionOf, askedOf};
+use blocks::Rule;
 use blocks::word;
+use thermo_types::ActivityOptions;
 use thermo_types::Verdict;
 
-// K, Pa; the first n fractions and K values, 0.0 past them; limits, tolerance, threshold and bracket (K) of the options.
+// K, Pa; the first n fractions and K values, 0.0 past them.
 pub struct Question {
     pub task: u64,
     pub temperature: f64,
     pub pressure: f64,
     pub fractions: [f64; 8],
-    pub max_iterations: u64,
-    pub tolerance: f64,
-    pub max_temperature_iterations: u64,
-    pub tm_threshold: f64,
-    pub low: f64,
-    pub high: f64,
+    pub options: ActivityOptions,
     pub ratios: [f64; 8],
 }
 
@@ -37,7 +30,15 @@ pub struct Asked {
     pub question: Question,
 }
 
-// Tasks 1 to 9.
+// A task, or the number of the question that was answered no.
+pub enum Task {
+    Read(u64),
+    No(u64),
+}
+
+// Of the options' tolerances.
+const LARGEST_TOLERANCE: f64 = 1e-6;
+
 fn is_task(task: u64) -> bool
     ensures { λ r. ⌜ r ≡ isTask task ⌝ }
 {
@@ -47,7 +48,7 @@ fn is_task(task: u64) -> bool
     }
 }
 
-fn needs_temperature(task: u64) -> bool
+pub fn needs_temperature(task: u64) -> bool
     ensures { λ r. ⌜ r ≡ needsTemperature task ⌝ }
 {
     match task {
@@ -56,7 +57,7 @@ fn needs_temperature(task: u64) -> bool
     }
 }
 
-fn needs_pressure(task: u64) -> bool
+pub fn needs_pressure(task: u64) -> bool
     ensures { λ r. ⌜ r ≡ needsPressure task ⌝ }
 {
     match task {
@@ -91,13 +92,14 @@ fn float_at(q: &[u8], k: usize) -> f64
     floats::float_of(word(q, k))
 }
 
-// n floats from word `from` on.
+// The first n floats from word `from` on, 0.0 past them.
 fn floats_from(q: &[u8], from: usize, n: usize) -> [f64; 8]
-    requires { ⌜ (n ≤ 8) × (from ≤ 56) ⌝ }
-    ensures { λ r. ⌜ r ≡ vec (λ i. floatOf (word (now (q .entry)) (from + i))) n ⌝ }
+    requires { ⌜ from ≤ 56 ⌝ }
+    ensures { λ r. ⌜ r ≡ vec (λ i. float (word (now (q .entry))) (from + i)) (places n) ⌝ }
 {
+    let m = floats::places(n);
     let mut x = [0.0; 8];
-    for i in 0..n {
+    for i in 0..m {
         x[i] = float_at(q, from + i);
     }
     x
@@ -109,62 +111,41 @@ fn positive(v: f64) -> bool
     floats::is_finite(v) & (0.0 < v)
 }
 
-fn all_finite(x: &[f64; 8], n: usize) -> bool
-    requires { ⌜ n ≤ 8 ⌝ }
-    ensures { λ r. ⌜ r ≡ allTo (λ i. isFinite (at (now (x .entry)) i)) n ⌝ }
+// 13
+fn temperature_right(q: &[u8]) -> bool
+    ensures { λ r. ⌜ r ≡ temperatureRight (word (now (q .entry))) ⌝ }
 {
-    let mut i = 0;
-    while i < n {
-        if !floats::is_finite(x[i]) {
-            return false;
-        }
-        i += 1;
-    }
-    true
+    !needs_temperature(word(q, 1)) | positive(float_at(q, 2))
 }
 
-fn none_negative(x: &[f64; 8], n: usize) -> bool
-    requires { ⌜ n ≤ 8 ⌝ }
-    ensures { λ r. ⌜ r ≡ allTo (λ i. not (lt (at (now (x .entry)) i) 0f)) n ⌝ }
+// 14
+fn pressure_right(q: &[u8]) -> bool
+    ensures { λ r. ⌜ r ≡ pressureRight (word (now (q .entry))) ⌝ }
 {
-    let mut i = 0;
-    while i < n {
-        if x[i] < 0.0 {
-            return false;
-        }
-        i += 1;
-    }
-    true
+    !needs_pressure(word(q, 1)) | positive(float_at(q, 3))
 }
 
-fn all_positive(x: &[f64; 8], n: usize) -> bool
-    requires { ⌜ n ≤ 8 ⌝ }
-    ensures { λ r. ⌜ r ≡ allTo (λ i. lt 0f (at (now (x .entry)) i)) n ⌝ }
+// 15
+fn inputs_finite(q: &[u8], n: usize, x: &[f64; 8], k: &[f64; 8]) -> bool
+    ensures { λ r. ⌜ r ≡ inputsFinite (word (now (q .entry))) (places n) (now (x .entry)) (now (k .entry)) ⌝ }
 {
-    let mut i = 0;
-    while i < n {
-        if !(0.0 < x[i]) {
-            return false;
-        }
-        i += 1;
-    }
-    true
+    thermo_types::all_finite(x, n) & (!needs_ratios(word(q, 1)) | thermo_types::all_finite(k, n))
 }
 
-// |sum - 1| within 1e-10.
-fn sums_to_one(x: &[f64; 8], n: usize) -> bool
-    ensures { λ r. ⌜ r ≡ sumsToOne (at (now (x .entry))) (places n) ⌝ }
+// 17
+fn ratios_positive(q: &[u8], n: usize, k: &[f64; 8]) -> bool
+    ensures { λ r. ⌜ r ≡ ratiosPositive (word (now (q .entry))) (places n) (now (k .entry)) ⌝ }
 {
-    !(floats::abs(thermo_types::sum(x, n) - 1.0) > 1e-10)
+    !needs_ratios(word(q, 1)) | thermo_types::all_positive(k, n)
 }
 
 fn tolerance_right(v: f64) -> bool
     ensures { λ r. ⌜ r ≡ toleranceRight v ⌝ }
 {
-    floats::is_finite(v) & (0.0 < v) & (v <= 1e-6)
+    floats::is_finite(v) & (0.0 < v) & (v <= LARGEST_TOLERANCE)
 }
 
-// `validate`: both tolerances, the threshold, the bracket within 273.16 to 450 K.
+// `validate`: both tolerances, the threshold, the bracket (K).
 fn options_right(q: &[u8]) -> bool
     ensures { λ r. ⌜ r ≡ optionsRight (word (now (q .entry))) ⌝ }
 {
@@ -174,56 +155,38 @@ fn options_right(q: &[u8]) -> bool
     tolerance_right(float_at(q, 13))
         & tolerance_right(float_at(q, 15))
         & (floats::is_finite(threshold) & (threshold < 0.0))
-        & ((273.16 <= low) & (high <= 450.0) & (low < high))
+        & ((thermo_types::LOWEST_KELVIN <= low)
+            & (high <= thermo_types::HIGHEST_KELVIN)
+            & (low < high))
 }
 
-// Questions 19 to 21.
-fn check_limits(q: &[u8], n: usize) -> Verdict
-    ensures { λ r. ⌜ r ≡ verdictOf (limitsRight (word (now (q .entry))) (ok (questionFrom (word (now (q .entry))) n))) ⌝ }
+// 19
+fn options_pass(q: &[u8]) -> bool
+    ensures { λ r. ⌜ r ≡ ifNeeded (needsOptions (word (now (q .entry)) 1)) (optionsRight (word (now (q .entry)))) ⌝ }
 {
-    let task = word(q, 1);
-    let most = word(q, 12);
-    let outer = word(q, 14);
-    let none = !needs_options(task);
-    if !(none | options_right(q)) {
-        return Verdict::Refused(19);
-    }
-    if !(none | ((most != 0) & (outer != 0))) {
-        return Verdict::Refused(20);
-    }
-    if !((none | ((most <= 1000000) & (outer <= 1000000)))
-        & (!needs_ratios(task) | (most <= 1000000))) {
-        return Verdict::Refused(21);
-    }
-    Verdict::Passed
+    !needs_options(word(q, 1)) | options_right(q)
 }
 
-// Questions 13 to 18, with the fractions x and the K values k, then 19 to 21.
-fn check_inputs(q: &[u8], n: usize, x: &[f64; 8], k: &[f64; 8]) -> Verdict
-    requires { ⌜ (n ≤ 8) × (now x ≡ vec (fraction (word (now q))) n) × (now k ≡ vec (ratio (word (now q))) n) ⌝ }
-    ensures { λ r. ⌜ r ≡ verdictOf (inputsRight (word (now (q .entry))) n (limitsRight (word (now (q .entry))) (ok (questionFrom (word (now (q .entry))) n)))) ⌝ }
+// 20
+fn limits_some(q: &[u8]) -> bool
+    ensures { λ r. ⌜ r ≡ limitsSome (word (now (q .entry))) ⌝ }
+{
+    !needs_options(word(q, 1)) | ((word(q, 12) != 0) & (word(q, 14) != 0))
+}
+
+fn limited(m: u64) -> bool
+    ensures { λ r. ⌜ r ≡ limited m ⌝ }
+{
+    m <= 1000000
+}
+
+// 21
+fn limits_few(q: &[u8]) -> bool
+    ensures { λ r. ⌜ r ≡ limitsFew (word (now (q .entry))) ⌝ }
 {
     let task = word(q, 1);
-    let no_ratios = !needs_ratios(task);
-    if !(!needs_temperature(task) | positive(float_at(q, 2))) {
-        return Verdict::Refused(13);
-    }
-    if !(!needs_pressure(task) | positive(float_at(q, 3))) {
-        return Verdict::Refused(14);
-    }
-    if !(all_finite(x, n) & (no_ratios | all_finite(k, n))) {
-        return Verdict::Refused(15);
-    }
-    if !none_negative(x, n) {
-        return Verdict::Refused(16);
-    }
-    if !(no_ratios | all_positive(k, n)) {
-        return Verdict::Refused(17);
-    }
-    if !sums_to_one(x, n) {
-        return Verdict::Refused(18);
-    }
-    check_limits(q, n)
+    let most = limited(word(q, 12));
+    (!needs_options(task) | (most & limited(word(q, 14)))) & (!needs_ratios(task) | most)
 }
 
 fn refused(number: u64) -> Asked
@@ -236,69 +199,138 @@ fn refused(number: u64) -> Asked
             temperature: 0.0,
             pressure: 0.0,
             fractions: [0.0; 8],
-            max_iterations: 0,
-            tolerance: 0.0,
-            max_temperature_iterations: 0,
-            tm_threshold: 0.0,
-            low: 0.0,
-            high: 0.0,
+            options: ActivityOptions {
+                max_iterations: 0,
+                tolerance: 0.0,
+                max_temperature_iterations: 0,
+                tm_threshold: 0.0,
+                minimum_temperature_k: 0.0,
+                maximum_temperature_k: 0.0,
+            },
             ratios: [0.0; 8],
         },
     }
 }
 
-// Questions 13 to 21. The fractions and the K values are read once.
-fn from_13(q: &[u8], n: usize) -> Asked
-    requires { ⌜ n ≤ 8 ⌝ }
-    ensures { λ r. ⌜ r ≡ askedOf (inputsRight (word (now (q .entry))) n (limitsRight (word (now (q .entry))) (ok (questionFrom (word (now (q .entry))) n)))) ⌝ }
+fn options_in(q: &[u8]) -> ActivityOptions
+    ensures { λ r. ⌜ r ≡ optionsIn (word (now (q .entry))) ⌝ }
 {
-    let fractions = floats_from(q, 4, n);
-    let ratios = floats_from(q, 19, n);
-    let verdict = check_inputs(q, n, &fractions, &ratios);
+    ActivityOptions {
+        max_iterations: word(q, 12),
+        tolerance: float_at(q, 13),
+        max_temperature_iterations: word(q, 14),
+        tm_threshold: float_at(q, 16),
+        minimum_temperature_k: float_at(q, 17),
+        maximum_temperature_k: float_at(q, 18),
+    }
+}
+
+fn question_from(q: &[u8], x: &[f64; 8], k: &[f64; 8]) -> Question
+    ensures { λ r. ⌜ r ≡ questionFrom (word (now (q .entry))) (now (x .entry)) (now (k .entry)) ⌝ }
+{
+    Question {
+        task: word(q, 1),
+        temperature: float_at(q, 2),
+        pressure: float_at(q, 3),
+        fractions: *x,
+        options: options_in(q),
+        ratios: *k,
+    }
+}
+
+// Questions 19 to 21.
+fn check_limits(q: &[u8]) -> Verdict
+    ensures { λ r. ⌜ r ≡ verdictOf (limitsRight (word (now (q .entry))) (ok (word (now (q .entry)) 1))) ⌝ }
+{
+    if !options_pass(q) {
+        return Verdict::Refused(19);
+    }
+    if !limits_some(q) {
+        return Verdict::Refused(20);
+    }
+    if !limits_few(q) {
+        return Verdict::Refused(21);
+    }
+    Verdict::Passed
+}
+
+// Questions 13 to 18 of the feed x and the K values k, then 19 to 21.
+fn check_inputs(q: &[u8], n: usize, x: &[f64; 8], k: &[f64; 8]) -> Verdict
+    ensures { λ r. ⌜ r ≡ verdictOf (inputsRight (word (now (q .entry))) (places n) (now (x .entry)) (now (k .entry)) (limitsRight (word (now (q .entry))) (ok (word (now (q .entry)) 1)))) ⌝ }
+{
+    if !temperature_right(q) {
+        return Verdict::Refused(13);
+    }
+    if !pressure_right(q) {
+        return Verdict::Refused(14);
+    }
+    if !inputs_finite(q, n, x, k) {
+        return Verdict::Refused(15);
+    }
+    if !thermo_types::none_negative(x, n) {
+        return Verdict::Refused(16);
+    }
+    if !ratios_positive(q, n, k) {
+        return Verdict::Refused(17);
+    }
+    if !thermo_types::sums_to_one(x, n) {
+        return Verdict::Refused(18);
+    }
+    check_limits(q)
+}
+
+// Questions 11 and 12: the task.
+pub fn read_task(rule: Rule, q: &[u8]) -> Task
+    ensures { λ r. ⌜ r ≡ taskRead (taskIn rule (now (q .entry))) ⌝ }
+{
+    if q.len() != 512 {
+        return Task::No(11);
+    }
+    if !blocks::check_right(rule, q) {
+        return Task::No(11);
+    }
+    if word(q, 0) != 8 {
+        return Task::No(11);
+    }
+    let task = word(q, 1);
+    if !is_task(task) {
+        return Task::No(12);
+    }
+    Task::Read(task)
+}
+
+// The first n mole fractions, 0.0 past them.
+pub fn read_feed(q: &[u8], n: usize) -> [f64; 8]
+    ensures { λ r. ⌜ r ≡ feedOf (now (q .entry)) (places n) ⌝ }
+{
+    floats_from(q, 4, n)
+}
+
+// Questions 13 to 21, put to the feed x: what the solvers read, or the number of the first that is answered no.
+pub fn read_rest(q: &[u8], n: usize, x: &[f64; 8]) -> Asked
+    ensures { λ r. ⌜ r ≡ askedOf (restOf (now (q .entry)) (places n) (now (x .entry))) ⌝ }
+{
+    let k = floats_from(q, 19, n);
+    let verdict = check_inputs(q, n, x, &k);
     match verdict {
         Verdict::Refused(number) => refused(number),
         Verdict::Passed => Asked {
             verdict: Verdict::Passed,
-            question: Question {
-                task: word(q, 1),
-                temperature: float_at(q, 2),
-                pressure: float_at(q, 3),
-                fractions,
-                max_iterations: word(q, 12),
-                tolerance: float_at(q, 13),
-                max_temperature_iterations: word(q, 14),
-                tm_threshold: float_at(q, 16),
-                low: float_at(q, 17),
-                high: float_at(q, 18),
-                ratios,
-            },
+            question: question_from(q, x, &k),
         },
     }
 }
 
-// Questions 11 and 12, then the others.
-fn from_11(q: &[u8], n: usize) -> Asked
-    requires { ⌜ n ≤ 8 ⌝ }
-    ensures { λ r. ⌜ r ≡ askedOf (questionOf (now (q .entry)) n) ⌝ }
-{
-    if q.len() != 512 {
-        return refused(11);
-    }
-    if !blocks::check_right(q) {
-        return refused(11);
-    }
-    if word(q, 0) != 8 {
-        return refused(11);
-    }
-    if !is_task(word(q, 1)) {
-        return refused(12);
-    }
-    from_13(q, n)
-}
-
 // The question for a book of n solvents, or the number of the first of questions 11 to 21 that is answered no.
-pub fn read_question(q: &[u8], n: usize) -> Asked
-    ensures { λ r. ⌜ r ≡ askedOf (questionOf (now (q .entry)) (places n)) ⌝ }
+pub fn read_question(rule: Rule, q: &[u8], n: usize) -> Asked
+    ensures { λ r. ⌜ r ≡ askedOf (questionOf rule (now (q .entry)) (places n)) ⌝ }
 {
-    from_11(q, floats::places(n))
+    let task = read_task(rule, q);
+    match task {
+        Task::No(number) => refused(number),
+        Task::Read(_) => {
+            let x = read_feed(q, n);
+            read_rest(q, n, &x)
+        }
+    }
 }

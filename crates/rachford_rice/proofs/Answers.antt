@@ -1,6 +1,6 @@
 -- Laws for callers: what the verdict and the outcome of an answer say of its definition, and that no refusal's number is above 28. Assumes nothing.
 use Prim.Native.Nat.{ℕ, zero, suc, _≤_}
-use mathlib.Core.Path.{_≡_, refl, _∙_, ap, sym}
+use mathlib.Core.Path.{_≡_, refl, ap, sym}
 use mathlib.Core.Bool.{Bool, true, false}
 use native.Mathlib.Omega.{arith}
 use lib.Ieee.{Float}
@@ -8,7 +8,7 @@ use Rattle.floats.specs.Outcome.{Out, ok, no, bind, need, choose}
 use Rattle.floats.proofs.Outcomes.{refused}
 use Rattle.thermo_types.specs.declared.Verdict.the-variants.{Passed, Refused}
 use Rattle.rachford_rice.specs.declared.RachfordRice.{RachfordRice}
-use Rattle.rachford_rice.specs.declared.RachfordRiceOutcome.the-variants.{LiquidOnly, VaporOnly, TwoPhase}
+use Rattle.rachford_rice.specs.declared.RachfordRiceOutcome.the-variants.{LiquidOnly, VaporOnly}
 use Rattle.rachford_rice.specs.Rachford.{Solution, validate, iterate, between, negative, twoPhase, onePhase, refusedWith, splitOf, answerOf, constrained}
 use Rattle.rachford_rice.proofs.Laws.{validate-bind}
 
@@ -17,23 +17,6 @@ pub split-no : (o : Out Solution) {r : RachfordRice} {m : ℕ} → r ≡ splitOf
 unfolding splitOf twoPhase refusedWith
 split-no (ok s) e q = let z : _≡_ {A = ℕ} 0 1 = cc in absurd (omega arith)
 split-no (no n) e q = cc
-
-pub split-ok : (o : Out Solution) {r : RachfordRice} → r ≡ splitOf o → r .verdict ≡ Passed → (s : Solution) × (o ≡ ok s) × (r ≡ twoPhase s)
-unfolding splitOf refusedWith
-split-ok (ok s) e q = (s, refl, e)
-split-ok (no n) e q = let z : _≡_ {A = ℕ} 0 1 = cc in absurd (omega arith)
-
--- the answer's own fields are those of the solution
-pub split-two : (o : Out Solution) {r : RachfordRice} {b g : Float} {m : ℕ} → r ≡ splitOf o → r .outcome ≡ TwoPhase b g m
-    → o ≡ ok (record { vaporFraction = b; liquid = r .liquid; vapor = r .vapor; residual = g; iterations = m })
-unfolding splitOf twoPhase refusedWith
-split-two (ok s) {r} {b} {g} {m} e q =
-    let p : TwoPhase (s .vaporFraction) (s .residual) (s .iterations) ≡ TwoPhase b g m = sym (ap (λ (a : RachfordRice). a .outcome) e) ∙ q in
-    let pb : s .vaporFraction ≡ b = cc in
-    let pg : s .residual ≡ g = cc in
-    let pm : s .iterations ≡ m = cc in
-    rw (← pb, ← pg, ← pm, e)
-split-two (no n) e q = let z : _≡_ {A = ℕ} 0 1 = cc in absurd (omega arith)
 
 -- ---- the constrained flash
 abbrev Says : Out RachfordRice → Type 0
@@ -54,7 +37,8 @@ proper-classes false false (ok s) = record { says = refl }
 proper-classes false false (no r) = record { says = tt }
 
 -- the outcome of the tests in a row
-constrained-bind : (z k : ℕ → Float) (n limit : ℕ) → (a : Bool) × (b : Bool) × (constrained z k n limit ≡ bind (validate z k n (ok n)) (λ _. classes a b (negative z k n limit)))
+constrained-bind : (z k : ℕ → Float) (n limit : ℕ) → (a : Bool) × (b : Bool)
+    × (constrained z k n limit ≡ bind (validate z k n (ok n)) (λ _. classes a b (negative z k n limit)))
 unfolding constrained classes
 constrained-bind z k n limit = (_, _, validate-bind z k n n _)
 
@@ -78,33 +62,12 @@ unfolding answerOf refusedWith
 answer-ok (ok a) e q = ap ok (sym e)
 answer-ok (no n) e q = let z : _≡_ {A = ℕ} 0 1 = cc in absurd (omega arith)
 
-no-liquid : {x g : Float} {m : ℕ} → LiquidOnly ≡ TwoPhase x g m → ⊥
-no-liquid e = let z : _≡_ {A = ℕ} 0 1 = cc in omega arith
-
-no-vapor : {x g : Float} {m : ℕ} → VaporOnly ≡ TwoPhase x g m → ⊥
-no-vapor e = let z : _≡_ {A = ℕ} 0 1 = cc in omega arith
-
--- two phases come from the negative flash alone
-answer-two : {A : Type 0} (v : Out A) (a b : Bool) (o : Out Solution) {r : RachfordRice} {x g : Float} {m : ℕ} → r ≡ answerOf (bind v (λ _. classes a b o)) → r .outcome ≡ TwoPhase x g m → r ≡ splitOf o
-unfolding bind classes choose answerOf splitOf onePhase refusedWith
-answer-two (no n) a b o e q = absurd (no-liquid (sym (ap (λ (a : RachfordRice). a .outcome) e) ∙ q))
-answer-two (ok _) true b o e q = absurd (no-liquid (sym (ap (λ (a : RachfordRice). a .outcome) e) ∙ q))
-answer-two (ok _) false true o e q = absurd (no-vapor (sym (ap (λ (a : RachfordRice). a .outcome) e) ∙ q))
-answer-two (ok _) false false (ok s) e q = e
-answer-two (ok _) false false (no n) e q = e
-
 module _ (z k : ℕ → Float) (n limit : ℕ) {r : RachfordRice} (e : r ≡ answerOf (constrained z k n limit)) where
   pub constrained-no : {m : ℕ} → r .verdict ≡ Refused m → constrained z k n limit ≡ no m
   constrained-no q = answer-no _ (proper z k n limit) e q
 
   pub constrained-ok : r .verdict ≡ Passed → constrained z k n limit ≡ ok r
   constrained-ok q = answer-ok _ e q
-
-  pub constrained-two : {b g : Float} {m : ℕ} → r .outcome ≡ TwoPhase b g m
-      → negative z k n limit ≡ ok (record { vaporFraction = b; liquid = r .liquid; vapor = r .vapor; residual = g; iterations = m })
-  constrained-two q =
-      let c = constrained-bind z k n limit in
-      split-two (negative z k n limit) (answer-two (validate z k n (ok n)) (c .0) (c .1) (negative z k n limit) (e ∙ ap answerOf (c .2)) q) q
 
 -- ---- no refusal's number is above 28
 pub record Low {A : Type 0} (o : Out A) : Type 0 where

@@ -15,8 +15,9 @@ use Rattle.floats.specs.Outcome.{Out, ok, no, bind, need, choose}
 use Rattle.floats.proofs.Folds.{fold-turn, fold-done, sum-cong, was-no, was-yes}
 use Rattle.floats.proofs.Fills.{vec-at, fill-cong}
 use Rattle.floats.proofs.Outcomes.{bind-yes, bind-no}
-use Rattle.thermo_types.specs.Composition.{normalizeOf}
+use Rattle.thermo_types.specs.Composition.{allFinite, noneNegative, allPositive, sumsToOne, normalizeOf}
 use Rattle.thermo_types.specs.Verdicts.{verdictOf}
+use Rattle.thermo_types.proofs.Passing.{verdict-no}
 use Rattle.thermo_types.specs.declared.Verdict.{Verdict}
 use Rattle.thermo_types.specs.declared.Verdict.the-variants.{Passed, Refused}
 use Rattle.rachford_rice.specs.declared.RachfordRice.{RachfordRice}
@@ -59,7 +60,8 @@ module _ (z k : ℕ → Float) (n : ℕ) (h : n ≤ 8) (β : Float) {x y : List 
   unfolding vaporPart
   vapor-at i m = ap (λ a. at a i) py ∙ vec-at _ n i h m ∙ ap (λ (q : Float). q ⊗ k i) (liquid-at i m)
 
-  pub solution-is : (it : ℕ) {l v : List Float} {g r : Float} → l ≡ normalizeOf (at x) (places n) → v ≡ normalizeOf (at y) (places n) → r ≡ residualOf z k n β → g ≡ absOf r
+  pub solution-is : (it : ℕ) {l v : List Float} {g r : Float} → l ≡ normalizeOf (at x) (places n) → v ≡ normalizeOf (at y) (places n) → r ≡ residualOf z k n β
+      → g ≡ absOf r
       → _≡_ {A = RachfordRice} (record { verdict = Passed; outcome = TwoPhase β g it; liquid = l; vapor = v }) (twoPhase (solutionAt z k n β it))
   unfolding twoPhase solutionAt normalizeOf
   solution-is it pl pv pr pg = rw (pl, pv, pg, pr, places-within n h, normalize-cong n liquid-at, normalize-cong n vapor-at)
@@ -78,11 +80,36 @@ module _ (newton lo hi : Float) where
   pub step-newton : {f : Bool} → not inside ≡ false → f ≡ isFinite newton → not f ≡ false → newton ≡ cond (inside && isFinite newton) newton (middle lo hi)
   step-newton h e q = rw (not-false inside h, was-yes q e)
 
--- ---- `validate`
-pub both : {a b s t : Bool} → a ≡ s → b ≡ t → (a && b) ≡ (s && t)
-both p q = rw (p, q)
+-- ---- `validate`: the tests in a row, n the count of entries
+module _ (z k : ℕ → Float) (n x : ℕ) {f g : Bool} (pf : f ≡ allFinite z n) (pg : g ≡ allFinite k n) where
+  both : (f && g) ≡ (allFinite z n && allFinite k n)
+  both = rw (pf, pg)
 
-four : {A B : Type 0} (a b c d : Bool) (x : A) (o : Out B) → need a 15 (need b 16 (need c 17 (need d 18 o))) ≡ bind (need a 15 (need b 16 (need c 17 (need d 18 (ok x))))) (λ _. o)
+  pub not-finite : not (f && g) ≡ true → Refused 15 ≡ verdictOf (validate z k n (ok x))
+  unfolding validate need verdictOf
+  not-finite q = rw (was-no q both)
+
+  module _ (qf : not (f && g) ≡ false) {s : Bool} (ps : s ≡ noneNegative z n) where
+    pub some-negative : not s ≡ true → Refused 16 ≡ verdictOf (validate z k n (ok x))
+    unfolding validate need verdictOf
+    some-negative q = rw (was-yes qf both, was-no q ps)
+
+    module _ (qs : not s ≡ false) {p : Bool} (pp : p ≡ allPositive k n) where
+      pub not-positive : not p ≡ true → Refused 17 ≡ verdictOf (validate z k n (ok x))
+      unfolding validate need verdictOf
+      not-positive q = rw (was-yes qf both, was-yes qs ps, was-no q pp)
+
+      module _ (qp : not p ≡ false) {o : Bool} (po : o ≡ sumsToOne z n) where
+        pub not-one : not o ≡ true → Refused 18 ≡ verdictOf (validate z k n (ok x))
+        unfolding validate need verdictOf
+        not-one q = rw (was-yes qf both, was-yes qs ps, was-yes qp pp, was-no q po)
+
+        pub all-right : not o ≡ false → Passed ≡ verdictOf (validate z k n (ok x))
+        unfolding validate need verdictOf
+        all-right q = rw (was-yes qf both, was-yes qs ps, was-yes qp pp, was-yes q po)
+
+four : {A B : Type 0} (a b c d : Bool) (x : A) (o : Out B)
+    → need a 15 (need b 16 (need c 17 (need d 18 o))) ≡ bind (need a 15 (need b 16 (need c 17 (need d 18 (ok x))))) (λ _. o)
 unfolding need bind
 four true true true true x o = refl
 four true true true false x o = refl
@@ -96,21 +123,17 @@ unfolding validate
 validate-bind z k n x o = four _ _ _ _ x o
 
 -- what a verdict says of its outcome
-pub verdict-passed : {A : Type 0} (o : Out A) → verdictOf o ≡ Passed → (a : A) × (o ≡ ok a)
+verdict-passed : {A : Type 0} (o : Out A) → verdictOf o ≡ Passed → (a : A) × (o ≡ ok a)
 unfolding verdictOf
 verdict-passed (ok a) e = (a, refl)
 verdict-passed (no r) e = let z : _≡_ {A = ℕ} 0 1 = cc in absurd (omega arith)
 
-pub verdict-refused : {A : Type 0} (o : Out A) {r : ℕ} → verdictOf o ≡ Refused r → o ≡ no r
-unfolding verdictOf
-verdict-refused (ok a) e = let z : _≡_ {A = ℕ} 0 1 = cc in absurd (omega arith)
-verdict-refused (no s) e = cc
-
-pub validate-passed : {A B : Type 0} (z k : ℕ → Float) (n : ℕ) (x : A) (o : Out B) → verdictOf (validate z k n (ok x)) ≡ Passed → validate z k n o ≡ o
+validate-passed : {A B : Type 0} (z k : ℕ → Float) (n : ℕ) (x : A) (o : Out B) → verdictOf (validate z k n (ok x)) ≡ Passed → validate z k n o ≡ o
 validate-passed z k n x o e = validate-bind z k n x o ∙ bind-yes (λ _. o) (verdict-passed _ e .1)
 
-pub validate-refused : {A B : Type 0} (z k : ℕ → Float) (n : ℕ) (x : A) (o : Out B) {r : ℕ} → verdictOf (validate z k n (ok x)) ≡ Refused r → validate z k n o ≡ no r
-validate-refused z k n x o e = validate-bind z k n x o ∙ bind-no (λ _. o) (verdict-refused _ e)
+validate-refused : {A B : Type 0} (z k : ℕ → Float) (n : ℕ) (x : A) (o : Out B) {r : ℕ} → verdictOf (validate z k n (ok x)) ≡ Refused r
+    → validate z k n o ≡ no r
+validate-refused z k n x o e = validate-bind z k n x o ∙ bind-no (λ _. o) (verdict-no _ (sym e))
 
 -- ---- the loop, after `done` of at most `limit` turns: what is left to run from here is the whole run W
 module _ (z k : ℕ → Float) (n limit done : ℕ) (lo hi β : Float) {W : Out Solution} (run : iterate z k n (limit - done) done lo hi β ≡ W) where
@@ -131,7 +154,8 @@ module _ (z k : ℕ → Float) (n limit done : ℕ) (lo hi β : Float) {W : Out 
     loop-stops h e = rw (← left, ← pg, was-no h pf) e
 
     module _ (h : not f ≡ false) {d : Float} (pd : d ≡ slopeOf z k n β) {t : Turn} (pt : t ≡ turnOf g d lo hi β) where
-      pub loop-last : t .last ≡ true → {b : Float} → b ≡ cond (eq g 0f) β (t .next) → {r : RachfordRice} → r ≡ twoPhase (solutionAt z k n b (done + 1)) → r ≡ splitOf W
+      pub loop-last : t .last ≡ true → {b : Float} → b ≡ cond (eq g 0f) β (t .next) → {r : RachfordRice} → r ≡ twoPhase (solutionAt z k n b (done + 1))
+          → r ≡ splitOf W
       unfolding iterate need choose splitOf
       loop-last q {b} pb {r} e = rw (← left, ← pg, was-yes h pf, ← pd, ← pt, q, ← pb, ← add-one) e
 
@@ -150,33 +174,37 @@ unfolding bind answerOf splitOf
 answer-split (ok s) = refl
 answer-split (no r) = refl
 
-module _ (z k : ℕ → Float) (n limit : ℕ) {v : Verdict} (pv : v ≡ verdictOf (validate z k n (ok n))) where
+module _ (z k : ℕ → Float) (n limit x : ℕ) {v : Verdict} (pv : v ≡ verdictOf (validate z k n (ok x))) where
   pub split-refused : {m : ℕ} {r : RachfordRice} → v ≡ Refused m → r ≡ refusedWith m → r ≡ splitOf (negative z k n limit)
   unfolding negative splitOf
-  split-refused q e = e ∙ sym (ap splitOf (validate-refused z k n n _ (sym pv ∙ q)))
+  split-refused q e = e ∙ sym (ap splitOf (validate-refused z k n x _ (sym pv ∙ q)))
 
   pub classify-refused : {m : ℕ} {r : RachfordRice} → v ≡ Refused m → r ≡ refusedWith m → r ≡ answerOf (constrained z k n limit)
   unfolding constrained answerOf
-  classify-refused q e = e ∙ sym (ap answerOf (validate-refused z k n n _ (sym pv ∙ q)))
+  classify-refused q e = e ∙ sym (ap answerOf (validate-refused z k n x _ (sym pv ∙ q)))
 
-  module _ (q : v ≡ Passed) where
+  -- m is the count of entries as the code has it
+  module _ (q : v ≡ Passed) {m : ℕ} (pm : m ≡ n) where
     passes : {B : Type 0} (o : Out B) → validate z k n o ≡ o
-    passes o = validate-passed z k n n o (sym pv ∙ q)
+    passes o = validate-passed z k n x o (sym pv ∙ q)
 
-    pub split-passed : {r : RachfordRice} → r ≡ splitOf (between z k n limit) → r ≡ splitOf (negative z k n limit)
+    pub split-passed : {r : RachfordRice} → r ≡ splitOf (between z k m limit) → r ≡ splitOf (negative z k n limit)
     unfolding negative
-    split-passed e = e ∙ sym (ap splitOf (passes (between z k n limit)))
+    split-passed e = rw pm at e ∙ sym (ap splitOf (passes (between z k n limit)))
 
-    module _ {g : Float} (pg : g ≡ residualOf z k n 0f) where
+    module _ {g : Float} (pg : g ≡ residualOf z k m 0f) where
       pub classify-liquid : {r : RachfordRice} → le g 0f ≡ true → r ≡ onePhase LiquidOnly → r ≡ answerOf (constrained z k n limit)
       unfolding constrained choose answerOf
-      classify-liquid h e = rw (passes, ← pg, h) e
+      classify-liquid h e = rw (passes, ← pm, ← pg, h) e
 
-      module _ (h : le g 0f ≡ false) {d : Float} (pd : d ≡ residualOf z k n 1f) where
+      module _ (h : le g 0f ≡ false) {d : Float} (pd : d ≡ residualOf z k m 1f) where
         pub classify-vapor : {r : RachfordRice} → le 0f d ≡ true → r ≡ onePhase VaporOnly → r ≡ answerOf (constrained z k n limit)
         unfolding constrained choose answerOf
-        classify-vapor l e = rw (passes, ← pg, h, ← pd, l) e
+        classify-vapor l e = rw (passes, ← pm, ← pg, h, ← pd, l) e
 
-        pub classify-both : {r : RachfordRice} → le 0f d ≡ false → r ≡ splitOf (between z k n limit) → r ≡ answerOf (constrained z k n limit)
+        pub classify-both : {r : RachfordRice} → le 0f d ≡ false → r ≡ splitOf (between z k m limit) → r ≡ answerOf (constrained z k n limit)
         unfolding constrained choose
-        classify-both l e = rw (passes, ← pg, h, ← pd, l, answer-split) (split-passed e)
+        classify-both l e =
+            let pg′ : g ≡ residualOf z k n 0f = rw pm at pg in
+            let pd′ : d ≡ residualOf z k n 1f = rw pm at pd in
+            rw (passes, ← pg′, h, ← pd′, l, answer-split) (split-passed e)

@@ -5,12 +5,12 @@ use Prim.Native.Nat.{ℕ, zero, suc}
 use mathlib.Core.Bool.{Bool, not, cond, _&&_, _||_}
 use mathlib.Core.List.{List}
 use lib.Ieee.{Float, neg, lt, le, eq}
-use Rattle.floats.specs.Arithmetic.{_⊕_, _⊖_, _⊗_, _⊘_, #, 0f, ½, 1f, 2f, ∞, -∞}
+use Rattle.floats.specs.Arithmetic.{_⊕_, _⊖_, _⊗_, _⊘_, 0f, ½, 1f, 2f, 4ε, ∞, -∞}
 use Rattle.floats.specs.Small.{isFinite, maxOf, minOf, absOf}
-use Rattle.floats.specs.Fold.{foldTo, sumTo, allTo, active}
+use Rattle.floats.specs.Fold.{foldTo, sumTo, active}
 use Rattle.floats.specs.Vector.{vec, zeros8}
 use Rattle.floats.specs.Outcome.{Out, ok, no, bind, need, choose}
-use Rattle.thermo_types.specs.Composition.{sumsToOne}
+use Rattle.thermo_types.specs.Composition.{allFinite, noneNegative, allPositive, sumsToOne}
 use Rattle.thermo_types.specs.declared.Verdict.the-variants.{Passed, Refused}
 use Rattle.rachford_rice.specs.declared.RachfordRiceOutcome.{RachfordRiceOutcome}
 use Rattle.rachford_rice.specs.declared.RachfordRiceOutcome.the-variants.{LiquidOnly, VaporOnly, TwoPhase}
@@ -33,9 +33,9 @@ pub record Solution : Type 0 where
 abbrev pub middle : Float → Float → Float
 middle lo hi = lo ⊕ (hi ⊖ lo) ⊘ 2f
 
--- the step is at most 4 ε times max(|β|, 1); 4 ε = 2^-50
+-- the step is at most 4 ε times max(|β|, 1)
 abbrev pub small : Float → Float → Bool
-small next β = le (absOf (next ⊖ β)) (# 0x3cd0000000000000 ⊗ maxOf (absOf β) 1f)
+small next β = le (absOf (next ⊖ β)) (4ε ⊗ maxOf (absOf β) 1f)
 
 -- one turn (the code's struct: the bounds, the next β, whether it is the last) from g(β) and its derivative: the bounds are moved before the step
 unfoldable pub turnOf : Float → Float → Float → Float → Float → Turn
@@ -70,9 +70,9 @@ module _ (z k : ℕ → Float) (n : ℕ) where
   -- `validate`: z and K finite (15), z not negative (16), K positive (17), z sums to 1 (18)
   unfoldable pub validate : {A : Type 0} → Out A → Out A
   validate next =
-      need (allTo (λ i. isFinite (z i)) n && allTo (λ i. isFinite (k i)) n) 15
-      (need (allTo (λ i. not (lt (z i) 0f)) n) 16
-      (need (allTo (λ i. not (le (k i) 0f)) n) 17
+      need (allFinite z n && allFinite k n) 15
+      (need (noneNegative z n) 16
+      (need (allPositive k n) 17
       (need (sumsToOne z n) 18 next)))
 
   -- x_i = z_i / (1 + β (K_i - 1)) at positive z_i, and y_i = x_i K_i, before either is divided by its sum
@@ -95,10 +95,12 @@ module _ (z k : ℕ → Float) (n : ℕ) where
   unfoldable pub iterate : ℕ → ℕ → Float → Float → Float → Out Solution
   iterate zero done lo hi β = no 27
   iterate (suc left) done lo hi β =
-      need (isFinite (residualOf β)) 25
-      (choose (turnOf (residualOf β) (slopeOf β) lo hi β .last)
-      (ok (solutionAt (rootOf (residualOf β) β (turnOf (residualOf β) (slopeOf β) lo hi β .next)) (suc done)))
-      (iterate left (suc done) (turnOf (residualOf β) (slopeOf β) lo hi β .lo) (turnOf (residualOf β) (slopeOf β) lo hi β .hi) (turnOf (residualOf β) (slopeOf β) lo hi β .next)))
+      let g = residualOf β in
+      let turn = turnOf g (slopeOf β) lo hi β in
+      need (isFinite g) 25
+      (choose (turn .last)
+      (ok (solutionAt (rootOf g β (turn .next)) (suc done)))
+      (iterate left (suc done) (turn .lo) (turn .hi) (turn .next)))
 
   -- between the poles 1 / (1 - Kmax) and 1 / (1 - Kmin), from β = 0.5; 28 where K lies on one side of 1
   unfoldable pub between : ℕ → Out Solution

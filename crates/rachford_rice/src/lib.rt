@@ -1,14 +1,12 @@
 // Rachford-Rice phase split for prescribed equilibrium ratios (rachford_rice.rs). K values are inputs, not results.
 ghost use mathlib.Core.Path.{_≡_};
-ghost use mathlib.Core.Bool.{not, cond, _&&_};
+ghost use mathlib.Core.Bool.{cond, _&&_};
 ghost use Prim.Native.Nat.{_≤_};
-ghost use lib.Ieee.{lt, le};
+ghost use lib.Ieee.{lt};
 ghost use Rattle.floats.specs.Arithmetic.{_⊕_, _⊗_, _⊘_, _⊖_, 0f, 1f, ½};
 ghost use Rattle.floats.specs.Small.{isFinite, maxOf, minOf};
-ghost use Rattle.floats.specs.Fold.{allTo};
 ghost use Rattle.floats.specs.Vector.{at, places, vec};
 ghost use Rattle.floats.specs.Outcome.{ok};
-ghost use Rattle.thermo_types.specs.Composition.{sumsToOne};
 ghost use Rattle.thermo_types.specs.Verdicts.{verdictOf};
 ghost use Rattle.rachford_rice.specs.Rachford.{middle, turnOf, residualOf, slopeOf, kMax, kMin, validate, liquidPart, solutionAt, iterate, between, negative, twoPhase, onePhase, refusedWith, splitOf, answerOf, constrained};
 use thermo_types::Verdict;
@@ -114,7 +112,7 @@ fn k_max(z: &[f64; 8], k: &[f64; 8], n: usize) -> f64
     requires { ⌜ n ≤ 8 ⌝ }
     ensures { λ r. ⌜ r ≡ kMax (at (now (z .entry))) (at (now (k .entry))) n ⌝ }
 {
-    let mut s = f64::from_bits(0xfff0000000000000);
+    let mut s = f64::from_bits(0xfff0000000000000); // -∞
     for i in 0..n {
         s = max_term(z[i], k[i], s);
     }
@@ -131,7 +129,7 @@ fn k_min(z: &[f64; 8], k: &[f64; 8], n: usize) -> f64
     requires { ⌜ n ≤ 8 ⌝ }
     ensures { λ r. ⌜ r ≡ kMin (at (now (z .entry))) (at (now (k .entry))) n ⌝ }
 {
-    let mut s = f64::from_bits(0x7ff0000000000000);
+    let mut s = f64::from_bits(0x7ff0000000000000); // ∞
     for i in 0..n {
         s = min_term(z[i], k[i], s);
     }
@@ -140,70 +138,20 @@ fn k_min(z: &[f64; 8], k: &[f64; 8], n: usize) -> f64
 
 // ---- validate
 
-fn all_finite(x: &[f64; 8], n: usize) -> bool
-    requires { ⌜ n ≤ 8 ⌝ }
-    ensures { λ r. ⌜ r ≡ allTo (λ i. isFinite (at (now (x .entry)) i)) n ⌝ }
-{
-    let mut i = 0;
-    while i < n {
-        if !floats::is_finite(x[i]) {
-            return false;
-        }
-        i += 1;
-    }
-    true
-}
-
-fn none_negative(x: &[f64; 8], n: usize) -> bool
-    requires { ⌜ n ≤ 8 ⌝ }
-    ensures { λ r. ⌜ r ≡ allTo (λ i. not (lt (at (now (x .entry)) i) 0f)) n ⌝ }
-{
-    let mut i = 0;
-    while i < n {
-        if x[i] < 0.0 {
-            return false;
-        }
-        i += 1;
-    }
-    true
-}
-
-fn all_positive(x: &[f64; 8], n: usize) -> bool
-    requires { ⌜ n ≤ 8 ⌝ }
-    ensures { λ r. ⌜ r ≡ allTo (λ i. not (le (at (now (x .entry)) i) 0f)) n ⌝ }
-{
-    let mut i = 0;
-    while i < n {
-        if x[i] <= 0.0 {
-            return false;
-        }
-        i += 1;
-    }
-    true
-}
-
-fn sums_to_one(x: &[f64; 8], n: usize) -> bool
-    requires { ⌜ n ≤ 8 ⌝ }
-    ensures { λ r. ⌜ r ≡ sumsToOne (at (now (x .entry))) n ⌝ }
-{
-    !(floats::abs(thermo_types::sum(x, n) - 1.0) > 1e-10)
-}
-
 // z and K finite (15), z not negative (16), K positive (17), z sums to 1 (18).
 fn validate(z: &[f64; 8], k: &[f64; 8], n: usize) -> Verdict
-    requires { ⌜ n ≤ 8 ⌝ }
-    ensures { λ r. ⌜ r ≡ verdictOf (validate (at (now (z .entry))) (at (now (k .entry))) n (ok n)) ⌝ }
+    ensures { λ r. ⌜ r ≡ verdictOf (validate (at (now (z .entry))) (at (now (k .entry))) (places n) (ok n)) ⌝ }
 {
-    if !(all_finite(z, n) & all_finite(k, n)) {
+    if !(thermo_types::all_finite(z, n) & thermo_types::all_finite(k, n)) {
         return Verdict::Refused(15);
     }
-    if !none_negative(z, n) {
+    if !thermo_types::none_negative(z, n) {
         return Verdict::Refused(16);
     }
-    if !all_positive(k, n) {
+    if !thermo_types::all_positive(k, n) {
         return Verdict::Refused(17);
     }
-    if !sums_to_one(z, n) {
+    if !thermo_types::sums_to_one(z, n) {
         return Verdict::Refused(18);
     }
     Verdict::Passed
@@ -293,8 +241,8 @@ fn pick(first: bool, a: f64, b: f64) -> f64
     if first { a } else { b }
 }
 
-// The largest change of β that counts as none: 4 ε max(|β|, 1).
-const TOLERANCE: f64 = 8.881784197001252e-16;
+// 4 ε: a change of β by at most 4 ε max(|β|, 1) counts as none.
+const FOUR_EPSILON: f64 = 8.881784197001252e-16;
 
 // Newton's value where it lies between the bounds, else their middle.
 fn next_from(newton: f64, lo: f64, hi: f64) -> f64
@@ -317,7 +265,7 @@ fn turn_from(g: f64, slope: f64, lo: f64, hi: f64, beta: f64) -> Turn
     let high = pick(g > 0.0, hi, beta);
     let newton = beta - g / slope;
     let next = next_from(newton, low, high);
-    let small = floats::abs(next - beta) <= TOLERANCE * floats::max(floats::abs(beta), 1.0);
+    let small = floats::abs(next - beta) <= FOUR_EPSILON * floats::max(floats::abs(beta), 1.0);
     Turn {
         lo: low,
         hi: high,
@@ -376,36 +324,6 @@ fn between(z: &[f64; 8], k: &[f64; 8], n: usize, limit: u64) -> RachfordRice
     )
 }
 
-fn split(z: &[f64; 8], k: &[f64; 8], n: usize, limit: u64) -> RachfordRice
-    requires { ⌜ n ≤ 8 ⌝ }
-    ensures { λ r. ⌜ r ≡ splitOf (negative (at (now (z .entry))) (at (now (k .entry))) n limit) ⌝ }
-{
-    let verdict = validate(z, k, n);
-    match verdict {
-        Verdict::Refused(number) => refused(number),
-        Verdict::Passed => between(z, k, n, limit),
-    }
-}
-
-fn classify(z: &[f64; 8], k: &[f64; 8], n: usize, limit: u64) -> RachfordRice
-    requires { ⌜ n ≤ 8 ⌝ }
-    ensures { λ r. ⌜ r ≡ answerOf (constrained (at (now (z .entry))) (at (now (k .entry))) n limit) ⌝ }
-{
-    let verdict = validate(z, k, n);
-    match verdict {
-        Verdict::Refused(number) => refused(number),
-        Verdict::Passed => {
-            if rachford_rice_residual(z, k, n, 0.0) <= 0.0 {
-                return one_phase(RachfordRiceOutcome::LiquidOnly);
-            }
-            if rachford_rice_residual(z, k, n, 1.0) >= 0.0 {
-                return one_phase(RachfordRiceOutcome::VaporOnly);
-            }
-            between(z, k, n, limit)
-        }
-    }
-}
-
 // ---- what other crates call
 
 // g(β) = 0 between the poles, so that β may lie outside [0, 1]: 15 to 18, 25, 27, 28, or two phases.
@@ -417,12 +335,27 @@ pub fn rachford_rice_negative(
 ) -> RachfordRice
     ensures { λ r. ⌜ r ≡ splitOf (negative (at (now (z .entry))) (at (now (k .entry))) (places n) «max_iterations») ⌝ }
 {
-    split(z, k, floats::places(n), max_iterations)
+    let verdict = validate(z, k, n);
+    match verdict {
+        Verdict::Refused(number) => refused(number),
+        Verdict::Passed => between(z, k, floats::places(n), max_iterations),
+    }
 }
 
 // Constrained to 0 ≤ β ≤ 1: the single phases from g(0) and g(1), otherwise two phases.
 pub fn rachford_rice(z: &[f64; 8], k: &[f64; 8], n: usize, max_iterations: u64) -> RachfordRice
     ensures { λ r. ⌜ r ≡ answerOf (constrained (at (now (z .entry))) (at (now (k .entry))) (places n) «max_iterations») ⌝ }
 {
-    classify(z, k, floats::places(n), max_iterations)
+    let verdict = validate(z, k, n);
+    if let Verdict::Refused(number) = verdict {
+        return refused(number);
+    }
+    let m = floats::places(n);
+    if rachford_rice_residual(z, k, m, 0.0) <= 0.0 {
+        return one_phase(RachfordRiceOutcome::LiquidOnly);
+    }
+    if rachford_rice_residual(z, k, m, 1.0) >= 0.0 {
+        return one_phase(RachfordRiceOutcome::VaporOnly);
+    }
+    between(z, k, m, max_iterations)
 }

@@ -1,6 +1,7 @@
 -- The places of pairs as the code works them out: at n up to 8 antt computes both sides. Assumes nothing.
 use mathlib.Core.Path.{_≡_, refl, sym, _∙_}
 use mathlib.Core.Bool.{Bool, true}
+use mathlib.Core.List.{List}
 use mathlib.Core.Logic.{⊎-elim}
 use Prim.Native.Nat.{ℕ, zero, suc, _+_, _-_, _*_, _/_, _≤_, _<_}
 use native.Mathlib.Nat.{eq-or-lt-of-le, add-zero}
@@ -8,15 +9,21 @@ use native.Mathlib.Omega.{arith}
 use borrow.Author.Tests.{leb-true, eqb-true}
 use lib.Dec.{eqb, leb}
 use Rattle.floats.specs.Fold.{allTo}
+use Rattle.floats.specs.Vector.{places}
 use Rattle.floats.proofs.Folds.{all-at}
-use Rattle.book.specs.Places.{rowFrom, pairPlace}
+use Rattle.blocks.specs.Words.{word, block}
+use Rattle.book.specs.Places.{words, rowFrom, pairPlace}
+use Rattle.records.specs.declared.Pair.{Pair}
+use Rattle.records.specs.Records.{pairOf}
 
 every : (p : ℕ → ℕ → Bool) (n i : ℕ) → n ≤ 8 → i ≤ n → allTo (λ m. allTo (p m) (suc m)) 9 ≡ true → p n i ≡ true
 every p n i a b h = all-at (p n) (suc n) i (omega arith) (all-at (λ m. allTo (p m) (suc m)) 9 n (omega arith) h)
 
 pub row-code : (n i : ℕ) → n ≤ 8 → i ≤ n → 1 + n + (i * (2 * n - i) - i) / 2 ≡ rowFrom n i
 unfolding allTo rowFrom
-row-code n i a b = eqb-true (1 + n + (i * (2 * n - i) - i) / 2) (rowFrom n i) (every (λ m k. eqb (1 + m + (k * (2 * m - k) - k) / 2) (rowFrom m k)) n i a b refl)
+row-code n i a b =
+    eqb-true (1 + n + (i * (2 * n - i) - i) / 2) (rowFrom n i)
+    (every (λ m k. eqb (1 + m + (k * (2 * m - k) - k) / 2) (rowFrom m k)) n i a b refl)
 
 pub row-few : (n i : ℕ) → n ≤ 8 → i ≤ n → rowFrom n i ≤ 37
 unfolding allTo rowFrom
@@ -47,3 +54,8 @@ place-behind n i j e p = p ∙ rw e
 pub place-first : (n i j : ℕ) {from : ℕ} → from ≡ rowFrom n i → j ≤ i → from ≡ pairPlace n i j
 unfolding pairPlace
 place-first n i j e h = let z : j - i - 1 ≡ 0 = omega arith in rw (z, e) (sym (add-zero (rowFrom n i)))
+
+-- the regression of a pair, from the code's places
+pub pair-placed : (book : List ℕ) (n i j : ℕ) {m k l : ℕ} {s : List ℕ} {r : Pair} → m ≡ places n → k ≡ places i → l ≡ places j
+    → s ≡ block book (pairPlace m k l) → r ≡ pairOf (word s) → r ≡ pairOf (words book (pairPlace (places n) (places i) (places j)))
+pair-placed book n i j em ek el es h = rw (← em, ← ek, ← el, ← es) h

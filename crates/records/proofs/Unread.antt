@@ -1,4 +1,4 @@
--- Words that are not named are never read: two books that agree on the named words have the same records and parameter tables. Assumes nothing.
+-- Words that are not named are never read: two books that agree on the named words have the same records and parameters. Assumes nothing.
 use mathlib.Core.Path.{_≡_, refl, ap}
 use mathlib.Core.List.{List}
 use mathlib.Core.Bool.{Bool, true, false, cond, not}
@@ -7,18 +7,17 @@ use native.Mathlib.Omega.{arith}
 use lib.Dec.{eqb, ltb}
 use lib.Ieee.{Float}
 use Rattle.floats.specs.Arithmetic.{0f}
-use Rattle.floats.specs.Small.{floatOf}
+use Rattle.floats.specs.Small.{floatOf, float}
 use Rattle.floats.specs.Vector.{vec, zeros8, fillFrom}
 use Rattle.floats.proofs.Folds.{fold-cong}
 use Rattle.floats.proofs.Fills.{fill-cong}
 use Rattle.book.specs.Places.{words, pairPlace}
 use Rattle.book.specs.Named.{Agree}
-use Rattle.book.specs.Book.{float}
 use Rattle.book.proofs.Laws.{place-above}
 use Rattle.book.proofs.Unread.{PairAgrees, solvent-agrees, pair-agrees}
 use Rattle.records.specs.declared.Regression.the-variants.{None, Interval}
-use Rattle.records.specs.Tables.{tauWord, alphaWord, tableRow, tableRows, table}
-use Rattle.records.specs.Records.{ancillaryOf, rangeOf, tauTerms, alphaTerms, regressionOf, pairOf}
+use Rattle.records.specs.Records.{ancillaryOf, rangeOf, regressionOf}
+use Rattle.records.specs.Parameters.{termIn, parameter, parameterRow, parameterRows, parametersOf}
 
 module _ (w v : ℕ → ℕ) (e : (k : ℕ) → k < 45 → w k ≡ v k) where
   eight-same : (f : ℕ) → f + 8 ≤ 45 → vec (λ k. float w (f + k)) 8 ≡ vec (λ k. float v (f + k)) 8
@@ -47,26 +46,10 @@ module _ (w v : ℕ → ℕ) (e : PairAgrees w v) where
   regression-same = pick (eqb (w 15) 0) refl
     where
       pick : (b : Bool) → eqb (w 15) 0 ≡ b
-          → cond (eqb (w 15) 0) None (Interval (float w 16) (float w 17) (not (eqb (w 18) 0))) ≡ cond (eqb (v 15) 0) None (Interval (float v 16) (float v 17) (not (eqb (v 18) 0)))
+          → cond (eqb (w 15) 0) None (Interval (float w 16) (float w 17) (not (eqb (w 18) 0)))
+          ≡ cond (eqb (v 15) 0) None (Interval (float v 16) (float v 17) (not (eqb (v 18) 0)))
       pick true q = rw (← e .low 15 (omega arith), q)
       pick false q = rw (← e .low 15 (omega arith), q, e .flagged q 16 (omega arith), e .flagged q 17 (omega arith), e .inferred)
-
-  pair-same : pairOf w ≡ pairOf v
-  unfolding pairOf tauTerms alphaTerms
-  pair-same =
-      rw (
-        e .low 3 (omega arith),
-        e .low 4 (omega arith),
-        e .low 5 (omega arith),
-        e .low 6 (omega arith),
-        e .low 7 (omega arith),
-        e .low 8 (omega arith),
-        e .low 9 (omega arith),
-        e .low 10 (omega arith),
-        e .low 11 (omega arith),
-        e .low 12 (omega arith),
-        regression-same,
-      )
 
 -- tables of equal entries are equal
 fillFrom-cong : (f g : ℕ → Float) (b n : ℕ) (l : List Float) → ((k : ℕ) → k < n → f k ≡ g k) → fillFrom f b n l ≡ fillFrom g b n l
@@ -74,9 +57,9 @@ unfolding fillFrom
 fillFrom-cong f g b zero l e = refl
 fillFrom-cong f g b (suc n) l e = rw (fillFrom-cong f g b n l (λ k h. e k (omega arith)), e n (omega arith))
 
-table-cong : (f g : ℕ → ℕ → ℕ → Float) (m n : ℕ) → ((i j k : ℕ) → k < m → f i j k ≡ g i j k) → table f m n ≡ table g m n
-unfolding tableRows tableRow
-table-cong f g m n e = fold-cong _ n (λ i l h. fold-cong l n (λ j l h. fillFrom-cong (f i j) (g i j) ((i * 8 + j) * m) m l (λ k q. e i j k q)))
+rows-cong : (f g : ℕ → ℕ → ℕ → Float) (n : ℕ) → ((i j k : ℕ) → k < 6 → f i j k ≡ g i j k) → parameterRows f n n ≡ parameterRows g n n
+unfolding parameterRows parameterRow
+rows-cong f g n e = fold-cong _ n (λ i l h. fold-cong l n (λ j l h. fillFrom-cong (f i j) (g i j) ((i * 8 + j) * 6) 6 l (λ k q. e i j k q)))
 
 chosen : (a b : Bool) (z : Float) {x y u v : Float} → x ≡ u → y ≡ v → cond a x (cond b y z) ≡ cond a u (cond b v z)
 chosen a b z p q = rw (p, q)
@@ -98,18 +81,17 @@ module _ (s t : List ℕ) (a : Agree s t) (n : ℕ) (c : words s 0 2 ≡ n) wher
   pub density-range-unread : (i : ℕ) → i < n → rangeOf (words s (i + 1)) 24 ≡ rangeOf (words t (i + 1)) 24
   density-range-unread i l = range-same (words s (i + 1)) (words t (i + 1)) (solvent i l) 24 (omega arith)
 
-  pub pair-unread : (i j : ℕ) → pairOf (words s (pairPlace n i j)) ≡ pairOf (words t (pairPlace n i j))
-  pair-unread i j = pair-same (words s (pairPlace n i j)) (words t (pairPlace n i j)) (pair-agrees s t a (pairPlace n i j) (behind i j))
+  pub regression-unread : (i j : ℕ) → regressionOf (words s (pairPlace n i j)) ≡ regressionOf (words t (pairPlace n i j))
+  regression-unread i j = regression-same (words s (pairPlace n i j)) (words t (pairPlace n i j)) (pair-agrees s t a (pairPlace n i j) (behind i j))
 
-  at-pair : (i j k : ℕ) → k < 16 → float (words s (pairPlace n i j)) k ≡ float (words t (pairPlace n i j)) k
-  at-pair i j k h = ap floatOf (pair-agrees s t a (pairPlace n i j) (behind i j) .low k h)
+  at-pair : (i j f k : ℕ) → f ≤ 7 → k < 6 → termIn (words s (pairPlace n i j)) f k ≡ termIn (words t (pairPlace n i j)) f k
+  unfolding termIn
+  at-pair i j f k h q =
+      let e = pair-agrees s t a (pairPlace n i j) (behind i j) in
+      rw (e .low (f + k) (omega arith), e .low (7 + k) (omega arith))
 
-  pub tau-unread : table (tauWord (words s) n) 4 n ≡ table (tauWord (words t) n) 4 n
-  unfolding tauWord
-  tau-unread =
-      table-cong (tauWord (words s) n) (tauWord (words t) n) 4 n (λ i j k h. chosen (ltb i j) (ltb j i) 0f (at-pair i j (3 + k) (omega arith)) (at-pair j i (7 + k) (omega arith)))
-
-  pub alpha-unread : table (alphaWord (words s) n) 2 n ≡ table (alphaWord (words t) n) 2 n
-  unfolding alphaWord
-  alpha-unread =
-      table-cong (alphaWord (words s) n) (alphaWord (words t) n) 2 n (λ i j k h. chosen (ltb i j) (ltb j i) 0f (at-pair i j (11 + k) (omega arith)) (at-pair j i (11 + k) (omega arith)))
+  pub parameters-unread : parametersOf s n ≡ parametersOf t n
+  unfolding parametersOf parameter
+  parameters-unread =
+      rows-cong (parameter (words s) n) (parameter (words t) n) n (λ i j k h.
+      chosen (ltb i j) (ltb j i) 0f (at-pair i j 3 k (omega arith) h) (at-pair j i 7 k (omega arith) h))

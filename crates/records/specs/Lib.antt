@@ -1,3 +1,3 @@
 -- What the contracts of `records` cite. Assumes nothing.
 pub mod Records
-pub mod Tables
+pub mod Parameters

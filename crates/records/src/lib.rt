@@ -5,12 +5,13 @@ ghost use lib.ListN.{set};
 ghost use Rattle.blocks.specs.Words.{word, block};
 ghost use Rattle.floats.specs.Vector.{vec, places};
 ghost use Rattle.book.specs.Places.{words, rowFrom, pairPlace};
-ghost use Rattle.book.specs.Book.{float};
-ghost use Rattle.records.specs.Records.{ancillaryOf, rangeOf, tauOf, alphaOf, regressionOf, pairOf, tauTerms, alphaTerms};
-ghost use Rattle.records.specs.Tables.{tauWord, alphaWord, tableRow, table};
+ghost use Rattle.floats.specs.Small.{float};
+ghost use Rattle.records.specs.Records.{ancillaryOf, rangeOf, regressionOf, pairOf};
+ghost use Rattle.records.specs.Parameters.{termsOf, termIn, parameter, parameterRow, parametersOf};
 use blocks::word;
 
-// A correlation of document 003: t_r, low and high in K, the reducing value in Pa; the first `count` of n and t are its terms.
+// A correlation of document 003: t_r, low and high in K, the reducing value in Pa; the first `count` of n and t are
+// its terms.
 pub struct Ancillary {
     pub t_r: f64,
     pub reducing_value: f64,
@@ -24,16 +25,12 @@ pub struct Ancillary {
 // The temperatures that a correlation holds between, in K.
 pub struct Range(pub f64, pub f64);
 
-// tau = t0 + t1 / T + t2 ln T + t3 T.
-pub struct TauTerms {
+// The NRTL terms of an ordered pair: tau = t0 + t1 / T + t2 ln T + t3 T, alpha = a0 + a1 T.
+pub struct Terms {
     pub t0: f64,
     pub t1: f64,
     pub t2: f64,
     pub t3: f64,
-}
-
-// alpha = a0 + a1 T.
-pub struct AlphaTerms {
     pub a0: f64,
     pub a1: f64,
 }
@@ -44,10 +41,10 @@ pub enum Regression {
     Interval(f64, f64, bool),
 }
 
+// A pair i < j: the terms of (i, j) and of (j, i), and its regression interval.
 pub struct Pair {
-    pub tau_ij: TauTerms,
-    pub tau_ji: TauTerms,
-    pub alpha: AlphaTerms,
+    pub ij: Terms,
+    pub ji: Terms,
     pub regression: Regression,
 }
 
@@ -161,28 +158,6 @@ fn pair_block(book: &[u8], n: usize, i: usize, j: usize) -> &[u8]
     blocks::block(book, pair_place(n, i, j))
 }
 
-fn tau_at(s: &[u8], f: usize) -> TauTerms
-    requires { ⌜ f ≤ 7 ⌝ }
-    ensures { λ r. ⌜ r ≡ tauOf (word (now (s .entry))) f ⌝ }
-{
-    TauTerms {
-        t0: float_at(s, f),
-        t1: float_at(s, f + 1),
-        t2: float_at(s, f + 2),
-        t3: float_at(s, f + 3),
-    }
-}
-
-fn alpha_at(s: &[u8], f: usize) -> AlphaTerms
-    requires { ⌜ f ≤ 13 ⌝ }
-    ensures { λ r. ⌜ r ≡ alphaOf (word (now (s .entry))) f ⌝ }
-{
-    AlphaTerms {
-        a0: float_at(s, f),
-        a1: float_at(s, f + 1),
-    }
-}
-
 fn regression_at(s: &[u8]) -> Regression
     ensures { λ r. ⌜ r ≡ regressionOf (word (now (s .entry))) ⌝ }
 {
@@ -192,17 +167,30 @@ fn regression_at(s: &[u8]) -> Regression
     Regression::Interval(float_at(s, 16), float_at(s, 17), word(s, 18) != 0)
 }
 
+// Tau from word f on, alpha from word 11 on.
+fn terms_at(s: &[u8], f: usize) -> Terms
+    requires { ⌜ f ≤ 7 ⌝ }
+    ensures { λ r. ⌜ r ≡ termsOf (termIn (word (now (s .entry))) f) ⌝ }
+{
+    Terms {
+        t0: float_at(s, f),
+        t1: float_at(s, f + 1),
+        t2: float_at(s, f + 2),
+        t3: float_at(s, f + 3),
+        a0: float_at(s, 11),
+        a1: float_at(s, 12),
+    }
+}
+
 fn pair_at(s: &[u8]) -> Pair
     ensures { λ r. ⌜ r ≡ pairOf (word (now (s .entry))) ⌝ }
 {
-    let tau_ij = tau_at(s, 3);
-    let tau_ji = tau_at(s, 7);
-    let alpha = alpha_at(s, 11);
+    let ij = terms_at(s, 3);
+    let ji = terms_at(s, 7);
     let interval = regression_at(s);
     Pair {
-        tau_ij: tau_ij,
-        tau_ji: tau_ji,
-        alpha: alpha,
+        ij: ij,
+        ji: ji,
         regression: interval,
     }
 }
@@ -219,102 +207,63 @@ pub fn pair_record(book: &[u8], n: usize, i: usize, j: usize) -> Pair
     ))
 }
 
-// The tau of the ordered pair (i, j), +0 for i = j.
-fn tau_of(book: &[u8], n: usize, i: usize, j: usize) -> TauTerms
+// The terms of the ordered pair (i, j), +0 for i = j.
+fn terms_of(book: &[u8], n: usize, i: usize, j: usize) -> Terms
     requires { ⌜ (n ≤ 8) × (i ≤ 8) × (j ≤ 8) ⌝ }
-    ensures { λ r. ⌜ r ≡ tauTerms (tauWord (words (now (book .entry))) n i j) ⌝ }
+    ensures { λ r. ⌜ r ≡ termsOf (parameter (words (now (book .entry))) n i j) ⌝ }
 {
     if i < j {
-        return tau_at(pair_block(book, n, i, j), 3);
+        return terms_at(pair_block(book, n, i, j), 3);
     }
     if j < i {
-        return tau_at(pair_block(book, n, j, i), 7);
+        return terms_at(pair_block(book, n, j, i), 7);
     }
-    TauTerms {
+    Terms {
         t0: 0.0,
         t1: 0.0,
         t2: 0.0,
         t3: 0.0,
+        a0: 0.0,
+        a1: 0.0,
     }
 }
 
-// The alpha of the ordered pair (i, j), +0 for i = j.
-fn alpha_of(book: &[u8], n: usize, i: usize, j: usize) -> AlphaTerms
-    requires { ⌜ (n ≤ 8) × (i ≤ 8) × (j ≤ 8) ⌝ }
-    ensures { λ r. ⌜ r ≡ alphaTerms (alphaWord (words (now (book .entry))) n i j) ⌝ }
+fn set_terms(plane: &mut [f64; 384], from: usize, t: Terms)
+    requires { ⌜ from + 6 ≤ 384 ⌝ }
+    ensures { λ _. ⌜ now (plane .exit) ≡ set (set (set (set (set (set (now (plane .entry)) from (t .t0)) (from + 1) (t .t1)) (from + 2) (t .t2)) (from + 3) (t .t3)) (from + 4) (t .a0)) (from + 5) (t .a1) ⌝ }
 {
-    if i < j {
-        return alpha_at(pair_block(book, n, i, j), 11);
-    }
-    if j < i {
-        return alpha_at(pair_block(book, n, j, i), 11);
-    }
-    AlphaTerms { a0: 0.0, a1: 0.0 }
+    plane[from] = t.t0;
+    plane[from + 1] = t.t1;
+    plane[from + 2] = t.t2;
+    plane[from + 3] = t.t3;
+    plane[from + 4] = t.a0;
+    plane[from + 5] = t.a1;
 }
 
-fn set_tau(tau: &mut [f64; 256], from: usize, t: TauTerms)
-    requires { ⌜ from + 4 ≤ 256 ⌝ }
-    ensures { λ _. ⌜ now (tau .exit) ≡ set (set (set (set (now (tau .entry)) from (t .t0)) (from + 1) (t .t1)) (from + 2) (t .t2)) (from + 3) (t .t3) ⌝ }
-{
-    tau[from] = t.t0;
-    tau[from + 1] = t.t1;
-    tau[from + 2] = t.t2;
-    tau[from + 3] = t.t3;
-}
-
-fn set_alpha(alpha: &mut [f64; 128], from: usize, a: AlphaTerms)
-    requires { ⌜ from + 2 ≤ 128 ⌝ }
-    ensures { λ _. ⌜ now (alpha .exit) ≡ set (set (now (alpha .entry)) from (a .a0)) (from + 1) (a .a1) ⌝ }
-{
-    alpha[from] = a.a0;
-    alpha[from + 1] = a.a1;
-}
-
-fn fill_tau_row(book: &[u8], n: usize, i: usize, tau: &mut [f64; 256])
+fn fill_row(book: &[u8], n: usize, i: usize, plane: &mut [f64; 384])
     requires { ⌜ (n ≤ 8) × (i < 8) ⌝ }
-    ensures { λ _. ⌜ now (tau .exit) ≡ tableRow (tauWord (words (now (book .entry))) n i) 4 n i (now (tau .entry)) ⌝ }
+    ensures { λ _. ⌜ now (plane .exit) ≡ parameterRow (parameter (words (now (book .entry))) n i) n i (now (plane .entry)) ⌝ }
 {
     for j in 0..n {
-        let t = tau_of(book, n, i, j);
-        set_tau(tau, (i * 8 + j) * 4, t);
+        let t = terms_of(book, n, i, j);
+        set_terms(plane, (i * 8 + j) * 6, t);
     }
 }
 
-fn fill_alpha_row(book: &[u8], n: usize, i: usize, alpha: &mut [f64; 128])
-    requires { ⌜ (n ≤ 8) × (i < 8) ⌝ }
-    ensures { λ _. ⌜ now (alpha .exit) ≡ tableRow (alphaWord (words (now (book .entry))) n i) 2 n i (now (alpha .entry)) ⌝ }
-{
-    for j in 0..n {
-        let a = alpha_of(book, n, i, j);
-        set_alpha(alpha, (i * 8 + j) * 2, a);
-    }
-}
-
-fn fill_tau(book: &[u8], n: usize, tau: &mut [f64; 256])
+fn fill(book: &[u8], n: usize, plane: &mut [f64; 384])
     requires { ⌜ n ≤ 8 ⌝ }
-    ensures { λ _. ⌜ now (tau .exit) ≡ table (tauWord (words (now (book .entry))) n) 4 n ⌝ }
+    ensures { λ _. ⌜ now (plane .exit) ≡ parametersOf (now (book .entry)) n ⌝ }
 {
-    *tau = [0.0; 256];
+    *plane = [0.0; 384];
     for i in 0..n {
-        fill_tau_row(book, n, i, tau);
+        fill_row(book, n, i, plane);
     }
 }
 
-fn fill_alpha(book: &[u8], n: usize, alpha: &mut [f64; 128])
-    requires { ⌜ n ≤ 8 ⌝ }
-    ensures { λ _. ⌜ now (alpha .exit) ≡ table (alphaWord (words (now (book .entry))) n) 2 n ⌝ }
+// The NRTL parameters of all ordered pairs, from (i * 8 + j) * 6 on: tau's t0 to t3, alpha's a0 and a1; +0 for i = j and
+// past n.
+pub fn parameters(book: &[u8], n: usize, plane: &mut [f64; 384])
+    ensures { λ _. ⌜ now (plane .exit) ≡ parametersOf (now (book .entry)) (places n) ⌝ }
 {
-    *alpha = [0.0; 128];
-    for i in 0..n {
-        fill_alpha_row(book, n, i, alpha);
-    }
-}
-
-// The parameters of all ordered pairs: tau's t_k at (i * 8 + j) * 4 + k, alpha's a_k at (i * 8 + j) * 2 + k, +0 for i = j and past n.
-pub fn parameters(book: &[u8], n: usize, tau: &mut [f64; 256], alpha: &mut [f64; 128])
-    ensures { λ _. ⌜ (now (tau .exit) ≡ table (tauWord (words (now (book .entry))) (places n)) 4 (places n)) × (now (alpha .exit) ≡ table (alphaWord (words (now (book .entry))) (places n)) 2 (places n)) ⌝ }
-{
-    let m = floats::places(n);
-    fill_tau(book, m, tau);
-    fill_alpha(book, m, alpha);
+    fill(book, floats::places(n), plane);
 }

@@ -3,37 +3,53 @@ use Prim.Native.Nat.{ℕ, zero, suc}
 use mathlib.Core.List.{List}
 use lib.Ieee.{Float}
 use Rattle.floats.specs.Outcome.{Out}
-use Rattle.thermo_models.specs.Model.{Model, Liquids}
+use Rattle.thermo_types.specs.declared.ActivityOptions.{ActivityOptions}
+use Rattle.thermo_models.specs.Model.{Activities, Liquids}
+use Rattle.saturation.specs.Saturation.{Saturation}
 use Rattle.saturation_temperature.specs.Search.{Point, searchFrom, solveTemperature}
-use Rattle.saturation_temperature.specs.Boiling.{bubblePoint, bubbleTemperature, dewPoint, dewTemperature}
+use Rattle.saturation_temperature.specs.Boiling.{bubblePointFrom, dewPointFrom, bubbleSaturation, dewSaturation, saturationTemperature}
+use Rattle.saturation_temperature.specs.Boiling.{bubblePointAt, bubblePoint, bubbleFound, bubbleTemperature, dewPointAt, dewPoint, dewFound, dewTemperature}
 use Rattle.refusals.specs.Numbered.{Numbered}
 use Rattle.refusals.proofs.Laws.{numbers}
 use Rattle.refusals.proofs.Models.{num-positive}
 use Rattle.refusals.proofs.Saturation.{num-residualWith, num-bubbleAt, num-residual, num-dewAt}
 
-module _ (f : Float → Out Point) (h : (t : Float) → Numbered (f t)) (tolerance : Float) where
-  num-search : (left done : ℕ) (lo hi t : Float) → Numbered (searchFrom f tolerance left done lo hi t)
+module _ (f : Float → Out Point) (h : (t : Float) → Numbered (f t)) where
+  num-search : (tolerance : Float) (left done : ℕ) (b : _) → Numbered (searchFrom f tolerance left done b)
   unfolding searchFrom
-  num-search zero done lo hi t = search numbers
-  num-search (suc left) done lo hi t = search (numbers, num-search left)
+  num-search tolerance zero done b = search numbers
+  num-search tolerance (suc left) done b = search (numbers, num-search tolerance left)
 
-  num-solve : (lo hi : Float) (limit : ℕ) → Numbered (solveTemperature f tolerance lo hi limit)
+  num-solve : (o : ActivityOptions) → Numbered (solveTemperature f o)
   unfolding solveTemperature
-  num-solve lo hi limit = search (numbers, num-search) depth 7
+  num-solve o = search (numbers, num-search) depth 7
 
-module _ (E : Model) (h : (t : Float) (x : List Float) → Numbered (E t x)) (L : Liquids) (g : (t : Float) → Numbered (L t)) (n : ℕ) where
+  num-temperature : (found : ℕ → Float → Out Saturation) → ((k : ℕ) (t : Float) → Numbered (found k t)) → (o : ActivityOptions) (p : Float) → Numbered (saturationTemperature f found o p)
+  unfolding saturationTemperature
+  num-temperature found g o p = search (numbers, num-positive, num-solve)
+
+module _ (E : Activities) (h : (t : Float) (x : List Float) → Numbered (E t x)) (L : Liquids) (g : (t : Float) → Numbered (L t)) (n : ℕ) where
   num-bubblePoint : (p : Float) (x : List Float) (t : Float) → Numbered (bubblePoint E L n p x t)
-  unfolding bubblePoint
+  unfolding bubblePoint bubblePointAt bubblePointFrom
   num-bubblePoint p x t = search (numbers, num-positive)
 
-  pub num-bubbleTemperature : (p : Float) (x : List Float) (tolerance : Float) (limit : ℕ) (lo hi : Float) → Numbered (bubbleTemperature E L n p x tolerance limit lo hi)
+  num-bubbleFound : (p : Float) (x : List Float) (k : ℕ) (t : Float) → Numbered (bubbleFound E L n p x k t)
+  unfolding bubbleFound bubbleSaturation
+  num-bubbleFound p x k t = search (numbers, num-bubbleAt, num-residual)
+
+  pub num-bubbleTemperature : (o : ActivityOptions) (p : Float) (x : List Float) → Numbered (bubbleTemperature E L n o p x)
   unfolding bubbleTemperature
-  num-bubbleTemperature p x tolerance limit lo hi = search (numbers, num-positive, num-solve, num-bubblePoint, num-bubbleAt, num-residual) depth 8
+  num-bubbleTemperature o p x = num-temperature _ (num-bubblePoint p x) _ (num-bubbleFound p x) o p
 
-  num-dewPoint : (p : Float) (y : List Float) (tolerance : Float) (limit : ℕ) (t : Float) → Numbered (dewPoint E L n p y tolerance limit t)
-  unfolding dewPoint
-  num-dewPoint p y tolerance limit t = search (numbers, num-positive, num-dewAt)
+  module _ (o : ActivityOptions) (p : Float) (y : List Float) where
+    num-dewPoint : (t : Float) → Numbered (dewPoint E L n o p y t)
+    unfolding dewPoint dewPointAt dewPointFrom
+    num-dewPoint t = search (numbers, num-positive, num-dewAt)
 
-  pub num-dewTemperature : (p : Float) (y : List Float) (tolerance : Float) (limit outer : ℕ) (lo hi : Float) → Numbered (dewTemperature E L n p y tolerance limit outer lo hi)
-  unfolding dewTemperature
-  num-dewTemperature p y tolerance limit outer lo hi = search (numbers, num-positive, num-solve, num-dewPoint, num-dewAt, num-residualWith) depth 8
+    num-dewFound : (k : ℕ) (t : Float) → Numbered (dewFound E L n o p y k t)
+    unfolding dewFound dewSaturation
+    num-dewFound k t = search (numbers, num-dewAt, num-residualWith)
+
+    pub num-dewTemperature : Numbered (dewTemperature E L n o p y)
+    unfolding dewTemperature
+    num-dewTemperature = num-temperature _ num-dewPoint _ num-dewFound o p

@@ -4,7 +4,8 @@ use mathlib.Core.Bool.{Bool}
 use mathlib.Core.List.{List}
 use lib.Ieee.{Float}
 use Rattle.floats.specs.Outcome.{Out}
-use Rattle.thermo_models.specs.Model.{Activity, Model, Liquids}
+use Rattle.thermo_types.specs.declared.ActivityOptions.{ActivityOptions}
+use Rattle.thermo_models.specs.Model.{Activity, Activities, Liquids}
 use Rattle.tp_flash.specs.Split.{Split, turnAt, splitTurn, splitFrom}
 use Rattle.tp_flash.specs.Tp.{stableLiquid, dewOf, asVapor, asLiquid, asBoth, boundaryOf, fromSplit, splitFeed, betweenOf, fromDew, phasesOf, tpFlash}
 use Rattle.refusals.specs.Numbered.{Numbered}
@@ -24,20 +25,20 @@ module _ (E : List Float → Out Activity) (h : (x : List Float) → Numbered (E
   num-split ps n p z tolerance zero done lg = search numbers
   num-split ps n p z tolerance (suc left) done lg = search (numbers, num-negative, num-split ps n p z tolerance left)
 
-  module _ (n : ℕ) (threshold : Float) (limit : ℕ) (z : List Float) where
-    num-liquid : (bubble dew : Float) (notes : ℕ) → Numbered (asLiquid E n threshold limit z bubble dew notes)
+  module _ (n : ℕ) (o : ActivityOptions) (z : List Float) where
+    num-liquid : (bubble dew : Float) (notes : ℕ) → Numbered (asLiquid E n o z bubble dew notes)
     unfolding asLiquid stableLiquid
     num-liquid bubble dew notes = search (numbers, num-fractions, num-stability)
 
-    num-fromSplit : (bubble dew : Float) (s : Split) → Numbered (fromSplit E n threshold limit z bubble dew s)
+    num-fromSplit : (bubble dew : Float) (s : Split) → Numbered (fromSplit E n o z bubble dew s)
     unfolding fromSplit boundaryOf asBoth stableLiquid
     num-fromSplit bubble dew s = search (numbers, num-fractions, num-stability, num-vapor, num-liquid) depth 7
 
-    num-phases : (tolerance p : Float) (ps : List Float) → Numbered (phasesOf E n threshold tolerance limit z p ps)
+    num-phases : (p : Float) (ps : List Float) → Numbered (phasesOf E n o z p ps)
     unfolding phasesOf fromDew dewOf betweenOf splitFeed
-    num-phases tolerance p ps = search (numbers, num-bubbleAt, num-dewAt, num-vapor, num-liquid, num-split, num-fromSplit) depth 8
+    num-phases p ps = search (numbers, num-bubbleAt, num-dewAt, num-vapor, num-liquid, num-split, num-fromSplit) depth 8
 
-pub num-flash : (E : Model) → ((t : Float) (x : List Float) → Numbered (E t x)) → (L : Liquids) → ((t : Float) → Numbered (L t))
-    → (D : Float → Bool) (n : ℕ) (threshold tolerance : Float) (limit : ℕ) (t : Float) (z : List Float) (p : Float) → Numbered (tpFlash E L D n threshold tolerance limit t z p)
+pub num-flash : (E : Activities) → ((t : Float) (x : List Float) → Numbered (E t x)) → (L : Liquids) → ((t : Float) → Numbered (L t))
+    → (D : Float → Bool) (n : ℕ) (o : ActivityOptions) (t : Float) (z : List Float) (p : Float) → Numbered (tpFlash E L D n o t z p)
 unfolding tpFlash
-num-flash E h L g D n threshold tolerance limit t z p = search (numbers, num-phases)
+num-flash E h L g D n o t z p = search (numbers, num-phases)

@@ -8,9 +8,10 @@ use Rattle.thermo_types.specs.Quantities.{positiveOf}
 use Rattle.thermo_types.specs.Composition.{withFractions}
 use Rattle.records.specs.declared.Ancillary.{Ancillary}
 use Rattle.liquid.specs.Vapor.{representable, vaporPressureOf}
-use Rattle.nrtl.specs.State.{stateFrom, excessOf}
+use Rattle.excess.specs.State.{stateWith, stateFrom, withState}
+use Rattle.nrtl.specs.State.{nrtlOf}
 use Rattle.thermo_models.specs.Domain.{puresTo, pureLiquidsOf}
-use Rattle.thermo_models.specs.Activity.{activityIn, activityOf}
+use Rattle.thermo_models.specs.Activity.{excessOf}
 use Rattle.refusals.specs.Numbered.{Numbered}
 use Rattle.refusals.proofs.Laws.{known, numbers}
 
@@ -35,10 +36,6 @@ pub num-liquids : (book : List ℕ) (n : ℕ) (t : Float) → Numbered (pureLiqu
 unfolding pureLiquidsOf
 num-liquids book n t = search (numbers, num-pures)
 
-pub num-excess : (tau alpha : List Float) (n : ℕ) (t : Float) (x : ℕ → Float) → Numbered (excessOf tau alpha n t x)
-unfolding excessOf stateFrom
-num-excess tau alpha n t x = search (numbers, num-fractions) depth 12
-
-pub num-activity : (tau alpha : List Float) (n : ℕ) (t : Float) (x : List Float) → Numbered (activityOf tau alpha n t x)
-unfolding activityOf activityIn
-num-activity tau alpha n t x = search (numbers, num-excess)
+pub num-excess : (P : List Float) (n : ℕ) (t : Float) (x : List Float) → Numbered (excessOf P n t x)
+unfolding excessOf nrtlOf withState stateFrom stateWith
+num-excess P n t x = search (numbers, num-fractions) depth 12

@@ -3,8 +3,9 @@ use Prim.Native.Nat.{ℕ, zero, suc}
 use mathlib.Core.List.{List}
 use lib.Ieee.{Float}
 use Rattle.floats.specs.Outcome.{Out}
-use Rattle.thermo_models.specs.Model.{Activity, Model, Liquids}
-use Rattle.saturation.specs.Saturation.{bubbleFrom, residualWith, bubbleAt, residual, dewTurn, dewPoint, dewLoop, dewAt, bubblePressure, dewPressurePoint}
+use Rattle.thermo_types.specs.declared.ActivityOptions.{ActivityOptions}
+use Rattle.thermo_models.specs.Model.{Activity, Activities, Liquids}
+use Rattle.saturation.specs.Saturation.{bubbleFrom, residualWith, bubbleAt, residual, dewTurn, dewPoint, dewLoop, dewAt, bubbleTask, dewTask, bubblePressure, dewPressurePoint}
 use Rattle.refusals.specs.Numbered.{Numbered}
 use Rattle.refusals.proofs.Laws.{numbers}
 
@@ -30,15 +31,15 @@ module _ (E : List Float → Out Activity) (h : (x : List Float) → Numbered (E
   num-dewLoop y tolerance zero done lg = search numbers
   num-dewLoop y tolerance (suc left) done lg = search (numbers, num-dewPoint, num-dewLoop y tolerance left)
 
-  pub num-dewAt : (y : List Float) (tolerance : Float) (limit : ℕ) → Numbered (dewAt E ps n y tolerance limit)
+  pub num-dewAt : (o : ActivityOptions) (y : List Float) → Numbered (dewAt E ps n o y)
   unfolding dewAt
-  num-dewAt y tolerance limit = num-dewLoop y tolerance limit 0 _
+  num-dewAt o y = num-dewLoop y _ _ 0 _
 
-module _ (E : Model) (h : (t : Float) (x : List Float) → Numbered (E t x)) (L : Liquids) (g : (t : Float) → Numbered (L t)) (n : ℕ) where
+module _ (E : Activities) (h : (t : Float) (x : List Float) → Numbered (E t x)) (L : Liquids) (g : (t : Float) → Numbered (L t)) (n : ℕ) where
   pub num-bubblePressure : (t : Float) (x : List Float) → Numbered (bubblePressure E L n t x)
-  unfolding bubblePressure
+  unfolding bubblePressure bubbleTask
   num-bubblePressure t x = search (numbers, num-bubbleAt, num-residual) depth 6
 
-  pub num-dewPressure : (t : Float) (y : List Float) (tolerance : Float) (limit : ℕ) → Numbered (dewPressurePoint E L n t y tolerance limit)
-  unfolding dewPressurePoint
-  num-dewPressure t y tolerance limit = search (numbers, num-dewAt)
+  pub num-dewPressure : (o : ActivityOptions) (t : Float) (y : List Float) → Numbered (dewPressurePoint E L n o t y)
+  unfolding dewPressurePoint dewTask
+  num-dewPressure o t y = search (numbers, num-dewAt)

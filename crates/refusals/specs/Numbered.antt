@@ -1,4 +1,4 @@
--- Every refusal has one of document 01's numbers, so the result 0 means an answer. Over the definition of the whole call. Assumes nothing.
+-- Every refusal has one of the numbers of docs/FORMAT.md, so the result 0 means an answer. Over the definition of the whole call. Assumes nothing.
 use mathlib.Core.Path.{_≡_}
 use mathlib.Core.List.{List}
 use Prim.Native.Nat.{ℕ, _≤_}

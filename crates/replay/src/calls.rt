@@ -126,7 +126,7 @@ fn open_first(bytes: &[u8], size: usize) -> u64 {
         return 0;
     }
     match book::open_book(&bytes[0..size]) {
-        Opened::Book(n) => std::num::wrapping_add_u64(n as u64, 100),
+        Opened::Book(head) => std::num::wrapping_add_u64(head.n as u64, 100),
         Opened::No(number) => number,
     }
 }

@@ -1,3 +1,3 @@
--- The words of the answer block and of a trial block. Assumes nothing.
+-- The blocks of an answer, of a trial and of a refusal. Assumes nothing.
 pub mod Blocks
-pub mod Numbers
+pub mod Answers

@@ -15,7 +15,7 @@ use Rattle.thermo_types.specs.declared.Verdict.the-variants.{Passed, Refused}
 use Rattle.rachford_rice.specs.declared.RachfordRice.{RachfordRice}
 use Rattle.rachford_rice.specs.declared.RachfordRiceOutcome.{RachfordRiceOutcome}
 use Rattle.rachford_rice.specs.declared.RachfordRiceOutcome.the-variants.{LiquidOnly, VaporOnly, TwoPhase}
-use Rattle.rice_exports.specs.Splits.{both, phases, phasesIn, numberOf, writtenIn, number, written, sized}
+use Rattle.rice_exports.specs.Splits.{both, phases, phasesIn, numberIn, writtenIn, splitNumber, splitWritten, sized}
 
 pub eight-is : (x : List Float) (i : ℕ) {y : List Float} → length x ≡ 8 → i ≡ 8 → y ≡ vec (at x) i → y ≡ x
 eight-is x i h e p = fill-done (at x) i 8 zeros8 e p ∙ ext-getD nan (vec (at x) 8) x (fill-length (at x) 8 zeros8 ∙ sym h) (λ k l. fill-at (at x) 8 zeros8 nan k (omega arith) (omega (arith, fill-length (at x) 8 zeros8)))
@@ -48,18 +48,18 @@ module _ {o : RachfordRiceOutcome} (liquid vapor old : List Float) where
 
 -- ---- answers
 module _ (a : RachfordRice) (old : List Float) where
-  pub as-refused : {m : ℕ} → a .verdict ≡ Refused m → (100 + m ≡ number a) × (old ≡ written a old)
-  unfolding number written numberOf writtenIn
+  pub as-refused : {m : ℕ} → a .verdict ≡ Refused m → (100 + m ≡ splitNumber a) × (old ≡ splitWritten a old)
+  unfolding splitNumber splitWritten numberIn writtenIn
   as-refused e = rw e (refl, refl)
 
-  pub as-passed : {r : ℕ} {new : List Float} → a .verdict ≡ Passed → r ≡ phases (a .outcome) → new ≡ phasesIn (a .outcome) (a .liquid) (a .vapor) old → (r ≡ number a) × (new ≡ written a old)
-  unfolding number written numberOf writtenIn
+  pub as-passed : {r : ℕ} {new : List Float} → a .verdict ≡ Passed → r ≡ phases (a .outcome) → new ≡ phasesIn (a .outcome) (a .liquid) (a .vapor) old → (r ≡ splitNumber a) × (new ≡ splitWritten a old)
+  unfolding splitNumber splitWritten numberIn writtenIn
   as-passed e p q = rw e (p, q)
 
 -- ---- the calls
 module _ (z k out : List Float) (D : RachfordRice) {f : Bool} (pf : f ≡ sized z k out) where
-  pub unsized : not f ≡ true → (0 ≡ cond (sized z k out) (number D) 0) × (out ≡ cond (sized z k out) (written D out) out)
+  pub unsized : not f ≡ true → (0 ≡ cond (sized z k out) (splitNumber D) 0) × (out ≡ cond (sized z k out) (splitWritten D out) out)
   unsized h = rw (was-no h pf) (refl, refl)
 
-  pub answered : not f ≡ false → {a : RachfordRice} → a ≡ D → {r : ℕ} {new : List Float} → r ≡ number a → new ≡ written a out → (r ≡ cond (sized z k out) (number D) 0) × (new ≡ cond (sized z k out) (written D out) out)
+  pub answered : not f ≡ false → {a : RachfordRice} → a ≡ D → {r : ℕ} {new : List Float} → r ≡ splitNumber a → new ≡ splitWritten a out → (r ≡ cond (sized z k out) (splitNumber D) 0) × (new ≡ cond (sized z k out) (splitWritten D out) out)
   answered h e p q = rw (was-yes h pf, ← e) (p, q)

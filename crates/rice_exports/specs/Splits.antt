@@ -20,9 +20,9 @@ phases LiquidOnly = 1
 phases VaporOnly = 2
 phases (TwoPhase β g m) = 3
 
-unfoldable pub numberOf : Verdict → RachfordRiceOutcome → ℕ
-numberOf Passed o = phases o
-numberOf (Refused r) o = 100 + r
+unfoldable pub numberIn : Verdict → RachfordRiceOutcome → ℕ
+numberIn Passed o = phases o
+numberIn (Refused r) o = 100 + r
 
 -- a count of iterations as a float, modulo 2^32
 unfoldable pub countOf : ℕ → Float
@@ -43,11 +43,11 @@ writtenIn Passed o liquid vapor old = phasesIn o liquid vapor old
 writtenIn (Refused r) o liquid vapor old = old
 
 -- the number of an answer, and the slice after it
-unfoldable pub number : RachfordRice → ℕ
-number a = numberOf (a .verdict) (a .outcome)
+unfoldable pub splitNumber : RachfordRice → ℕ
+splitNumber a = numberIn (a .verdict) (a .outcome)
 
-unfoldable pub written : RachfordRice → List Float → List Float
-written a old = writtenIn (a .verdict) (a .outcome) (a .liquid) (a .vapor) old
+unfoldable pub splitWritten : RachfordRice → List Float → List Float
+splitWritten a old = writtenIn (a .verdict) (a .outcome) (a .liquid) (a .vapor) old
 
 -- feed and ratios of eight, and room for nineteen floats; else the number is 0
 unfoldable pub sized : List Float → List Float → List Float → Bool

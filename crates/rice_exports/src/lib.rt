@@ -5,7 +5,7 @@ ghost use Prim.Native.Nat.{ℕ, _≤_, _+_};
 ghost use Rattle.thermo_types.specs.declared.Verdict;
 ghost use lib.ListN.{length, set};
 ghost use Rattle.floats.specs.Vector.{at, fillFrom};
-ghost use Rattle.rice_exports.specs.Splits.{countOf, both, phases, phasesIn, number, written, sized, constrainedOf, negativeOf};
+ghost use Rattle.rice_exports.specs.Splits.{countOf, both, phases, phasesIn, splitNumber, splitWritten, sized, constrainedOf, negativeOf};
 use rachford_rice::RachfordRice;
 use rachford_rice::RachfordRiceOutcome;
 use thermo_types::Verdict;
@@ -85,8 +85,8 @@ fn put_phases(
 // Every refusal's number is at most 28.
 fn put_answer(a: RachfordRice, out: &mut [f64]) -> u64
     requires { ⌜ (19 ≤ length (now out)) × ((m : ℕ) → a .verdict ≡ Verdict.Refused m → m ≤ 28) ⌝ }
-    ensures { λ r. ⌜ r ≡ number a ⌝ }
-    ensures { λ _. ⌜ now (out .exit) ≡ written a (now (out .entry)) ⌝ }
+    ensures { λ r. ⌜ r ≡ splitNumber a ⌝ }
+    ensures { λ _. ⌜ now (out .exit) ≡ splitWritten a (now (out .entry)) ⌝ }
 {
     let verdict = a.verdict;
     let outcome = a.outcome;
@@ -111,8 +111,8 @@ pub fn constrained_split(
     max_iterations: u64,
     out: &mut [f64],
 ) -> u64
-    ensures { λ r. ⌜ r ≡ cond (sized (now (z .entry)) (now (k .entry)) (now (out .entry))) (number (constrainedOf (now (z .entry)) (now (k .entry)) n «max_iterations»)) 0 ⌝ }
-    ensures { λ _. ⌜ now (out .exit) ≡ cond (sized (now (z .entry)) (now (k .entry)) (now (out .entry))) (written (constrainedOf (now (z .entry)) (now (k .entry)) n «max_iterations») (now (out .entry))) (now (out .entry)) ⌝ }
+    ensures { λ r. ⌜ r ≡ cond (sized (now (z .entry)) (now (k .entry)) (now (out .entry))) (splitNumber (constrainedOf (now (z .entry)) (now (k .entry)) n «max_iterations»)) 0 ⌝ }
+    ensures { λ _. ⌜ now (out .exit) ≡ cond (sized (now (z .entry)) (now (k .entry)) (now (out .entry))) (splitWritten (constrainedOf (now (z .entry)) (now (k .entry)) n «max_iterations») (now (out .entry))) (now (out .entry)) ⌝ }
 {
     if !are_sized(z, k, out) {
         return 0;
@@ -126,8 +126,8 @@ pub fn constrained_split(
 }
 
 pub fn negative_split(z: &[f64], k: &[f64], n: usize, max_iterations: u64, out: &mut [f64]) -> u64
-    ensures { λ r. ⌜ r ≡ cond (sized (now (z .entry)) (now (k .entry)) (now (out .entry))) (number (negativeOf (now (z .entry)) (now (k .entry)) n «max_iterations»)) 0 ⌝ }
-    ensures { λ _. ⌜ now (out .exit) ≡ cond (sized (now (z .entry)) (now (k .entry)) (now (out .entry))) (written (negativeOf (now (z .entry)) (now (k .entry)) n «max_iterations») (now (out .entry))) (now (out .entry)) ⌝ }
+    ensures { λ r. ⌜ r ≡ cond (sized (now (z .entry)) (now (k .entry)) (now (out .entry))) (splitNumber (negativeOf (now (z .entry)) (now (k .entry)) n «max_iterations»)) 0 ⌝ }
+    ensures { λ _. ⌜ now (out .exit) ≡ cond (sized (now (z .entry)) (now (k .entry)) (now (out .entry))) (splitWritten (negativeOf (now (z .entry)) (now (k .entry)) n «max_iterations») (now (out .entry))) (now (out .entry)) ⌝ }
 {
     if !are_sized(z, k, out) {
         return 0;

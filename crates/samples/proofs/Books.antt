@@ -3,29 +3,35 @@ use Prim.Native.Nat.{ℕ}
 use mathlib.Core.Path.{_≡_, refl}
 use mathlib.Core.List.{List}
 use lib.Ieee.{ofBits, lt, le, eq, size}
-use Rattle.blocks.specs.Words.{wordFrom, word, block, checkSum, checkRight}
+use Rattle.blocks.specs.Words.{word, block, checkSum, sumBy, checkRight}
 use Rattle.blocks.specs.Bytes.{bytes, rowTo, blockBytes}
 use Rattle.floats.specs.Small.{isFinite}
 use Rattle.floats.specs.Fold.{allTo}
 use Rattle.floats.specs.Outcome.{Out, ok, bind, need}
 use Rattle.book.specs.Places.{rowFrom}
 use Rattle.book.specs.Book.{floatsFinite, headRight, solventRight, rangeRight, recordRight, recordsRight, casNew, pairRight, rowRight, boundsFinite, pairFinite, alphasEqual}
-use Rattle.book.specs.Book.{pairsOf, solventsOf, headOf, bookOf}
-use Rattle.sheet.specs.Sheet.{sheetOf}
-use Rattle.sheet.specs.Steps.{sheetWith}
-use Rattle.samples.specs.Sheets.{book1, book2}
+use Rattle.book.specs.Book.{headIn, pairsOf, solventsOf, headOf, ruleOf, bookOf}
+use Rattle.book.specs.declared.Head.{Head}
+use Rattle.replies.specs.Blocks.{answerRoom}
+use Rattle.sheet.specs.Sheet.{sheetFrom, sheetOf}
+use Rattle.samples.specs.Sheets.{book1, book2, wide}
 use Rattle.samples.specs.Absent.{book3}
 
-pub answered : (book question : List ℕ) {n : ℕ} {o : Out (List ℕ)} → bookOf book ≡ ok n → sheetWith book question 4608 n ≡ o → sheetOf book question 4608 ≡ o
-unfolding sheetOf sheetWith bind
+pub answered : (book question : List ℕ) {h : Head} {o : Out (List ℕ)} → bookOf book ≡ ok h → sheetFrom book (h .n) question answerRoom ≡ o → sheetOf book question answerRoom ≡ o
+unfolding sheetOf bind
 answered book question e h = rw e h
 
-pub record Opened : Type 0 where
-  pub solvents1 : bookOf book1 ≡ ok 1
-  pub solvents2 : bookOf book2 ≡ ok 2
-  pub solvents3 : bookOf book3 ≡ ok 3
+-- a book of n solvents
+abbrev Has : List ℕ → ℕ → Type 0
+Has book n = bookOf book ≡ ok (record { n = n; version = 1 })
 
-pub opened : Opened
-unfolding ofBits lt le eq size wordFrom word block checkSum checkRight bytes rowTo blockBytes isFinite allTo need rowFrom floatsFinite headRight solventRight rangeRight
-    recordRight recordsRight casNew pairRight rowRight boundsFinite pairFinite alphasEqual pairsOf solventsOf headOf bookOf
-opened = record { solvents1 = refl; solvents2 = refl; solvents3 = refl }
+pub record BooksOpened : Type 0 where
+  pub solvents1 : Has book1 1
+  pub solvents2 : Has book2 2
+  pub solvents3 : Has book3 3
+  pub wide : Has wide 2
+
+pub opened : BooksOpened
+unfolding ofBits lt le eq size word block checkSum sumBy checkRight bytes rowTo blockBytes isFinite allTo need rowFrom floatsFinite headRight solventRight rangeRight
+    recordRight recordsRight casNew pairRight rowRight boundsFinite pairFinite alphasEqual headIn pairsOf solventsOf headOf ruleOf bookOf
+opened = record { solvents1 = refl; solvents2 = refl; solvents3 = refl; wide = refl }

@@ -9,9 +9,10 @@ use lib.Dec.{T, eqb, ltb}
 use lib.ListN.{length}
 use Rattle.floats.specs.Fold.{allTo}
 use Rattle.floats.proofs.Folds.{all-at}
-use Rattle.blocks.specs.Words.{wordFrom, word, block, checkSum, checkRight}
+use Rattle.blocks.specs.Words.{word, block, checkSum, sumBy, checkRight}
 use Rattle.blocks.specs.Bytes.{bytes, rowTo, blockBytes}
 use Rattle.book.specs.Places.{words, blockCount, rowFrom, pairPlace}
+use Rattle.book.specs.Book.{ruleOf}
 use Rattle.striking.specs.Places.{cnt}
 use Rattle.striking.specs.Books.{ShorterBook}
 use Rattle.striking.specs.Questions.{keptIn, ShorterQuestion, solvents, Shorter}
@@ -35,7 +36,7 @@ record Closed : Type 0 where
   place2 : cnt keep 2 ≡ 1
   kept3 : cnt keep 3 ≡ 2
   size : length book2 ≡ 512 * blockCount 2
-  checks : allTo (λ b. checkRight (words book2 b)) (blockCount 2) ≡ true
+  checks : allTo (λ b. checkRight (ruleOf book2) (words book2 b)) (blockCount 2) ≡ true
   head : alike (λ k. eqb k 2) (words book3 0) (words book2 0) 63 ≡ true
   count : words book2 0 2 ≡ 2
   solvent1 : alike (λ k. eqb k 1) (words book3 2) (words book2 1) 63 ≡ true
@@ -46,7 +47,7 @@ record Closed : Type 0 where
   pair-i : words book2 (pairPlace 2 0 1) 1 ≡ 0
   pair-j : words book2 (pairPlace 2 0 1) 2 ≡ 1
   long : length question2 ≡ 512
-  check : checkRight (word question2) ≡ true
+  check : checkRight (ruleOf book2) (word question2) ≡ true
   front : alike (λ k. false) (word question3) (word question2) 4 ≡ true
   fraction1 : word question3 5 ≡ word question2 4
   fraction2 : word question3 6 ≡ word question2 5
@@ -56,7 +57,7 @@ record Closed : Type 0 where
   unnamed : alike (λ k. ltb k 27) (word question3) (word question2) 63 ≡ true
 
 closed : Closed
-unfolding wordFrom word block checkSum checkRight bytes rowTo blockBytes allTo rowFrom pairPlace cnt keptIn
+unfolding word block checkSum sumBy checkRight bytes rowTo blockBytes allTo rowFrom pairPlace ruleOf cnt keptIn
 closed = record {
   solvents3 = refl;
   absent0 = refl;
@@ -132,7 +133,7 @@ shorter-book = record {
   pair-j = λ i j l m t u. each-pair (λ i j n p q. words book2 (pairPlace n p q) 2 ≡ q) (closed .pair-j) i j l m t u;
 }
 
-shorter-question : ShorterQuestion (λ i. keep i) 3 question3 question2
+shorter-question : ShorterQuestion (ruleOf book2) (λ i. keep i) 3 question3 question2
 shorter-question = record {
   size = closed .long;
   check = rw (closed .check) tt;
@@ -146,5 +147,5 @@ shorter-question = record {
 pub shorter : Shorter book3 question3 book2 question2
 shorter = record {
   of-book = subst (λ (n : ℕ). ShorterBook (keptIn question3) n book3 book2) (sym (closed .solvents3)) shorter-book;
-  of-question = subst (λ (n : ℕ). ShorterQuestion (keptIn question3) n question3 question2) (sym (closed .solvents3)) shorter-question;
+  of-question = subst (λ (n : ℕ). ShorterQuestion (ruleOf book2) (keptIn question3) n question3 question2) (sym (closed .solvents3)) shorter-question;
 }

@@ -4,6 +4,7 @@ use Prim.Native.Nat.{ℕ}
 use mathlib.Core.Path.{_≡_}
 use mathlib.Core.List.{List, [], _∷_, _++_}
 use Rattle.floats.specs.Outcome.{ok}
+use Rattle.replies.specs.Blocks.{answerRoom}
 use Rattle.sheet.specs.Sheet.{sheetOf}
 use Rattle.striking.specs.Questions.{Shorter}
 use Rattle.samples.specs.Sheets.{350K, 100kPa, 1MPa, 4MPa, head, solvent, pair, book2, question, answer, trial}
@@ -52,5 +53,5 @@ back component z = trial component 0 2 1 z
 
 pub record Absent : Type 0 where
   pub shorter : Shorter book3 question3 book2 question2
-  pub long : sheetOf book3 question3 4608 ≡ ok (liquid feed3 ++ back 1 feed3 ++ back 2 feed3)
-  pub short : sheetOf book2 question2 4608 ≡ ok (liquid feed2 ++ back 0 feed2 ++ back 1 feed2)
+  pub long : sheetOf book3 question3 answerRoom ≡ ok (liquid feed3 ++ back 1 feed3 ++ back 2 feed3)
+  pub short : sheetOf book2 question2 answerRoom ≡ ok (liquid feed2 ++ back 0 feed2 ++ back 1 feed2)

@@ -1,4 +1,4 @@
--- Document 01's sample sheets. Assumes nothing.
+-- The sample sheets of docs/FORMAT.md. Assumes nothing.
 pub mod Sheets
 pub mod Samples
 pub mod Absent

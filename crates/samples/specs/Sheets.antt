@@ -1,11 +1,12 @@
--- Books, questions and answers from their words, in document 01's order. Floats stand as their bits; words that aren't given are 0. Assumes nothing.
+-- Books, questions and answers from their words, in the order of docs/FORMAT.md. Floats stand as their bits; words that aren't given are 0. Assumes nothing.
 use Prim.Native.Nat.{ℕ}
 use mathlib.Core.List.{List, [], _∷_, _++_}
+use Rattle.blocks.specs.declared.Rule.the-variants.{Plain}
 use Rattle.blocks.specs.Bytes.{wordAt, rowTo, blockBytes}
 
 -- a block from its first words, with its check
 abbrev pub blockOf : List ℕ → List ℕ
-blockOf ws = blockBytes (wordAt ws)
+blockOf ws = blockBytes Plain (wordAt ws)
 
 -- eight words: those given, and 0
 abbrev pub eight : List ℕ → List ℕ
@@ -37,7 +38,10 @@ abbrev pub 3/10 : ℕ
 abbrev pub ε : ℕ
 ε = 0x3ddb7cdfd9d7bdbb
 
--- 273.16, 300, 350 and 450 K
+-- 200, 273.16, 300, 350, 450 and 500 K
+abbrev pub 200K : ℕ
+200K = 0x4069000000000000
+
 abbrev pub 273K : ℕ
 273K = 0x4071128f5c28f5c3
 
@@ -49,6 +53,9 @@ abbrev pub 350K : ℕ
 
 abbrev pub 450K : ℕ
 450K = 0x407c200000000000
+
+abbrev pub 500K : ℕ
+500K = 0x407f400000000000
 
 -- 100 kPa, 1 MPa and 4 MPa
 abbrev pub 100kPa : ℕ
@@ -66,13 +73,17 @@ abbrev pub 4MPa : ℕ
 abbrev pub head : ℕ → List ℕ
 head n = blockOf (1 ∷ 1 ∷ n ∷ [])
 
--- a correlation with t_r = 600 K, from 273.16 to 450 K, and one term -7 θ; of a vapor pressure: ln p = ln r - 7 (600 K / T - 1), r its reducing value
-abbrev pub correlation : ℕ → List ℕ
-correlation r = (0x4082c00000000000 ∷ r ∷ 273K ∷ 450K ∷ 1 ∷ []) ++ eight (0xc01c000000000000 ∷ []) ++ eight (one ∷ [])
+-- a correlation with t_r = 600 K, from lo to hi, and one term -7 θ; of a vapor pressure: ln p = ln r - 7 (600 K / T - 1), r its reducing value
+abbrev pub correlation : ℕ → ℕ → ℕ → List ℕ
+correlation lo hi r = (0x4082c00000000000 ∷ r ∷ lo ∷ hi ∷ 1 ∷ []) ++ eight (0xc01c000000000000 ∷ []) ++ eight (one ∷ [])
 
--- solvent i with its CAS number and its reducing pressure; its density record has the reducing value 9000
+-- solvent i with its CAS number and its reducing pressure, both ranges from lo to hi; its density record has the reducing value 9000
+abbrev pub ranged : ℕ → ℕ → ℕ → ℕ → ℕ → List ℕ
+ranged lo hi i cas p = blockOf ((2 ∷ i ∷ cas ∷ []) ++ correlation lo hi p ++ correlation lo hi 0x40c1940000000000)
+
+-- from 273.16 to 450 K
 abbrev pub solvent : ℕ → ℕ → ℕ → List ℕ
-solvent i cas p = blockOf ((2 ∷ i ∷ cas ∷ []) ++ correlation p ++ correlation 0x40c1940000000000)
+solvent i cas p = ranged 273K 450K i cas p
 
 -- the pair (i, j) with constant τ_ij and τ_ji, α = 0.3, and no regression interval
 abbrev pub pair : ℕ → ℕ → ℕ → ℕ → List ℕ
@@ -84,6 +95,10 @@ book1 = head 1 ++ solvent 0 101 4MPa
 
 abbrev pub book2 : List ℕ
 book2 = head 2 ++ solvent 0 101 4MPa ++ solvent 1 102 1MPa ++ pair 0 1 0 0
+
+-- as book2, with ranges from 200 to 500 K, wider than the model's domain
+abbrev pub wide : List ℕ
+wide = head 2 ++ ranged 200K 500K 0 101 4MPa ++ ranged 200K 500K 1 102 1MPa ++ pair 0 1 0 0
 
 -- ---- a question: task, T, p, fractions, M, K; 200 outer iterations, tolerances 1e-10, threshold -1e-8, the whole bracket
 abbrev pub question : ℕ → ℕ → ℕ → List ℕ → ℕ → List ℕ → List ℕ

@@ -1,1 +1,1 @@
-// Document 01's samples (a) to (m): the list in specs/Samples.antt, the one test in proofs/Test.antt. No code.
+// The samples (a) to (m) of docs/FORMAT.md: the list in specs/Samples.antt, the one test in proofs/Test.antt. No code.

@@ -1,16 +1,21 @@
 -- For callers: what the verdict of an answer says of the definition's outcome, with the answer's own values. Assumes nothing.
 use Prim.Native.Nat.{ℕ}
 use mathlib.Core.Path.{_≡_}
+use mathlib.Core.List.{List}
 use native.Mathlib.Omega.{arith}
 use lib.Ieee.{Float}
+use Rattle.floats.specs.Vector.{places}
 use Rattle.floats.specs.Outcome.{Out, ok, no}
+use Rattle.thermo_types.specs.declared.Temperature.{Temperature}
 use Rattle.thermo_types.specs.declared.Verdict.the-variants.{Passed, Refused}
-use Rattle.saturation.specs.Saturation.{Bubble, Dew, Saturation}
-use Rattle.saturation.specs.Answers.{bubbleAnswer, residualAnswer, dewAnswer, saturationAnswer}
+use Rattle.thermo_models.specs.declared.Tabled.{Tabled}
+use Rattle.thermo_models.specs.Activity.{Stands, tabledOf}
+use Rattle.thermo_models.proofs.Answers.{stands-count}
+use Rattle.saturation.specs.Saturation.{Bubble, Dew}
+use Rattle.saturation.specs.Answers.{bubbleAnswer, residualAnswer, dewAnswer}
 use Rattle.saturation.specs.declared.BubblePoint.{BubblePoint}
 use Rattle.saturation.specs.declared.ResidualAnswer.{ResidualAnswer}
 use Rattle.saturation.specs.declared.DewPoint.{DewPoint}
-use Rattle.saturation.specs.declared.ActivitySaturation.{ActivitySaturation}
 
 -- ---- r is the code's answer to the outcome o
 pub bubble-passed : (o : Out Bubble) {r : BubblePoint} → r ≡ bubbleAnswer o → r .verdict ≡ Passed → o ≡ ok (record { pressure = r .pressure; vapor = r .vapor })
@@ -34,7 +39,13 @@ residual-refused (ok v) e q = let z : _≡_ {A = ℕ} 0 1 = cc in absurd (omega 
 residual-refused (no m) e q = cc
 
 pub dew-passed : (o : Out Dew) {r : DewPoint} → r ≡ dewAnswer o → r .verdict ≡ Passed
-    → o ≡ ok (record { pressure = r .pressure; liquid = r .liquid; iterations = r .iterations; residual = r .residual; activity = record { lnGamma = r .lg; slopes = r .sl } })
+    → o ≡ ok (record {
+      pressure = r .pressure;
+      liquid = r .liquid;
+      iterations = r .iterations;
+      residual = r .residual;
+      activity = record { lnGamma = r .lg; slopes = r .sl };
+    })
 unfolding dewAnswer
 dew-passed (ok d) e q = rw e
 dew-passed (no m) e q = let z : _≡_ {A = ℕ} 0 1 = cc in absurd (omega arith)
@@ -44,13 +55,12 @@ unfolding dewAnswer
 dew-refused (ok d) e q = let z : _≡_ {A = ℕ} 0 1 = cc in absurd (omega arith)
 dew-refused (no m) e q = cc
 
-pub saturation-passed : (o : Out Saturation) {r : ActivitySaturation} → r ≡ saturationAnswer o → r .verdict ≡ Passed
-    → o ≡ ok (record { temperature = r .temperature; pressure = r .pressure; liquid = r .liquid; vapor = r .vapor; residual = r .residual; iterations = r .iterations })
-unfolding saturationAnswer
-saturation-passed (ok s) e q = rw e
-saturation-passed (no m) e q = let z : _≡_ {A = ℕ} 0 1 = cc in absurd (omega arith)
+-- ---- what stands beside a table that `tables` made
+pub stands-places : (n : ℕ) {P : List Float} {t : Temperature} {r : Tabled} {old new : List Float} → Stands P (places n) t r old new → places (r .n) ≡ places n
+stands-places n {r = r} h =
+    let e : r .n ≡ places n = stands-count h in
+    omega arith
 
-pub saturation-refused : (o : Out Saturation) {r : ActivitySaturation} {m : ℕ} → r ≡ saturationAnswer o → r .verdict ≡ Refused m → o ≡ no m
-unfolding saturationAnswer
-saturation-refused (ok s) e q = let z : _≡_ {A = ℕ} 0 1 = cc in absurd (omega arith)
-saturation-refused (no m) e q = cc
+pub stands-kelvin : {P : List Float} {n : ℕ} {t : Temperature} {r : Tabled} {old new : List Float} → Stands P n t r old new → r .t ≡ t
+unfolding tabledOf
+stands-kelvin h = rw (h .said)

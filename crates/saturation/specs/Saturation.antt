@@ -1,4 +1,4 @@
--- Bubble and dew points at a temperature by modified Raoult, y_i p = x_i γ_i p_i^sat, as rounded steps in the order of activity.rs. E is the activity model at T,
+-- Bubble and dew points at a temperature by modified Raoult, y_i p = x_i γ_i p_i^sat, as rounded steps in the order of activity.rs. E is the activity at T,
 -- any outcome of a composition; ps are the vapor pressures, n the count of solvents. Compositions are arrays of eight. Assumes nothing.
 use Prim.Native.Nat.{ℕ, zero, suc}
 use mathlib.Core.Bool.{not, cond, _&&_}
@@ -11,7 +11,8 @@ use Rattle.floats.specs.Vector.{at, vec, zeros8}
 use Rattle.floats.specs.Outcome.{Out, ok, no, bind, need, choose}
 use Rattle.numerics.specs.Numerics.{expOf, lnOf}
 use Rattle.thermo_types.specs.Composition.{normalizeOf}
-use Rattle.thermo_models.specs.Model.{Activity, Model, Liquids, pressureInDomain}
+use Rattle.thermo_types.specs.declared.ActivityOptions.{ActivityOptions}
+use Rattle.thermo_models.specs.Model.{Activity, Activities, Liquids, pressureInDomain}
 
 -- the pressure, Pa, and the incipient vapor
 pub record Bubble : Type 0 where
@@ -109,24 +110,30 @@ module _ (E : List Float → Out Activity) (ps : List Float) (n : ℕ) where
       (dewLoop y tolerance left (suc done) (a .lnGamma)))
 
   -- `dew_at`: from ln γ = 0
-  unfoldable pub dewAt : List Float → Float → ℕ → Out Dew
-  dewAt y tolerance limit = dewLoop y tolerance limit 0 zeros8
+  unfoldable pub dewAt : ActivityOptions → List Float → Out Dew
+  dewAt o y = dewLoop y (o .tolerance) (o .«max_iterations») 0 zeros8
 
--- ---- tasks 2 and 3, over a model E and the pure liquids L
-module _ (E : Model) (L : Liquids) (n : ℕ) where
-  -- `activity_bubble_pressure`: the pure liquids (22, 25), the bubble point, its pressure in the domain (23), its residual
-  unfoldable pub bubblePressure : Float → List Float → Out Saturation
-  bubblePressure t x =
-      bind (L t) (λ pure.
-      bind (bubbleAt (E t) (pure .pressure) n x) (λ b.
+  -- task 2 from the vapor pressures: the bubble point, its pressure in the domain (23), its residual
+  unfoldable pub bubbleTask : Float → List Float → Out Saturation
+  bubbleTask t x =
+      bind (bubbleAt x) (λ b.
       need (pressureInDomain (b .pressure)) 23
-      (bind (residual (E t) (pure .pressure) n (b .pressure) x (b .vapor)) (λ r.
-      ok (record { temperature = t; pressure = b .pressure; liquid = x; vapor = b .vapor; residual = r; iterations = 0 })))))
+      (bind (residual (b .pressure) x (b .vapor)) (λ r.
+      ok (record { temperature = t; pressure = b .pressure; liquid = x; vapor = b .vapor; residual = r; iterations = 0 }))))
+
+  -- task 3 from the vapor pressures: the dew point, then its pressure in the domain (23)
+  unfoldable pub dewTask : ActivityOptions → Float → List Float → Out Saturation
+  dewTask o t y =
+      bind (dewAt o y) (λ d.
+      need (pressureInDomain (d .pressure)) 23
+      (ok (record { temperature = t; pressure = d .pressure; liquid = d .liquid; vapor = y; residual = d .residual; iterations = d .iterations })))
+
+-- ---- tasks 2 and 3, over a model E and the pure liquids L (22, 25)
+module _ (E : Activities) (L : Liquids) (n : ℕ) where
+  -- `activity_bubble_pressure`
+  unfoldable pub bubblePressure : Float → List Float → Out Saturation
+  bubblePressure t x = bind (L t) (λ pure. bubbleTask (E t) (pure .pressure) n t x)
 
   -- `activity_dew_pressure`
-  unfoldable pub dewPressurePoint : Float → List Float → Float → ℕ → Out Saturation
-  dewPressurePoint t y tolerance limit =
-      bind (L t) (λ pure.
-      bind (dewAt (E t) (pure .pressure) n y tolerance limit) (λ d.
-      need (pressureInDomain (d .pressure)) 23
-      (ok (record { temperature = t; pressure = d .pressure; liquid = d .liquid; vapor = y; residual = d .residual; iterations = d .iterations }))))
+  unfoldable pub dewPressurePoint : ActivityOptions → Float → List Float → Out Saturation
+  dewPressurePoint o t y = bind (L t) (λ pure. dewTask (E t) (pure .pressure) n o t y)

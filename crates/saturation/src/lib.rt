@@ -1,5 +1,5 @@
-// Bubble and dew points at a temperature (activity.rs): modified Raoult, y_i p = x_i γ_i p_i^sat, with an NRTL liquid and an ideal-gas vapor.
-// Compositions and ln γ are arrays of eight, 0.0 past n; pressures in Pa, temperatures in K.
+// Bubble and dew points at a temperature (activity.rs): modified Raoult, y_i p = x_i γ_i p_i^sat, with the model's liquid and
+// an ideal-gas vapor. Compositions and ln γ are arrays of eight, 0.0 past n; pressures in Pa, temperatures in K.
 ghost use mathlib.Core.Path.{_≡_};
 ghost use mathlib.Core.Bool.{cond, _&&_};
 ghost use Prim.Native.Nat.{_≤_};
@@ -7,13 +7,14 @@ ghost use lib.Ieee.{lt};
 ghost use Rattle.floats.specs.Arithmetic.{_⊕_, _⊖_, _⊗_, _⊘_, 0f};
 ghost use Rattle.floats.specs.Small.{maxOf, absOf};
 ghost use Rattle.floats.specs.Vector.{at, vec, places};
-ghost use Rattle.floats.specs.Outcome.{no, bind};
+ghost use Rattle.floats.specs.Outcome.{no};
 ghost use Rattle.numerics.specs.Numerics.{expOf, lnOf};
 ghost use Rattle.thermo_models.specs.Activity.{activityOn, activityOf};
 ghost use Rattle.thermo_models.specs.Domain.{pureLiquidsOf};
-ghost use Rattle.saturation.specs.Saturation.{partialOf, bubbleFrom, gapOf, residualWith, dewTerm, changeOf, bubbleAt, residual, dewTurn, dewPoint, dewAt, bubblePressure, dewPressurePoint};
-ghost use Rattle.saturation.specs.Answers.{bubbleAnswer, residualAnswer, dewAnswer, saturationAnswer};
-ghost use Rattle.saturation.specs.Steps.{Incipient, noTurn, turnAnswer, bubbleTask, dewChecked};
+ghost use Rattle.saturation.specs.Saturation.{partialOf, gapOf, residualWith, dewTerm, changeOf, bubbleAt, residual, dewTurn, dewPoint, dewAt, bubbleTask, dewTask, bubblePressure, dewPressurePoint};
+ghost use Rattle.saturation.specs.Answers.{bubbleAnswer, residualAnswer, Incipient, noDewTurn, dewTurnAnswer, dewAnswer, saturationAnswer};
+use thermo_models::Tabled;
+use thermo_types::ActivityOptions;
 use thermo_types::Temperature;
 use thermo_types::Verdict;
 
@@ -31,7 +32,7 @@ pub struct ResidualAnswer {
 }
 
 // One turn of the dew iteration: the largest change of ln γ, and the new ln γ.
-struct Turn {
+struct DewTurn {
     verdict: Verdict,
     change: f64,
     lg: [f64; 8],
@@ -72,11 +73,11 @@ fn no_bubble(number: u64) -> BubblePoint
     }
 }
 
-fn no_turn(number: u64) -> Turn
-    ensures { λ r. ⌜ r ≡ noTurn number ⌝ }
+fn no_dew_turn(number: u64) -> DewTurn
+    ensures { λ r. ⌜ r ≡ noDewTurn number ⌝ }
 {
     let z = [0.0; 8];
-    Turn {
+    DewTurn {
         verdict: Verdict::Refused(number),
         change: 0.0,
         lg: z,
@@ -98,16 +99,16 @@ fn no_dew(number: u64) -> DewPoint
     }
 }
 
-fn no_saturation(number: u64) -> ActivitySaturation
+pub fn no_saturation(number: u64) -> ActivitySaturation
     ensures { λ r. ⌜ r ≡ saturationAnswer (no number) ⌝ }
 {
-    let z = [0.0; 8];
+    let zeros = [0.0; 8];
     ActivitySaturation {
         verdict: Verdict::Refused(number),
         temperature: 0.0,
         pressure: 0.0,
-        liquid: z,
-        vapor: z,
+        liquid: zeros,
+        vapor: zeros,
         residual: 0.0,
         iterations: 0,
     }
@@ -148,12 +149,19 @@ fn divided(w: &[f64; 8], s: f64, n: usize) -> [f64; 8]
     x
 }
 
-// The bubble point of x whose ln γ are at hand: 25.
-fn bubble_from(x: &[f64; 8], lg: &[f64; 8], ps: &[f64; 8], n: usize) -> BubblePoint
-    requires { ⌜ n ≤ 8 ⌝ }
-    ensures { λ r. ⌜ r ≡ bubbleAnswer (bubbleFrom (now (x .entry)) (now (lg .entry)) (now (ps .entry)) n) ⌝ }
+// The bubble point of x: what `activity` refuses, then 25.
+pub fn bubble_at(table: &[f64; 512], s: Tabled, x: &[f64; 8], ps: &[f64; 8]) -> BubblePoint
+    ensures { λ r. ⌜ r ≡ bubbleAnswer (bubbleAt (activityOn (now (table .entry)) s) (now (ps .entry)) (places (s .n)) (now (x .entry))) ⌝ }
 {
-    let w = partials(x, lg, ps, n);
+    let mut lg = [0.0; 8];
+    let mut sl = [0.0; 8];
+    let verdict = thermo_models::activity(table, s, x, &mut lg, &mut sl);
+    match verdict {
+        Verdict::Refused(number) => return no_bubble(number),
+        Verdict::Passed => {}
+    }
+    let n = floats::places(s.n);
+    let w = partials(x, &lg, ps, n);
     let p = thermo_types::sum(&w, n);
     if !floats::is_finite(p) {
         return no_bubble(25);
@@ -166,26 +174,6 @@ fn bubble_from(x: &[f64; 8], lg: &[f64; 8], ps: &[f64; 8], n: usize) -> BubblePo
         verdict: Verdict::Passed,
         pressure: p,
         vapor: y,
-    }
-}
-
-// The bubble point of x: what `activity` refuses, then 25.
-pub fn bubble_at(
-    table: &[f64; 512],
-    alphas: Verdict,
-    n: usize,
-    t: Temperature,
-    x: &[f64; 8],
-    ps: &[f64; 8],
-) -> BubblePoint
-    ensures { λ r. ⌜ r ≡ bubbleAnswer (bubbleAt (activityOn (now (table .entry)) alphas (places n) (t .0)) (now (ps .entry)) (places n) (now (x .entry))) ⌝ }
-{
-    let mut lg = [0.0; 8];
-    let mut sl = [0.0; 8];
-    let verdict = thermo_models::activity(table, alphas, n, t, x, &mut lg, &mut sl);
-    match verdict {
-        Verdict::Refused(number) => no_bubble(number),
-        Verdict::Passed => bubble_from(x, &lg, ps, floats::places(n)),
     }
 }
 
@@ -250,25 +238,23 @@ pub fn residual_with(
 // The residual of x and y at p: what `activity` refuses at x, then 25.
 pub fn residual(
     table: &[f64; 512],
-    alphas: Verdict,
-    n: usize,
-    t: Temperature,
+    s: Tabled,
     p: f64,
     x: &[f64; 8],
     y: &[f64; 8],
     ps: &[f64; 8],
 ) -> ResidualAnswer
-    ensures { λ r. ⌜ r ≡ residualAnswer (residual (activityOn (now (table .entry)) alphas (places n) (t .0)) (now (ps .entry)) (places n) p (now (x .entry)) (now (y .entry))) ⌝ }
+    ensures { λ r. ⌜ r ≡ residualAnswer (residual (activityOn (now (table .entry)) s) (now (ps .entry)) (places (s .n)) p (now (x .entry)) (now (y .entry))) ⌝ }
 {
     let mut lg = [0.0; 8];
     let mut sl = [0.0; 8];
-    let verdict = thermo_models::activity(table, alphas, n, t, x, &mut lg, &mut sl);
+    let verdict = thermo_models::activity(table, s, x, &mut lg, &mut sl);
     match verdict {
         Verdict::Refused(number) => ResidualAnswer {
             verdict: Verdict::Refused(number),
             value: 0.0,
         },
-        Verdict::Passed => residual_with(&lg, ps, p, x, y, n),
+        Verdict::Passed => residual_with(&lg, ps, p, x, y, s.n),
     }
 }
 
@@ -328,36 +314,35 @@ fn largest_change(y: &[f64; 8], new: &[f64; 8], old: &[f64; 8], n: usize) -> f64
     r
 }
 
-// A turn from ln γ: what `activity` refuses at the incipient liquid, then 25 where the change or the pressure isn't finite.
+// A turn from ln γ: what `activity` refuses at the incipient liquid, then 25 where change or pressure isn't finite.
 fn dew_turn(
     table: &[f64; 512],
-    alphas: Verdict,
+    s: Tabled,
     n: usize,
-    t: Temperature,
     y: &[f64; 8],
     ps: &[f64; 8],
     lg: &[f64; 8],
-) -> Turn
+) -> DewTurn
     requires { ⌜ n ≤ 8 ⌝ }
-    ensures { λ r. ⌜ r ≡ turnAnswer (now (y .entry)) (now (lg .entry)) n (dewTurn (activityOn (now (table .entry)) alphas n (t .0)) (now (ps .entry)) n (now (y .entry)) (now (lg .entry))) ⌝ }
+    ensures { λ r. ⌜ r ≡ dewTurnAnswer (now (y .entry)) (now (lg .entry)) n (dewTurn (activityOn (now (table .entry)) s) (now (ps .entry)) n (now (y .entry)) (now (lg .entry))) ⌝ }
 {
     let mut x = [0.0; 8];
     let mut new = [0.0; 8];
     let mut sl = [0.0; 8];
     let p = incipient(y, ps, lg, n, &mut x);
-    let verdict = thermo_models::activity(table, alphas, n, t, &x, &mut new, &mut sl);
+    let verdict = thermo_models::activity(table, s, &x, &mut new, &mut sl);
     match verdict {
-        Verdict::Refused(number) => return no_turn(number),
+        Verdict::Refused(number) => return no_dew_turn(number),
         Verdict::Passed => {}
     }
     let r = largest_change(y, &new, lg, n);
     if !floats::is_finite(r) {
-        return no_turn(25);
+        return no_dew_turn(25);
     }
     if !floats::is_finite(p) {
-        return no_turn(25);
+        return no_dew_turn(25);
     }
-    Turn {
+    DewTurn {
         verdict: Verdict::Passed,
         change: r,
         lg: new,
@@ -367,22 +352,21 @@ fn dew_turn(
 // The dew point of converged ln γ.
 fn dew_point(
     table: &[f64; 512],
-    alphas: Verdict,
+    s: Tabled,
     n: usize,
-    t: Temperature,
     y: &[f64; 8],
     ps: &[f64; 8],
     lg: &[f64; 8],
     iteration: u64,
 ) -> DewPoint
     requires { ⌜ n ≤ 8 ⌝ }
-    ensures { λ r. ⌜ r ≡ dewAnswer (dewPoint (activityOn (now (table .entry)) alphas n (t .0)) (now (ps .entry)) n (now (y .entry)) (now (lg .entry)) iteration) ⌝ }
+    ensures { λ r. ⌜ r ≡ dewAnswer (dewPoint (activityOn (now (table .entry)) s) (now (ps .entry)) n (now (y .entry)) (now (lg .entry)) iteration) ⌝ }
 {
     let mut x = [0.0; 8];
     let mut new = [0.0; 8];
     let mut sl = [0.0; 8];
     let p = incipient(y, ps, lg, n, &mut x);
-    let verdict = thermo_models::activity(table, alphas, n, t, &x, &mut new, &mut sl);
+    let verdict = thermo_models::activity(table, s, &x, &mut new, &mut sl);
     match verdict {
         Verdict::Refused(number) => return no_dew(number),
         Verdict::Passed => {}
@@ -403,23 +387,21 @@ fn dew_point(
     }
 }
 
-// Turns from ln γ = 0 until the change is within the tolerance.
-fn dew_iterate(
+// The dew point of y, by turns from ln γ = 0 until the change is within the tolerance: what `activity` refuses, 25, and 27
+// where the limit is used up.
+pub fn dew_at(
     table: &[f64; 512],
-    alphas: Verdict,
-    n: usize,
-    t: Temperature,
+    s: Tabled,
     y: &[f64; 8],
     ps: &[f64; 8],
-    tolerance: f64,
-    max_iterations: u64,
+    o: ActivityOptions,
 ) -> DewPoint
-    requires { ⌜ n ≤ 8 ⌝ }
-    ensures { λ r. ⌜ r ≡ dewAnswer (dewAt (activityOn (now (table .entry)) alphas n (t .0)) (now (ps .entry)) n (now (y .entry)) tolerance «max_iterations») ⌝ }
+    ensures { λ r. ⌜ r ≡ dewAnswer (dewAt (activityOn (now (table .entry)) s) (now (ps .entry)) (places (s .n)) o (now (y .entry))) ⌝ }
 {
+    let n = floats::places(s.n);
     let mut lg = [0.0; 8];
-    for iteration in 1..=max_iterations {
-        let step = dew_turn(table, alphas, n, t, y, ps, &lg);
+    for done in 0..o.max_iterations {
+        let step = dew_turn(table, s, n, y, ps, &lg);
         let verdict = step.verdict;
         match verdict {
             Verdict::Refused(number) => return no_dew(number),
@@ -427,54 +409,21 @@ fn dew_iterate(
         }
         let new = step.lg;
         lg = new;
-        if step.change <= tolerance {
-            return dew_point(table, alphas, n, t, y, ps, &lg, iteration);
+        if step.change <= o.tolerance {
+            return dew_point(table, s, n, y, ps, &lg, done + 1);
         }
     }
     no_dew(27)
 }
 
-// The dew point of y, from ln γ = 0: what `activity` refuses, 25, and 27 where the limit is used up.
-pub fn dew_at(
-    table: &[f64; 512],
-    alphas: Verdict,
-    n: usize,
-    t: Temperature,
-    y: &[f64; 8],
-    ps: &[f64; 8],
-    tolerance: f64,
-    max_iterations: u64,
-) -> DewPoint
-    ensures { λ r. ⌜ r ≡ dewAnswer (dewAt (activityOn (now (table .entry)) alphas (places n) (t .0)) (now (ps .entry)) (places n) (now (y .entry)) tolerance «max_iterations») ⌝ }
-{
-    dew_iterate(
-        table,
-        alphas,
-        floats::places(n),
-        t,
-        y,
-        ps,
-        tolerance,
-        max_iterations,
-    )
-}
-
 // ---- tasks 2 and 3
 
 // From the vapor pressures: the bubble point, its pressure in the domain (23), its residual.
-fn bubble_pressure(
-    tau: &[f64; 256],
-    alpha: &[f64; 128],
-    n: usize,
-    t: Temperature,
-    x: &[f64; 8],
-    ps: &[f64; 8],
-) -> ActivitySaturation
-    ensures { λ r. ⌜ r ≡ saturationAnswer (bubbleTask (activityOf (now (tau .entry)) (now (alpha .entry)) (places n) (t .0)) (now (ps .entry)) (places n) (t .0) (now (x .entry))) ⌝ }
+fn bubble_pressure(table: &[f64; 512], s: Tabled, x: &[f64; 8], ps: &[f64; 8]) -> ActivitySaturation
+    ensures { λ r. ⌜ r ≡ saturationAnswer (bubbleTask (activityOn (now (table .entry)) s) (now (ps .entry)) (places (s .n)) (s .t .0) (now (x .entry))) ⌝ }
 {
-    let mut table = [0.0; 512];
-    let alphas = thermo_models::tables(tau, alpha, n, t, &mut table);
-    let b = bubble_at(&table, alphas, n, t, x, ps);
+    let t = s.t;
+    let b = bubble_at(table, s, x, ps);
     let verdict = b.verdict;
     match verdict {
         Verdict::Refused(number) => return no_saturation(number),
@@ -485,7 +434,7 @@ fn bubble_pressure(
         return no_saturation(23);
     }
     let vapor = b.vapor;
-    let r = residual(&table, alphas, n, t, p, x, &vapor, ps);
+    let r = residual(table, s, p, x, &vapor, ps);
     let finite = r.verdict;
     match finite {
         Verdict::Refused(number) => no_saturation(number),
@@ -504,39 +453,37 @@ fn bubble_pressure(
 // Bubble pressure at T of the feed x, p = Σ x_i γ_i p_i^sat: 22, 25, what `activity` refuses, 23.
 pub fn activity_bubble_pressure(
     book: &[u8],
-    tau: &[f64; 256],
-    alpha: &[f64; 128],
+    parameters: &[f64; 384],
     n: usize,
     t: Temperature,
     x: &[f64; 8],
 ) -> ActivitySaturation
-    ensures { λ r. ⌜ r ≡ saturationAnswer (bubblePressure (activityOf (now (tau .entry)) (now (alpha .entry)) (places n)) (pureLiquidsOf (now (book .entry)) (places n)) (places n) (t .0) (now (x .entry))) ⌝ }
+    ensures { λ r. ⌜ r ≡ saturationAnswer (bubblePressure (activityOf (now (parameters .entry)) (places n)) (pureLiquidsOf (now (book .entry)) (places n)) (places n) (t .0) (now (x .entry))) ⌝ }
 {
     let mut ps = [0.0; 8];
     let mut dps = [0.0; 8];
     let verdict = thermo_models::pure_liquids(book, n, t, &mut ps, &mut dps);
     match verdict {
-        Verdict::Refused(number) => no_saturation(number),
-        Verdict::Passed => bubble_pressure(tau, alpha, n, t, x, &ps),
+        Verdict::Refused(number) => return no_saturation(number),
+        Verdict::Passed => {}
     }
+    let mut table = [0.0; 512];
+    let s = thermo_models::tables(parameters, n, t, &mut table);
+    bubble_pressure(&table, s, x, &ps)
 }
 
 // From the vapor pressures: the dew point, then its pressure in the domain (23).
 fn dew_pressure(
-    tau: &[f64; 256],
-    alpha: &[f64; 128],
-    n: usize,
-    t: Temperature,
+    table: &[f64; 512],
+    s: Tabled,
     y: &[f64; 8],
     ps: &[f64; 8],
-    tolerance: f64,
-    max_iterations: u64,
+    o: ActivityOptions,
 ) -> ActivitySaturation
-    ensures { λ r. ⌜ r ≡ saturationAnswer (bind (dewAt (activityOf (now (tau .entry)) (now (alpha .entry)) (places n) (t .0)) (now (ps .entry)) (places n) (now (y .entry)) tolerance «max_iterations») (dewChecked (t .0) (now (y .entry)))) ⌝ }
+    ensures { λ r. ⌜ r ≡ saturationAnswer (dewTask (activityOn (now (table .entry)) s) (now (ps .entry)) (places (s .n)) o (s .t .0) (now (y .entry))) ⌝ }
 {
-    let mut table = [0.0; 512];
-    let alphas = thermo_models::tables(tau, alpha, n, t, &mut table);
-    let d = dew_at(&table, alphas, n, t, y, ps, tolerance, max_iterations);
+    let t = s.t;
+    let d = dew_at(table, s, y, ps, o);
     let verdict = d.verdict;
     match verdict {
         Verdict::Refused(number) => return no_saturation(number),
@@ -561,21 +508,22 @@ fn dew_pressure(
 // Dew pressure at T of the feed y: 22, 25, what `activity` refuses at an incipient liquid, 27, 23.
 pub fn activity_dew_pressure(
     book: &[u8],
-    tau: &[f64; 256],
-    alpha: &[f64; 128],
+    parameters: &[f64; 384],
     n: usize,
     t: Temperature,
     y: &[f64; 8],
-    tolerance: f64,
-    max_iterations: u64,
+    o: ActivityOptions,
 ) -> ActivitySaturation
-    ensures { λ r. ⌜ r ≡ saturationAnswer (dewPressurePoint (activityOf (now (tau .entry)) (now (alpha .entry)) (places n)) (pureLiquidsOf (now (book .entry)) (places n)) (places n) (t .0) (now (y .entry)) tolerance «max_iterations») ⌝ }
+    ensures { λ r. ⌜ r ≡ saturationAnswer (dewPressurePoint (activityOf (now (parameters .entry)) (places n)) (pureLiquidsOf (now (book .entry)) (places n)) (places n) o (t .0) (now (y .entry))) ⌝ }
 {
     let mut ps = [0.0; 8];
     let mut dps = [0.0; 8];
     let verdict = thermo_models::pure_liquids(book, n, t, &mut ps, &mut dps);
     match verdict {
-        Verdict::Refused(number) => no_saturation(number),
-        Verdict::Passed => dew_pressure(tau, alpha, n, t, y, &ps, tolerance, max_iterations),
+        Verdict::Refused(number) => return no_saturation(number),
+        Verdict::Passed => {}
     }
+    let mut table = [0.0; 512];
+    let s = thermo_models::tables(parameters, n, t, &mut table);
+    dew_pressure(&table, s, y, &ps, o)
 }

@@ -1,44 +1,36 @@
--- The ways through a search for the root of f, for any f: the ends of the bracket, a turn, the end of the loop. Assumes nothing.
-use Prim.Native.Nat.{ℕ, suc, _+_, _-_, _<_}
-use mathlib.Core.Path.{_≡_, refl, sym, _∙_, ap}
-use mathlib.Core.Bool.{Bool, true, false, _&&_, _||_, false≢true}
-use borrow.Author.Tests.{ltb-true, ltb-false}
-use lib.Dec.{ltb}
+-- The ways through a search for the root of f, for any f: the ends of the bracket, a turn, the loop. Assumes nothing.
+use Prim.Native.Nat.{ℕ, suc, _+_, _-_, _<_, _≤_}
+use mathlib.Core.Path.{_≡_, _∙_, ap}
+use mathlib.Core.Bool.{Bool, true, false, _||_}
 use native.Mathlib.Numerals.{add-one}
 use native.Mathlib.Omega.{arith}
 use lib.Ieee.{Float, lt, le}
 use Rattle.floats.specs.Arithmetic.{0f}
 use Rattle.floats.specs.Small.{absOf}
 use Rattle.floats.specs.Outcome.{Out, ok, no, bind, need, choose}
+use Rattle.thermo_types.specs.declared.ActivityOptions.{ActivityOptions}
 use Rattle.thermo_types.specs.declared.Verdict.the-variants.{Passed, Refused}
 use Rattle.saturation_temperature.specs.Search.{Point, Root, middle, stepOf, collapsed, searchFrom, solveTemperature}
-use Rattle.saturation_temperature.specs.Answers.{pointAnswer, rootAnswer, bracketOf, stepIn, settled, remaining}
+use Rattle.saturation_temperature.specs.Answers.{pointAnswer, rootAnswer, remaining}
 use Rattle.saturation_temperature.specs.declared.PointAnswer.{PointAnswer}
 use Rattle.saturation_temperature.specs.declared.RootAnswer.{RootAnswer}
 use Rattle.saturation_temperature.specs.declared.Bracket.{Bracket}
 use Rattle.saturation_temperature.specs.declared.SearchState.{SearchState}
-
--- ---- a test of two
-both-first : (a b : Bool) → (a && b) ≡ true → a ≡ true
-both-first true b e = refl
-both-first false b e = e
-
-both-second : (a b : Bool) → (a && b) ≡ true → b ≡ true
-both-second true b e = e
-both-second false b e = absurd (false≢true e)
+use Rattle.saturation_temperature.specs.declared.SearchState.the-variants as state
 
 -- ---- what the verdict of an answer says of the outcome
-pub point-passed : (o : Out Point) {r : PointAnswer} → r ≡ pointAnswer o → r .verdict ≡ Passed → o ≡ ok (record { value = r .value; slope = r .slope })
+point-passed : (o : Out Point) {r : PointAnswer} → r ≡ pointAnswer o → r .verdict ≡ Passed → o ≡ ok (record { value = r .value; slope = r .slope })
 unfolding pointAnswer
 point-passed (ok f) e q = rw e
 point-passed (no m) e q = let z : _≡_ {A = ℕ} 0 1 = cc in absurd (omega arith)
 
-pub point-refused : (o : Out Point) {r : PointAnswer} {m : ℕ} → r ≡ pointAnswer o → r .verdict ≡ Refused m → o ≡ no m
+point-refused : (o : Out Point) {r : PointAnswer} {m : ℕ} → r ≡ pointAnswer o → r .verdict ≡ Refused m → o ≡ no m
 unfolding pointAnswer
 point-refused (ok f) e q = let z : _≡_ {A = ℕ} 0 1 = cc in absurd (omega arith)
 point-refused (no m) e q = cc
 
-pub root-passed : (o : Out Root) {r : RootAnswer} → r ≡ rootAnswer o → r .verdict ≡ Passed → o ≡ ok (record { temperature = r .temperature; iterations = r .iterations })
+pub root-passed : (o : Out Root) {r : RootAnswer} → r ≡ rootAnswer o → r .verdict ≡ Passed
+    → o ≡ ok (record { temperature = r .temperature; iterations = r .iterations })
 unfolding rootAnswer
 root-passed (ok f) e q = rw e
 root-passed (no m) e q = let z : _≡_ {A = ℕ} 0 1 = cc in absurd (omega arith)
@@ -48,117 +40,114 @@ unfolding rootAnswer
 root-refused (ok f) e q = let z : _≡_ {A = ℕ} 0 1 = cc in absurd (omega arith)
 root-refused (no m) e q = cc
 
-pub more-left : (b : Bool) (done limit : ℕ) → (b && ltb done limit) ≡ true → done < limit
-more-left b done limit h = ltb-true done limit (both-second b (ltb done limit) h)
+module _ (f : Float → Out Point) where
+  -- ---- the ends of the bracket: the state s begins the search
+  module _ (o : ActivityOptions) where
+    abbrev Begins : SearchState → Type 0
+    Begins s = remaining f (o .tolerance) (o .«max_temperature_iterations») 0 s ≡ solveTemperature f o
 
-module _ (f : Float → Out Point) (tolerance : Float) where
-  -- ---- what is left to run from a state
-  module _ (left done : ℕ) (s : SearchState) where
-    pub left-stopped : {lo hi t : Float} {m : ℕ} → s ≡ record { going = false; verdict = Refused m; lo = lo; hi = hi; t = t } → remaining f tolerance left done s ≡ no m
-    unfolding remaining settled choose
-    left-stopped e = rw e
+    module _ {a : PointAnswer} (pa : a ≡ pointAnswer (f (o .«minimum_temperature_k»))) where
+      pub low-refused : {m : ℕ} → a .verdict ≡ Refused m → Begins (state.Refused m)
+      unfolding remaining solveTemperature bind
+      low-refused u = rw (point-refused _ pa u)
 
-    pub left-found : {lo hi t : Float} → s ≡ record { going = false; verdict = Passed; lo = lo; hi = hi; t = t } → remaining f tolerance left done s ≡ ok (record { temperature = t; iterations = done })
-    unfolding remaining settled choose
-    left-found e = rw e
+      module _ (u : a .verdict ≡ Passed) {b : PointAnswer} (pb : b ≡ pointAnswer (f (o .«maximum_temperature_k»))) where
+        pub high-refused : {m : ℕ} → b .verdict ≡ Refused m → Begins (state.Refused m)
+        unfolding remaining solveTemperature bind
+        high-refused v = rw (point-passed _ pa u, point-refused _ pb v)
 
-    pub left-going : {lo hi t : Float} → s ≡ record { going = true; verdict = Passed; lo = lo; hi = hi; t = t } → remaining f tolerance left done s ≡ searchFrom f tolerance left done lo hi t
-    unfolding remaining choose
-    left-going e = rw e
+        module _ (v : b .verdict ≡ Passed) {c : Float} (pc : c ≡ absOf (a .value)) where
+          pub low-found : le c (o .tolerance) ≡ true → Begins (state.Found (o .«minimum_temperature_k»))
+          unfolding remaining solveTemperature bind choose
+          low-found h = rw (point-passed _ pa u, point-passed _ pb v, ← pc, h)
 
-    pub left-runs : s .going ≡ true → remaining f tolerance left done s ≡ searchFrom f tolerance left done (s .lo) (s .hi) (s .t)
-    unfolding remaining choose
-    left-runs e = rw e
+          module _ (h : le c (o .tolerance) ≡ false) {d : Float} (pd : d ≡ absOf (b .value)) where
+            pub high-found : le d (o .tolerance) ≡ true → Begins (state.Found (o .«maximum_temperature_k»))
+            unfolding remaining solveTemperature bind choose
+            high-found k = rw (point-passed _ pa u, point-passed _ pb v, ← pc, h, ← pd, k)
 
-  -- ---- what a state says when no turn is left
-  module _ (done : ℕ) (s : SearchState) where
-    pub root-out : s .going ≡ true → {r : RootAnswer} → r ≡ rootAnswer (no 27) → r ≡ rootAnswer (remaining f tolerance 0 done s)
-    unfolding remaining choose searchFrom
-    root-out e q = rw e q
+            module _ (k : le d (o .tolerance) ≡ false) where
+              pub unbracketed : (lt 0f (a .value) || lt (b .value) 0f) ≡ true → Begins (state.Refused 26)
+              unfolding remaining solveTemperature bind choose need
+              unbracketed w = rw (point-passed _ pa u, point-passed _ pb v, ← pc, h, ← pd, k, w)
 
-    pub root-none : {m : ℕ} → s .going ≡ false → s .verdict ≡ Refused m → {r : RootAnswer} → r ≡ rootAnswer (no m) → r ≡ rootAnswer (remaining f tolerance 0 done s)
-    unfolding remaining settled choose
-    root-none e v q = rw (e, v) q
+              pub bracketed : {m : Float} → (lt 0f (a .value) || lt (b .value) 0f) ≡ false
+                  → m ≡ middle (o .«minimum_temperature_k») (o .«maximum_temperature_k»)
+                  → Begins (state.Going (record { lo = o .«minimum_temperature_k»; hi = o .«maximum_temperature_k»; next = m }))
+              unfolding remaining solveTemperature bind choose need
+              bracketed w e = rw (point-passed _ pa u, point-passed _ pb v, ← pc, h, ← pd, k, w, e)
 
-    pub root-found : s .going ≡ false → s .verdict ≡ Passed → record { verdict = Passed; temperature = s .t; iterations = done } ≡ rootAnswer (remaining f tolerance 0 done s)
-    unfolding remaining settled choose rootAnswer
-    root-found e v = rw (e, v)
+  module _ (tolerance : Float) where
+    -- ---- a turn from the bracket b leaves the state s
+    module _ (left done : ℕ) (b : Bracket) where
+      abbrev Leaves : SearchState → Type 0
+      Leaves s = remaining f tolerance left (suc done) s ≡ searchFrom f tolerance (suc left) done b
 
-  -- ---- the ends
-  module _ (lo hi : Float) (limit : ℕ) where
-    pub low-refused : {m : ℕ} → f lo ≡ no m → no m ≡ solveTemperature f tolerance lo hi limit
-    unfolding solveTemperature bind
-    low-refused p = rw p
+      module _ {a : PointAnswer} (pa : a ≡ pointAnswer (f (b .next))) where
+        pub turn-refused : {m : ℕ} → a .verdict ≡ Refused m → Leaves (state.Refused m)
+        unfolding remaining searchFrom bind
+        turn-refused u = rw (point-refused _ pa u)
 
-    pub high-refused : {a : Point} {m : ℕ} → f lo ≡ ok a → f hi ≡ no m → no m ≡ solveTemperature f tolerance lo hi limit
-    unfolding solveTemperature bind
-    high-refused p q = rw (p, q)
+        module _ (u : a .verdict ≡ Passed) {c : Float} (pc : c ≡ absOf (a .value)) where
+          pub turn-found : le c tolerance ≡ true → Leaves (state.Found (b .next))
+          unfolding remaining searchFrom bind choose
+          turn-found h = rw (point-passed _ pa u, ← pc, h)
 
-    module _ {a b : Point} (p : f lo ≡ ok a) (q : f hi ≡ ok b) {u : Float} (e : u ≡ absOf (a .value)) where
-      pub low-found : le u tolerance ≡ true → ok (record { temperature = lo; iterations = 0 }) ≡ solveTemperature f tolerance lo hi limit
-      unfolding solveTemperature bind choose
-      low-found h = rw (p, q, rw e at h)
+          module _ (h : le c tolerance ≡ false) {s : Bracket} (ps : s ≡ stepOf (record { value = a .value; slope = a .slope }) b)
+              {k : Bool} (pk : k ≡ collapsed s (b .next)) where
+            pub turn-collapsed : k ≡ true → Leaves (state.Refused 27)
+            unfolding remaining searchFrom bind choose need
+            turn-collapsed w = rw (point-passed _ pa u, ← pc, h, ← ps, ← pk, w)
 
-      module _ (h : le u tolerance ≡ false) {v : Float} (d : v ≡ absOf (b .value)) where
-        pub high-found : le v tolerance ≡ true → ok (record { temperature = hi; iterations = 0 }) ≡ solveTemperature f tolerance lo hi limit
-        unfolding solveTemperature bind choose
-        high-found k = rw (p, q, rw e at h, rw d at k)
+            pub turn-more : k ≡ false → Leaves (state.Going s)
+            unfolding remaining searchFrom bind choose need
+            turn-more w = rw (point-passed _ pa u, ← pc, h, ← ps, ← pk, w)
 
-        module _ (k : le v tolerance ≡ false) where
-          pub unbracketed : (lt 0f (a .value) || lt (b .value) 0f) ≡ true → no 26 ≡ solveTemperature f tolerance lo hi limit
-          unfolding solveTemperature bind choose need
-          unbracketed o = rw (p, q, rw e at h, rw d at k, o)
+    -- ---- after `done` turns of at most `limit`: what is left to run from b is the whole run W
+    pub search-begun : (limit : ℕ) (b : Bracket) → searchFrom f tolerance (limit - 0) 0 b ≡ searchFrom f tolerance limit 0 b
+    search-begun limit b =
+        let a : limit - 0 ≡ limit = omega arith in
+        rw a
 
-          pub bracketed : (lt 0f (a .value) || lt (b .value) 0f) ≡ false → {m : Float} → m ≡ middle lo hi → searchFrom f tolerance limit 0 lo hi m ≡ solveTemperature f tolerance lo hi limit
-          unfolding solveTemperature bind choose need
-          bracketed o i = rw (p, q, rw e at h, rw d at k, o, i)
+    module _ (limit done : ℕ) (b : Bracket) {W : Out Root} (run : searchFrom f tolerance (limit - done) done b ≡ W) where
+      pub search-over : limit ≤ done → {r : RootAnswer} → r ≡ rootAnswer (no 27) → r ≡ rootAnswer W
+      unfolding searchFrom
+      search-over l e =
+          let z : limit - done ≡ 0 = omega arith in
+          rw (← run, z) e
 
-  -- ---- a turn
-  module _ (left done : ℕ) (lo hi t : Float) where
-    pub turn-refused : {m : ℕ} → f t ≡ no m → no m ≡ searchFrom f tolerance (suc left) done lo hi t
-    unfolding searchFrom bind
-    turn-refused p = rw p
+      module _ (l : done < limit) (s : SearchState)
+          (turned : (left done : ℕ) → remaining f tolerance left (suc done) s ≡ searchFrom f tolerance (suc left) done b) where
+        after : remaining f tolerance (limit - (done + 1)) (done + 1) s ≡ W
+        after =
+            let z : limit - done ≡ suc (limit - (done + 1)) = omega arith in
+            ap (λ (k : ℕ). remaining f tolerance (limit - (done + 1)) k s) (add-one done) ∙ turned (limit - (done + 1)) done ∙ (rw z at run)
 
-    module _ {v : Point} (p : f t ≡ ok v) {u : Float} (e : u ≡ absOf (v .value)) where
-      pub turn-found : le u tolerance ≡ true → ok (record { temperature = t; iterations = suc done }) ≡ searchFrom f tolerance (suc left) done lo hi t
-      unfolding searchFrom bind choose
-      turn-found h = rw (p, rw e at h)
+        pub search-more : {b₁ : Bracket} → s ≡ state.Going b₁ → searchFrom f tolerance (limit - (done + 1)) (done + 1) b₁ ≡ W
+        unfolding remaining
+        search-more e = rw e at after
 
-      module _ (h : le u tolerance ≡ false) {b : Bracket} (d : b ≡ bracketOf (stepOf v lo hi t)) {k : Bool} (q : k ≡ collapsed (stepIn b) t) where
-        -- what the code asked of its bracket is asked of the step
-        asked : collapsed (stepOf v lo hi t) t ≡ k
-        asked = sym (rw d at q)
+        pub search-found : {t : Float} {r : RootAnswer} → s ≡ state.Found t
+            → r ≡ record { verdict = Passed; temperature = t; iterations = done + 1 } → r ≡ rootAnswer W
+        unfolding remaining rootAnswer
+        search-found e q = rw (← after, e) q
 
-        pub turn-collapsed : k ≡ true → no 27 ≡ searchFrom f tolerance (suc left) done lo hi t
-        unfolding searchFrom bind choose need
-        turn-collapsed o = rw (p, rw e at h, asked, o)
+        pub search-refused : {m : ℕ} {r : RootAnswer} → s ≡ state.Refused m → r ≡ rootAnswer (no m) → r ≡ rootAnswer W
+        unfolding remaining
+        search-refused e q = rw (← after, e) q
 
-        pub turn-more : k ≡ false → searchFrom f tolerance left (suc done) (b .lo) (b .hi) (b .next) ≡ searchFrom f tolerance (suc left) done lo hi t
-        unfolding searchFrom bind choose need
-        turn-more o = rw (p, rw e at h, asked, o, d)
+  -- ---- the whole, from the state s that begins it
+  module _ (o : ActivityOptions) {s : SearchState} (begun : Begins o s) {r : RootAnswer} where
+    pub solved-inside : {b : Bracket} → s ≡ state.Going b
+        → r ≡ rootAnswer (searchFrom f (o .tolerance) (o .«max_temperature_iterations») 0 b) → r ≡ rootAnswer (solveTemperature f o)
+    unfolding remaining
+    solved-inside e q = rw (← begun, e) q
 
-  -- ---- the loop
-  pub search-begun : (limit : ℕ) (s : SearchState) {W : Out Root} → remaining f tolerance limit 0 s ≡ W → remaining f tolerance (limit - 0) 0 s ≡ W
-  search-begun limit s e =
-      let a : limit - 0 ≡ limit = omega arith in
-      rw a e
+    pub solved-end : {t : Float} → s ≡ state.Found t
+        → r ≡ record { verdict = Passed; temperature = t; iterations = 0 } → r ≡ rootAnswer (solveTemperature f o)
+    unfolding remaining rootAnswer
+    solved-end e q = rw (← begun, e) q
 
-  -- after `done` turns: what is left to run from here is the whole run W
-  module _ (limit done : ℕ) (s : SearchState) {W : Out Root} (run : remaining f tolerance (limit - done) done s ≡ W) where
-    pub search-again : (s .going && ltb done limit) ≡ true → (s₁ : SearchState) → (s .going ≡ true → remaining f tolerance (limit - (done + 1)) (suc done) s₁ ≡ remaining f tolerance (suc (limit - (done + 1))) done s) → remaining f tolerance (limit - (done + 1)) (done + 1) s₁ ≡ W
-    search-again h s₁ e =
-        let l : done < limit = more-left (s .going) done limit h in
-        let a : limit - done ≡ suc (limit - (done + 1)) = omega arith in
-        ap (λ (k : ℕ). remaining f tolerance (limit - (done + 1)) k s₁) (add-one done) ∙ e (both-first (s .going) (ltb done limit) h) ∙ (rw a at run)
-
-    -- it has stopped, or no turn is left
-    over : (b : Bool) → s .going ≡ b → (s .going && ltb done limit) ≡ false → remaining f tolerance 0 done s ≡ W
-    unfolding remaining choose
-    over true g h =
-        let k : ltb done limit ≡ false = rw g at h in
-        let a : limit - done ≡ 0 = omega (arith, ltb-false) in
-        rw a at run
-    over false g h = rw g (rw g at run)
-
-    pub search-over : (s .going && ltb done limit) ≡ false → {r : RootAnswer} → r ≡ rootAnswer (remaining f tolerance 0 done s) → r ≡ rootAnswer W
-    search-over h e = rw (← over (s .going) refl h) e
+    pub solved-not : {m : ℕ} → s ≡ state.Refused m → r ≡ rootAnswer (no m) → r ≡ rootAnswer (solveTemperature f o)
+    unfolding remaining
+    solved-not e q = rw (← begun, e) q

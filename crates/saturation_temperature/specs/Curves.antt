@@ -2,20 +2,27 @@
 use Prim.Native.Nat.{ℕ}
 use mathlib.Core.List.{List}
 use lib.Ieee.{Float}
+use Rattle.floats.specs.Vector.{places}
 use Rattle.floats.specs.Outcome.{Out}
-use Rattle.thermo_models.specs.Model.{Model, Liquids}
+use Rattle.thermo_types.specs.declared.ActivityOptions.{ActivityOptions}
+use Rattle.thermo_models.specs.Model.{Activities, Liquids}
+use Rattle.thermo_models.specs.Activity.{activityOf}
+use Rattle.thermo_models.specs.Domain.{pureLiquidsOf}
 use Rattle.saturation.specs.Saturation.{Saturation}
 use Rattle.saturation_temperature.specs.Search.{Point}
-use Rattle.saturation_temperature.specs.Boiling.{bubblePoint, dewPoint}
-use Rattle.saturation_temperature.specs.Steps.{bubbleFound, dewFound}
+use Rattle.saturation_temperature.specs.Boiling.{bubblePoint, dewPoint, bubbleFound, dewFound}
 use Rattle.saturation_temperature.specs.declared.Curve.{Curve}
 use Rattle.saturation_temperature.specs.declared.Curve.the-variants.{Bubble, Dew}
 
-module _ (E : Model) (L : Liquids) (n : ℕ) where
-  unfoldable pub pointOf : Curve → Float → List Float → Float → Float → Out Point
-  pointOf Bubble p x tolerance = bubblePoint E L n p x
-  pointOf (Dew limit) p y tolerance = dewPoint E L n p y tolerance limit
+module _ (E : Activities) (L : Liquids) (n : ℕ) where
+  unfoldable pub pointOf : Curve → ActivityOptions → Float → List Float → Float → Out Point
+  pointOf Bubble o p x = bubblePoint E L n p x
+  pointOf Dew o p y = dewPoint E L n o p y
 
-  unfoldable pub foundOf : Curve → Float → List Float → Float → ℕ → Float → Out Saturation
-  foundOf Bubble p x tolerance iterations = bubbleFound E L n p x iterations
-  foundOf (Dew limit) p y tolerance iterations = dewFound E L n p y tolerance limit iterations
+  unfoldable pub foundOf : Curve → ActivityOptions → Float → List Float → ℕ → Float → Out Saturation
+  foundOf Bubble o p x = bubbleFound E L n p x
+  foundOf Dew o p y = dewFound E L n o p y
+
+-- f of a curve, with the book's pure liquids and the parameters P
+abbrev pub curveOf : List ℕ → List Float → ℕ → Curve → ActivityOptions → Float → List Float → Float → Out Point
+curveOf book P n = pointOf (activityOf P (places n)) (pureLiquidsOf book (places n)) (places n)

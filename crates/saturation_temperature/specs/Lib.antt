@@ -2,5 +2,4 @@
 pub mod Search
 pub mod Boiling
 pub mod Answers
-pub mod Steps
 pub mod Curves

@@ -1,132 +1,173 @@
--- Which task a number names, and the two ends of a call. Assumes nothing.
-use mathlib.Core.Path.{_≡_, sym, ap, _∙_}
+-- Which task a number names, the room for an answer, and the two ends of a call. Assumes nothing.
+use mathlib.Core.Path.{_≡_, refl, sym, ap, _∙_}
+use mathlib.Core.Bool.{Bool, true, false}
 use mathlib.Core.List.{List}
-use Prim.Native.Nat.{ℕ, _≤_}
+use Prim.Native.Nat.{ℕ, _≤_, _<_}
 use native.Mathlib.Nat.{min-eq-left}
 use native.Mathlib.Omega.{arith}
-use borrow.Author.Tests.{ne-eqb}
+use borrow.Author.Tests.{ne-eqb, le-leb, lt-leb}
+use lib.ListN.{length}
 use lib.Ieee.{Float}
-use Rattle.floats.specs.Vector.{places}
-use Rattle.floats.specs.Outcome.{Out, ok, no, bind, choose}
+use Rattle.floats.specs.Vector.{at, places}
+use Rattle.floats.specs.Outcome.{Out, ok, no, bind, need, choose}
 use Rattle.thermo_types.specs.declared.Verdict.the-variants.{Passed, Refused}
-use Rattle.thermo_types.specs.Quantities.{positiveOf}
+use Rattle.thermo_types.specs.declared.Temperature.{Temperature}
+use Rattle.thermo_types.specs.declared.Pressure.{Pressure}
+use Rattle.thermo_types.specs.declared.NewTemperature.{NewTemperature}
+use Rattle.thermo_types.specs.declared.NewPressure.{NewPressure}
+use Rattle.thermo_types.specs.declared.NewTemperature.the-variants as temperature
+use Rattle.thermo_types.specs.declared.NewPressure.the-variants as pressure
+use Rattle.thermo_types.specs.Quantities.{positiveOf, newTemperature, newPressure}
+use Rattle.blocks.specs.declared.Rule.{Rule}
+use Rattle.book.specs.declared.Head.{Head}
 use Rattle.book.specs.declared.Opened.{Opened}
 use Rattle.book.specs.declared.Opened.the-variants.{Book, No}
-use Rattle.book.specs.Book.{bookOf, openedOf}
+use Rattle.book.specs.Book.{bookOf, ruleOf, openedOf}
 use Rattle.book.proofs.Laws.{opened-ok, opened-no}
 use Rattle.book.proofs.Accepted.{accepted}
+use Rattle.blocks.specs.Bytes.{wordAt, blockBytes}
+use Rattle.records.specs.Parameters.{parametersOf}
+use Rattle.thermo_models.specs.Domain.{pureLiquidsOf}
+use Rattle.thermo_models.specs.Activity.{activityOf}
+use Rattle.thermo_models.specs.Mixture.{Mixture, mixtureWith, mixtureOf}
+use Rattle.rachford_rice.specs.declared.RachfordRice.{RachfordRice}
+use Rattle.rachford_rice.specs.Rachford.{constrained, negative, splitOf, answerOf}
+use Rattle.saturation.specs.declared.ActivitySaturation.{ActivitySaturation}
+use Rattle.saturation.specs.Saturation.{bubblePressure, dewPressurePoint}
+use Rattle.saturation.specs.Answers.{saturationAnswer}
+use Rattle.saturation_temperature.specs.Boiling.{bubbleTemperature, dewTemperature}
+use Rattle.question.specs.Inputs.{needsTemperature, needsPressure}
 use Rattle.question.specs.declared.Question.{Question}
 use Rattle.question.specs.declared.Asked.{Asked}
-use Rattle.question.specs.Asked.{askedOf}
-use Rattle.sheet.specs.Tasks.{tauOf, alphaOf, task1, task2, task3, task4, task5, task6, task7, task8, task9, taskOf}
-use Rattle.sheet.specs.Sheet.{Answers, sheetOf}
-use Rattle.sheet.specs.Steps.{replied, sheetWith, from1, from2, from3, from4, from5, from6, from7, from8, from9}
-use Rattle.sheet.proofs.Laws.{refuses, goes-on}
+use Rattle.question.specs.Asked.{questionOf, askedOf}
+use Rattle.replies.specs.Blocks.{Answer, answerWords, answerRoom}
+use Rattle.replies.specs.Answers.{riceBlock}
+use Rattle.sheet.specs.Tasks.{task1, task2, task3, task4, task5, task6, task7, task8, task9, taskAt, taskUnder, taskSplit, taskOf}
+use Rattle.sheet.specs.Sheet.{Answers, Says, replied, onPassed, answerTo, roomy, sheetFrom, sheetOf}
+use Rattle.sheet.proofs.Laws.{says-no, says-yes, refuses, goes-on, same-as, by-yes, by-no, is-task, not-task}
+use Rattle.sheet.proofs.Replies.{temperature-ok, pressure-ok, constrained-says, split-says}
 
-module _ (book : List ℕ) (n : ℕ) (q : Question) where
-  is-1 : q .task ≡ 1 → taskOf book n q ≡ task1 book n q
-  unfolding taskOf choose
-  is-1 e = rw e
+-- ---- the tasks, with the book's parameters
+module _ (rule : Rule) (book : List ℕ) (n : ℕ) (q : Question) {P : List Float} {r : ℕ} {old new : List ℕ} where
+  pub temperature-given : {made : NewTemperature} {t : Temperature} → P ≡ parametersOf book n → made ≡ newTemperature (positiveOf (q .temperature) 13) → made ≡ temperature.Valid t
+      → Answers (replied rule (q .task) (taskAt (mixtureWith book P n) q (t .0))) r old new
+      → Answers (replied rule (q .task) (bind (positiveOf (q .temperature) 13) (taskAt (mixtureOf book n) q))) r old new
+  temperature-given p e d h = temperature-ok rule (q .task) _ _ e d (rw p at h)
 
-  is-2 : q .task ≡ 2 → taskOf book n q ≡ task2 book n q
-  unfolding taskOf choose
-  is-2 e = rw e
+  pub pressure-given : {made : NewPressure} {v : Pressure} → P ≡ parametersOf book n → made ≡ newPressure (positiveOf (q .pressure) 14) → made ≡ pressure.Valid v
+      → Answers (replied rule (q .task) (taskUnder (mixtureWith book P n) q (v .0))) r old new
+      → Answers (replied rule (q .task) (bind (positiveOf (q .pressure) 14) (taskUnder (mixtureOf book n) q))) r old new
+  pressure-given p e d h = pressure-ok rule (q .task) _ _ e d (rw p at h)
 
-  is-3 : q .task ≡ 3 → taskOf book n q ≡ task3 book n q
-  unfolding taskOf choose
-  is-3 e = rw e
+-- ---- by the task's number; t in K, p in Pa
+module _ (rule : Rule) (book : List ℕ) (n : ℕ) (q : Question) (P : List Float) (t : Float) {r : ℕ} {old new : List ℕ} where
+  at-task : {a : Out Answer} → taskAt (mixtureWith book P n) q t ≡ a → Answers (replied rule (q .task) a) r old new → Answers (replied rule (q .task) (taskAt (mixtureWith book P n) q t)) r old new
+  at-task e h = same-as (ap (replied rule (q .task)) e) h
 
-  is-4 : q .task ≡ 4 → taskOf book n q ≡ task4 book n q
-  unfolding taskOf choose
-  is-4 e = rw e
+  pub at-1 : q .task ≡ 1 → Answers (replied rule (q .task) (task1 (mixtureWith book P n) q t)) r old new → Answers (replied rule (q .task) (taskAt (mixtureWith book P n) q t)) r old new
+  unfolding taskAt choose
+  at-1 e h = at-task (rw e) h
 
-  is-5 : q .task ≡ 5 → taskOf book n q ≡ task5 book n q
-  unfolding taskOf choose
-  is-5 e = rw e
+  pub at-2 : {s : ActivitySaturation} → q .task ≡ 2 → s ≡ saturationAnswer (bubblePressure (activityOf P n) (pureLiquidsOf book n) n t (q .fractions)) → Says rule (q .task) s r old new
+      → Answers (replied rule (q .task) (taskAt (mixtureWith book P n) q t)) r old new
+  unfolding taskAt choose task2 activityOf
+  at-2 e a h = at-task (rw e) (h .says _ a)
 
-  is-6 : q .task ≡ 6 → taskOf book n q ≡ task6 book n q
-  unfolding taskOf choose
-  is-6 e = rw e
+  pub at-3 : {s : ActivitySaturation} → q .task ≡ 3 → s ≡ saturationAnswer (dewPressurePoint (activityOf P n) (pureLiquidsOf book n) n (q .options) t (q .fractions))
+      → Says rule (q .task) s r old new → Answers (replied rule (q .task) (taskAt (mixtureWith book P n) q t)) r old new
+  unfolding taskAt choose task3 activityOf
+  at-3 e a h = at-task (rw e) (h .says _ a)
 
-  is-7 : q .task ≡ 7 → taskOf book n q ≡ task7 book n q
-  unfolding taskOf choose
-  is-7 e = rw e
+  pub at-6 : q .task ≡ 6 → Answers (replied rule (q .task) (task6 (mixtureWith book P n) q t)) r old new → Answers (replied rule (q .task) (taskAt (mixtureWith book P n) q t)) r old new
+  unfolding taskAt choose
+  at-6 e h = at-task (rw e) h
 
-  is-8 : q .task ≡ 8 → taskOf book n q ≡ task8 book n q
-  unfolding taskOf choose
-  is-8 e = rw e
+  pub at-rest : (q .task ≡ 1 → ⊥) → (q .task ≡ 2 → ⊥) → (q .task ≡ 3 → ⊥) → (q .task ≡ 6 → ⊥)
+      → Answers (replied rule (q .task) (bind (positiveOf (q .pressure) 14) (task7 (mixtureWith book P n) q t))) r old new → Answers (replied rule (q .task) (taskAt (mixtureWith book P n) q t)) r old new
+  unfolding taskAt choose
+  at-rest a b c d h = at-task (rw (ne-eqb (q .task) 1 a, ne-eqb (q .task) 2 b, ne-eqb (q .task) 3 c, ne-eqb (q .task) 6 d)) h
 
-  is-9 : q .task ≡ 9 → taskOf book n q ≡ task9 book n q
-  unfolding taskOf choose
-  is-9 e = rw e
+  pub under-4 : {s : ActivitySaturation} → q .task ≡ 4 → s ≡ saturationAnswer (bubbleTemperature (activityOf P n) (pureLiquidsOf book n) n (q .options) t (q .fractions))
+      → Says rule (q .task) s r old new → Answers (replied rule (q .task) (taskUnder (mixtureWith book P n) q t)) r old new
+  unfolding taskUnder task4 activityOf
+  under-4 e a h = is-task rule (q .task) _ _ e (h .says _ a)
 
-  none-is : ((k : ℕ) → 1 ≤ k → k ≤ 9 → q .task ≡ k → ⊥) → taskOf book n q ≡ no 12
-  unfolding taskOf choose
-  none-is f =
-      rw (
-        ne-eqb (q .task) 1 (f 1 (omega arith) (omega arith)),
-        ne-eqb (q .task) 2 (f 2 (omega arith) (omega arith)),
-        ne-eqb (q .task) 3 (f 3 (omega arith) (omega arith)),
-        ne-eqb (q .task) 4 (f 4 (omega arith) (omega arith)),
-        ne-eqb (q .task) 5 (f 5 (omega arith) (omega arith)),
-        ne-eqb (q .task) 6 (f 6 (omega arith) (omega arith)),
-        ne-eqb (q .task) 7 (f 7 (omega arith) (omega arith)),
-        ne-eqb (q .task) 8 (f 8 (omega arith) (omega arith)),
-        ne-eqb (q .task) 9 (f 9 (omega arith) (omega arith)),
-      )
+  pub under-5 : {s : ActivitySaturation} → (q .task ≡ 4 → ⊥) → s ≡ saturationAnswer (dewTemperature (activityOf P n) (pureLiquidsOf book n) n (q .options) t (q .fractions))
+      → Says rule (q .task) s r old new → Answers (replied rule (q .task) (taskUnder (mixtureWith book P n) q t)) r old new
+  unfolding taskUnder task5 activityOf
+  under-5 e a h = not-task rule (q .task) _ _ e (h .says _ a)
 
-  module _ {tau alpha : List Float} (a : tau ≡ tauOf book n) (b : alpha ≡ alphaOf book n) {r : ℕ} {old new : List ℕ} where
-    pub by-1 : q .task ≡ 1 → Answers (replied (q .task) (bind (positiveOf (q .temperature) 13) (from1 book tau alpha n q))) r old new → Answers (replied (q .task) (taskOf book n q)) r old new
-    unfolding task1 from1
-    by-1 e h = rw (is-1 e) (rw (a, b) at h)
+abbrev Splits : Rule → ℕ → RachfordRice → ℕ → List ℕ → List ℕ → Type 0
+Splits rule task s r old new = Answers (onPassed (s .verdict) (blockBytes rule (wordAt (answerWords task (riceBlock (s .outcome) (s .liquid) (s .vapor)))))) r old new
 
-    pub by-2 : q .task ≡ 2 → Answers (replied (q .task) (bind (positiveOf (q .temperature) 13) (from2 book tau alpha n q))) r old new → Answers (replied (q .task) (taskOf book n q)) r old new
-    unfolding task2 from2
-    by-2 e h = rw (is-2 e) (rw (a, b) at h)
+module _ (rule : Rule) (m : Mixture) (q : Question) {s : RachfordRice} {r : ℕ} {old new : List ℕ} where
+  pub split-8 : q .task ≡ 8 → s ≡ answerOf (constrained (at (q .fractions)) (at (q .ratios)) (m .n) (q .options .«max_iterations»)) → Splits rule (q .task) s r old new
+      → Answers (replied rule (q .task) (taskSplit m q)) r old new
+  unfolding taskSplit task8
+  split-8 e a h = is-task rule (q .task) _ _ e (constrained-says rule (q .task) _ _ _ _ a h)
 
-    pub by-3 : q .task ≡ 3 → Answers (replied (q .task) (bind (positiveOf (q .temperature) 13) (from3 book tau alpha n q))) r old new → Answers (replied (q .task) (taskOf book n q)) r old new
-    unfolding task3 from3
-    by-3 e h = rw (is-3 e) (rw (a, b) at h)
+  pub split-9 : q .task ≡ 9 → s ≡ splitOf (negative (at (q .fractions)) (at (q .ratios)) (m .n) (q .options .«max_iterations»)) → Splits rule (q .task) s r old new
+      → Answers (replied rule (q .task) (taskSplit m q)) r old new
+  unfolding taskSplit task9
+  split-9 e a h = not-task rule (q .task) _ _ (λ (n : q .task ≡ 8). omega (arith, e)) (is-task rule (q .task) _ _ e (split-says rule (q .task) _ a h))
 
-    pub by-4 : q .task ≡ 4 → Answers (replied (q .task) (bind (positiveOf (q .pressure) 14) (from4 book tau alpha n q))) r old new → Answers (replied (q .task) (taskOf book n q)) r old new
-    unfolding task4 from4
-    by-4 e h = rw (is-4 e) (rw (a, b) at h)
+pub split-none : (rule : Rule) (m : Mixture) (q : Question) {old : List ℕ} → (q .task ≡ 8 → ⊥) → (q .task ≡ 9 → ⊥) → Answers (replied rule (q .task) (taskSplit m q)) 12 old old
+unfolding taskSplit
+split-none rule m q a b = not-task rule (q .task) _ _ a (not-task rule (q .task) _ _ b (refuses {o = no 12} _ refl))
 
-    pub by-5 : q .task ≡ 5 → Answers (replied (q .task) (bind (positiveOf (q .pressure) 14) (from5 book tau alpha n q))) r old new → Answers (replied (q .task) (taskOf book n q)) r old new
-    unfolding task5 from5
-    by-5 e h = rw (is-5 e) (rw (a, b) at h)
+module _ (rule : Rule) (m : Mixture) (q : Question) {r : ℕ} {old new : List ℕ} where
+  pub solved-at : {f : Bool} → f ≡ needsTemperature (q .task) → f ≡ true
+      → Answers (replied rule (q .task) (bind (positiveOf (q .temperature) 13) (taskAt m q))) r old new → Answers (replied rule (q .task) (taskOf m q)) r old new
+  unfolding taskOf
+  solved-at e t h = by-yes rule (q .task) _ _ e t h
 
-    pub by-6 : q .task ≡ 6 → Answers (replied (q .task) (bind (positiveOf (q .temperature) 13) (from6 tau alpha n q))) r old new → Answers (replied (q .task) (taskOf book n q)) r old new
-    unfolding task6 from6
-    by-6 e h = rw (is-6 e) (rw (a, b) at h)
+  pub solved-under : {f g : Bool} → f ≡ needsTemperature (q .task) → f ≡ false → g ≡ needsPressure (q .task) → g ≡ true
+      → Answers (replied rule (q .task) (bind (positiveOf (q .pressure) 14) (taskUnder m q))) r old new → Answers (replied rule (q .task) (taskOf m q)) r old new
+  unfolding taskOf
+  solved-under e t d u h = by-no rule (q .task) _ _ e t (by-yes rule (q .task) _ _ d u h)
 
-    pub by-7 : q .task ≡ 7 → Answers (replied (q .task) (bind (positiveOf (q .temperature) 13) (λ t. bind (positiveOf (q .pressure) 14) (from7 book tau alpha n q t)))) r old new
-        → Answers (replied (q .task) (taskOf book n q)) r old new
-    unfolding task7 from7
-    by-7 e h = rw (is-7 e) (rw (a, b) at h)
+  pub solved-split : {f g : Bool} → f ≡ needsTemperature (q .task) → f ≡ false → g ≡ needsPressure (q .task) → g ≡ false
+      → Answers (replied rule (q .task) (taskSplit m q)) r old new → Answers (replied rule (q .task) (taskOf m q)) r old new
+  unfolding taskOf
+  solved-split e t d u h = by-no rule (q .task) _ _ e t (by-no rule (q .task) _ _ d u h)
 
-  module _ {r : ℕ} {old new : List ℕ} where
-    pub by-8 : q .task ≡ 8 → Answers (replied (q .task) (from8 n q)) r old new → Answers (replied (q .task) (taskOf book n q)) r old new
-    unfolding task8 from8
-    by-8 e h = rw (is-8 e) h
+-- ---- the room
+pub short : (o : Out (List ℕ)) {old : List ℕ} → length old < answerRoom → Answers (roomy (length old) o) 10 old old
+unfolding roomy
+short o {old} l = says-no 10 o (lt-leb answerRoom (length old) l)
 
-    pub by-9 : q .task ≡ 9 → Answers (replied (q .task) (from9 n q)) r old new → Answers (replied (q .task) (taskOf book n q)) r old new
-    unfolding task9 from9
-    by-9 e h = rw (is-9 e) h
+pub roomed : {o : Out (List ℕ)} {r : ℕ} {old new : List ℕ} → answerRoom ≤ length old → Answers o r old new → Answers (roomy (length old) o) r old new
+unfolding roomy
+roomed {old = old} l h = says-yes 10 (le-leb answerRoom (length old) l) h
 
-  pub by-none : {old : List ℕ} → ((k : ℕ) → 1 ≤ k → k ≤ 9 → q .task ≡ k → ⊥) → Answers (replied (q .task) (taskOf book n q)) 12 old old
-  by-none f = refuses _ (none-is f)
+unroomed : (o : Out (List ℕ)) {r : ℕ} {old new : List ℕ} → answerRoom ≤ length old → Answers (roomy (length old) o) r old new → Answers o r old new
+unfolding roomy need
+unroomed o {old = old} l h = rw (le-leb answerRoom (length old) l) at h
 
--- ---- the question's verdict
-pub asked-no : (o : Out Question) {x : Asked} {r : ℕ} → x ≡ askedOf o → x .verdict ≡ Refused r → o ≡ no r
+-- ---- the question
+module _ (book : List ℕ) (n : ℕ) {r : ℕ} {old new : List ℕ} {rule : Rule} where
+  pub asked : (q : Question) → rule ≡ ruleOf book → answerRoom ≤ length old → Answers (replied rule (q .task) (taskOf (mixtureOf book n) q)) r old new
+      → Answers (roomy (length old) (answerTo book n q)) r old new
+  unfolding answerTo
+  asked q e l h = roomed l (rw e at h)
+
+asked-no : (o : Out Question) {x : Asked} {r : ℕ} → x ≡ askedOf o → x .verdict ≡ Refused r → o ≡ no r
 unfolding askedOf
 asked-no (ok a) e q = let z : _≡_ {A = ℕ} 0 1 = cc in absurd (omega arith)
 asked-no (no m) e q = cc
 
-pub asked-ok : (o : Out Question) {x : Asked} → x ≡ askedOf o → x .verdict ≡ Passed → o ≡ ok (x .question)
+asked-ok : (o : Out Question) {x : Asked} → x ≡ askedOf o → x .verdict ≡ Passed → o ≡ ok (x .question)
 unfolding askedOf
 asked-ok (ok a) e q = ap (λ (y : Asked). ok (y .question)) (sym e)
 asked-ok (no m) e q = let z : _≡_ {A = ℕ} 0 1 = cc in absurd (omega arith)
+
+module _ (book question : List ℕ) (n : ℕ) {rule : Rule} (u : rule ≡ ruleOf book) {x : Asked} (e : x ≡ askedOf (questionOf rule question n)) {r : ℕ} {old : List ℕ} where
+  pub question-no : x .verdict ≡ Refused r → Answers (bind (questionOf (ruleOf book) question n) (answerTo book n)) r old old
+  question-no q = refuses _ (asked-no _ (rw u at e) q)
+
+  pub question-ok : {new : List ℕ} → x .verdict ≡ Passed → answerRoom ≤ length old → Answers (roomy (length old) (answerTo book n (x .question))) r old new
+      → Answers (bind (questionOf (ruleOf book) question n) (answerTo book n)) r old new
+  question-ok q l h = goes-on _ (asked-ok _ (rw u at e) q) (unroomed _ l h)
 
 -- ---- the book
 module _ (book question : List ℕ) (room : ℕ) {x : Opened} (e : x ≡ openedOf (bookOf book)) where
@@ -134,9 +175,9 @@ module _ (book question : List ℕ) (room : ℕ) {x : Opened} (e : x ≡ openedO
   unfolding sheetOf
   book-no q = refuses _ (opened-no (bookOf book) (sym q ∙ e))
 
-  pub book-ok : {n r : ℕ} {old new : List ℕ} → x ≡ Book n → Answers (sheetWith book question room (places n)) r old new → Answers (sheetOf book question room) r old new
-  unfolding sheetOf sheetWith
-  book-ok {n} q h =
-      let o : bookOf book ≡ ok n = opened-ok (bookOf book) (sym q ∙ e) in
-      let m : places n ≡ n = min-eq-left (accepted book o .few) in
-      goes-on _ o (rw m at h)
+  pub book-ok : {h : Head} {r : ℕ} {old new : List ℕ} → x ≡ Book h → Answers (sheetFrom book (places (h .n)) question room) r old new → Answers (sheetOf book question room) r old new
+  unfolding sheetOf
+  book-ok {h} q a =
+      let o : bookOf book ≡ ok h = opened-ok (bookOf book) (sym q ∙ e) in
+      let m : places (h .n) ≡ h .n = min-eq-left (accepted book o .few) in
+      goes-on _ o (rw m at a)

@@ -5,21 +5,24 @@ use mathlib.Core.Bool.{Bool, true, false}
 use Prim.Native.Nat.{ℕ, zero, suc, _+_, _*_, _≤_, _<_}
 use native.Mathlib.Numerals.{add-one}
 use native.Mathlib.Omega.{arith}
+use lib.Dec.{eqb}
+use borrow.Author.Tests.{eq-eqb, ne-eqb}
 use lib.ListN.{length, getD, take, drop, length-append, take-append-drop}
 use lib.Seq.{length-take-le, take-at, drop-append-add, drop-drop}
 use lib.Ieee.{Float}
-use Rattle.floats.specs.Outcome.{Out, ok, no, bind, need}
+use Rattle.floats.specs.Outcome.{Out, ok, no, bind, need, choose}
+use Rattle.floats.proofs.Outcomes.{choose-yes, choose-no}
 use Rattle.thermo_types.specs.declared.Verdict.{Verdict}
 use Rattle.thermo_types.specs.declared.Verdict.the-variants.{Passed, Refused}
-use Rattle.blocks.specs.Bytes.{wordAt, put, rowTo, blockBytes}
-use Rattle.blocks.specs.Bytes as slices
-use Rattle.blocks.proofs.Laws.{length-block-bytes, length-row, put-more, written-fits, written-front}
+use Rattle.blocks.specs.declared.Rule.{Rule}
+use Rattle.blocks.specs.Bytes.{wordAt, put, stored, rowTo, blockBytes}
+use Rattle.blocks.proofs.Laws.{length-block-bytes, length-row, put-more, stored-fits, stored-front}
 use Rattle.liquid_stability.specs.declared.LiquidStabilityTrial.{LiquidStabilityTrial}
 use Rattle.liquid_stability.specs.Stability.{noTrial}
-use Rattle.replies.specs.Blocks.{answerWords, trialWords, trialBytes, answerBytes}
-use Rattle.sheet.specs.Tasks.{sheet}
-use Rattle.sheet.specs.Sheet.{Answers, numberOf, written}
-use Rattle.sheet.specs.Steps.{onPassed}
+use Rattle.replies.specs.declared.AnswerBlock.{AnswerBlock}
+use Rattle.replies.specs.Blocks.{Answer, answerRoom, answerWords, trialWords, trialBytes, answerBytes}
+use Rattle.sheet.specs.Tasks.{alone}
+use Rattle.sheet.specs.Sheet.{Answers, numberOf, written, replied, onPassed}
 
 -- ---- tests in a row
 pub says-no : (r : ℕ) (o : Out (List ℕ)) {b : Bool} {old : List ℕ} → b ≡ false → Answers (need b r o) r old old
@@ -41,38 +44,56 @@ goes-on k e h = record { number = rw e (h .number); bytes = rw e (h .bytes) }
 pub same-as : {o p : Out (List ℕ)} {r : ℕ} {old new : List ℕ} → o ≡ p → Answers p r old new → Answers o r old new
 same-as e h = record { number = rw e (h .number); bytes = rw e (h .bytes) }
 
+-- ---- tasks in a row, by a test or by the task's number
+module _ (rule : Rule) (task : ℕ) (a b : Out Answer) {r : ℕ} {old new : List ℕ} where
+  pub by-yes : {f t : Bool} → f ≡ t → f ≡ true → Answers (replied rule task a) r old new → Answers (replied rule task (choose t a b)) r old new
+  by-yes e q h = same-as (ap (replied rule task) (choose-yes a b (sym e ∙ q))) h
+
+  pub by-no : {f t : Bool} → f ≡ t → f ≡ false → Answers (replied rule task b) r old new → Answers (replied rule task (choose t a b)) r old new
+  by-no e q h = same-as (ap (replied rule task) (choose-no a b (sym e ∙ q))) h
+
+  pub is-task : {t k : ℕ} → t ≡ k → Answers (replied rule task a) r old new → Answers (replied rule task (choose (eqb t k) a b)) r old new
+  is-task {t} {k} e h = same-as (ap (replied rule task) (choose-yes a b (eq-eqb t k e))) h
+
+  pub not-task : {t k : ℕ} → (t ≡ k → ⊥) → Answers (replied rule task b) r old new → Answers (replied rule task (choose (eqb t k) a b)) r old new
+  not-task {t} {k} e h = same-as (ap (replied rule task) (choose-no a b (ne-eqb t k e))) h
+
 -- ---- the answer block
 pub head-no : (bs : List ℕ) {v : Verdict} {r : ℕ} {old : List ℕ} → v ≡ Refused r → Answers (onPassed v bs) r old old
 unfolding onPassed numberOf written
 head-no bs e = record { number = rw e; bytes = rw e }
 
-pub head-yes : (ws old : List ℕ) {v : Verdict} {new : List ℕ} → 512 ≤ length old → v ≡ Passed → new ≡ slices.written old 0 (blockBytes (wordAt ws)) → Answers (onPassed v (blockBytes (wordAt ws))) 0 old new
-unfolding onPassed numberOf written
-head-yes ws old h e o = record { number = rw e; bytes = rw (e, length-block-bytes (wordAt ws)) (o ∙ written-front (wordAt ws) old h) }
+module _ (rule : Rule) where
+  pub head-yes : (ws old : List ℕ) {v : Verdict} {us new : List ℕ} → answerRoom ≤ length old → v ≡ Passed → us ≡ ws → new ≡ stored old 0 (blockBytes rule (wordAt us))
+      → Answers (onPassed v (blockBytes rule (wordAt ws))) 0 old new
+  unfolding onPassed numberOf written
+  head-yes ws old h e w o =
+      let l : 512 ≤ length old = omega arith in
+      record { number = rw e; bytes = rw (e, length-block-bytes rule (wordAt ws)) ((rw w at o) ∙ stored-front rule (wordAt ws) old l) }
 
--- an answer of one block
-pub one-block : (task outcome : ℕ) (state : List ℕ) (liquid vapor : List Float) (model : List ℕ)
-    → answerBytes task (sheet outcome state liquid vapor model) ≡ blockBytes (wordAt (answerWords task outcome state liquid vapor model))
-unfolding answerBytes rowTo
-one-block task outcome state liquid vapor model = append-nil (blockBytes (wordAt (answerWords task outcome state liquid vapor model)))
+  -- an answer without trials is its block
+  pub one-block : (task : ℕ) (b : AnswerBlock) → b .state .trials ≡ 0 → answerBytes rule task (alone b) ≡ blockBytes rule (wordAt (answerWords task b))
+  unfolding answerBytes rowTo
+  one-block task b z =
+      ap (λ (k : ℕ). blockBytes rule (wordAt (answerWords task b)) ++ rowTo (trialBytes rule []) k) z ∙ append-nil (blockBytes rule (wordAt (answerWords task b)))
 
--- ---- the trials behind it
-pub trial-length : (l : List LiquidStabilityTrial) (k : ℕ) → length (trialBytes l k) ≡ 512
-unfolding trialBytes
-trial-length l k = length-block-bytes (wordAt (trialWords (getD l k noTrial)))
+  -- ---- the trials behind it
+  pub trial-length : (l : List LiquidStabilityTrial) (k : ℕ) → length (trialBytes rule l k) ≡ 512
+  unfolding trialBytes
+  trial-length l k = length-block-bytes rule (wordAt (trialWords (getD l k noTrial)))
+
+  -- block k + 1 is written
+  pub trial-put : (t : LiquidStabilityTrial) (k : ℕ) (old : List ℕ) {ws new : List ℕ} → k < 8 → answerRoom ≤ length old → ws ≡ trialWords t
+      → new ≡ stored old (512 * (k + 1)) (blockBytes rule (wordAt ws)) → new ≡ put old (512 * (k + 1)) (blockBytes rule (wordAt (trialWords t)))
+  trial-put t k old {ws} h l e o =
+      let f : 512 * (k + 1) + 512 ≤ length old = omega arith in
+      (rw e at o) ∙ stored-fits old (blockBytes rule (wordAt (trialWords t))) (512 * (k + 1)) (length-block-bytes rule (wordAt (trialWords t))) f
 
 -- an entry that is there, whatever is read past the end
-pub entry : {A : Type 0} (l : List A) (k : ℕ) (d e : A) → k < length l → getD l k d ≡ getD l k e
+entry : {A : Type 0} (l : List A) (k : ℕ) (d e : A) → k < length l → getD l k d ≡ getD l k e
 entry [] k d e h = absurd (omega arith)
 entry (x ∷ l) zero d e h = refl
 entry (x ∷ l) (suc k) d e h = entry l k d e (omega arith)
-
--- block k + 1 is written
-pub trial-put : (t : LiquidStabilityTrial) (k : ℕ) (old : List ℕ) {ws new : List ℕ} → k < 8 → 4608 ≤ length old → ws ≡ trialWords t
-    → new ≡ slices.written old (512 * (k + 1)) (blockBytes (wordAt ws)) → new ≡ put old (512 * (k + 1)) (blockBytes (wordAt (trialWords t)))
-trial-put t k old {ws} h l e o =
-    let f : 512 * (k + 1) + 512 ≤ length old = omega arith in
-    (rw e at o) ∙ written-fits old (blockBytes (wordAt (trialWords t))) (512 * (k + 1)) (length-block-bytes (wordAt (trialWords t))) f
 
 front-length : (f : ℕ → List ℕ) (k : ℕ) (mid : List ℕ) → 512 ≤ length mid → ((i : ℕ) → length (f i) ≡ 512) → length (take 512 mid ++ rowTo f k) ≡ 512 * (k + 1)
 front-length f k mid h e =
@@ -85,44 +106,41 @@ unfolding rowTo
 row-suc f k = rw add-one
 
 -- the first k trials stand behind the first block, and what was there behind them
-pub record Behind (l : List LiquidStabilityTrial) (k : ℕ) (mid out : List ℕ) : Type 0 where
-  pub eight : length l ≡ 8
-  pub room : 4608 ≤ length mid
-  pub row : out ≡ (take 512 mid ++ rowTo (trialBytes l) k) ++ drop (512 * (k + 1)) mid
+pub record Behind (rule : Rule) (l : List LiquidStabilityTrial) (k : ℕ) (mid out : List ℕ) : Type 0 where
+  pub room : answerRoom ≤ length mid
+  pub row : out ≡ (take 512 mid ++ rowTo (trialBytes rule l) k) ++ drop (512 * (k + 1)) mid
 
-pub behind-none : (l : List LiquidStabilityTrial) (mid : List ℕ) → length l ≡ 8 → 4608 ≤ length mid → Behind l 0 mid mid
+pub behind-none : (rule : Rule) (l : List LiquidStabilityTrial) (mid : List ℕ) → answerRoom ≤ length mid → Behind rule l 0 mid mid
 unfolding rowTo
-behind-none l mid e h = record { eight = e; room = h; row = rw append-nil (sym (take-append-drop 512 mid)) }
+behind-none rule l mid h = record { room = h; row = rw append-nil (sym (take-append-drop 512 mid)) }
 
-pub behind-turn : {l : List LiquidStabilityTrial} {k : ℕ} {mid out out' : List ℕ} {t : LiquidStabilityTrial} → Behind l k mid out → t ≡ getD l k noTrial
-    → out' ≡ put out (512 * (k + 1)) (blockBytes (wordAt (trialWords t))) → Behind l (k + 1) mid out'
+pub behind-turn : {rule : Rule} {l : List LiquidStabilityTrial} {k : ℕ} {mid out out' : List ℕ} (d : LiquidStabilityTrial) → Behind rule l k mid out → k < length l
+    → out' ≡ put out (512 * (k + 1)) (blockBytes rule (wordAt (trialWords (getD l k d)))) → Behind rule l (k + 1) mid out'
 unfolding trialBytes
-behind-turn {l} {k} {mid} h t o =
-    let b = blockBytes (wordAt (trialWords (getD l k noTrial))) in
-    let p = take 512 mid ++ rowTo (trialBytes l) k in
-    let m : 512 * (k + 1) + length b ≡ 512 * (k + 1 + 1) = omega (arith, length-block-bytes (wordAt (trialWords (getD l k noTrial)))) in
+behind-turn {rule} {l} {k} {mid} d h j o =
+    let b = blockBytes rule (wordAt (trialWords (getD l k noTrial))) in
+    let p = take 512 mid ++ rowTo (trialBytes rule l) k in
+    let m : 512 * (k + 1) + length b ≡ 512 * (k + 1 + 1) = omega (arith, length-block-bytes rule (wordAt (trialWords (getD l k noTrial)))) in
     let w : 512 ≤ length mid = omega (arith, h .room) in
     let e : put (p ++ drop (512 * (k + 1)) mid) (512 * (k + 1)) b ≡ (p ++ b) ++ drop (512 * (k + 1) + length b) mid =
-    put-more p mid b (512 * (k + 1)) (front-length (trialBytes l) k mid w (trial-length l)) in
-    let s : p ++ b ≡ take 512 mid ++ rowTo (trialBytes l) (k + 1) = append-assoc (take 512 mid) (rowTo (trialBytes l) k) b ∙ rw (row-suc (trialBytes l) k) in
-    record {
-      eight = h .eight;
-      room = h .room;
-      row = o ∙ rw (t, h .row) (e ∙ ap (λ (i : ℕ). (p ++ b) ++ drop i mid) m ∙ ap (λ (u : List ℕ). u ++ drop (512 * (k + 1 + 1)) mid) s);
-    }
+    put-more p mid b (512 * (k + 1)) (front-length (trialBytes rule l) k mid w (trial-length rule l)) in
+    let s : p ++ b ≡ take 512 mid ++ rowTo (trialBytes rule l) (k + 1) = append-assoc (take 512 mid) (rowTo (trialBytes rule l) k) b ∙ rw (row-suc (trialBytes rule l) k) in
+    record { room = h .room; row = o ∙ rw (entry l k d noTrial j, h .row) (e ∙ ap (λ (i : ℕ). (p ++ b) ++ drop i mid) m ∙ ap (λ (u : List ℕ). u ++ drop (512 * (k + 1 + 1)) mid) s) }
 
--- the whole answer, or nothing
-pub trials-end : (v : Verdict) (head : List ℕ) (f : ℕ → List ℕ) (k : ℕ) {number : ℕ} {old mid out : List ℕ} → length head ≡ 512 → ((i : ℕ) → length (f i) ≡ 512)
-    → ((r : ℕ) → v ≡ Refused r → k ≡ 0) → Answers (onPassed v head) number old mid
-    → out ≡ (take 512 mid ++ rowTo f k) ++ drop (512 * (k + 1)) mid → Answers (onPassed v (head ++ rowTo f k)) number old out
-unfolding onPassed numberOf written rowTo
-trials-end Passed head f k {number} {old} {mid} {out} e g z h o =
-    let m : mid ≡ head ++ drop 512 old = rw e at (h .bytes) in
+-- the block, then the trials
+pub answer-yes : (rule : Rule) (task : ℕ) (b : AnswerBlock) (l : List LiquidStabilityTrial) {v : Verdict} {ws old mid new : List ℕ} → answerRoom ≤ length old → v ≡ Passed
+    → ws ≡ answerWords task b → mid ≡ stored old 0 (blockBytes rule (wordAt ws))
+    → new ≡ (take 512 mid ++ rowTo (trialBytes rule l) (b .state .trials)) ++ drop (512 * (b .state .trials + 1)) mid
+    → Answers (onPassed v (answerBytes rule task (record { block = b; trials = l }))) 0 old new
+unfolding onPassed numberOf written answerBytes
+answer-yes rule task b l {v} {ws} {old} {mid} h q w o p =
+    let k = b .state .trials in
+    let head = blockBytes rule (wordAt (answerWords task b)) in
+    let e : length head ≡ 512 = length-block-bytes rule (wordAt (answerWords task b)) in
+    let g : 512 ≤ length old = omega arith in
+    let m : mid ≡ head ++ drop 512 old = (rw w at o) ∙ stored-front rule (wordAt (answerWords task b)) old g in
     let a : take 512 mid ≡ head = rw m (take-at head (drop 512 old) 512 e) in
     let s : 512 * (k + 1) ≡ length head + 512 * k = omega arith in
-    let b : drop (512 * (k + 1)) mid ≡ drop (512 + 512 * k) old = rw (m, s) (drop-append-add head (drop 512 old) (512 * k) ∙ drop-drop (512 * k) 512 old) in
-    let n : length (head ++ rowTo f k) ≡ 512 + 512 * k = rw (length-append, e, length-row f 512 k g) (omega arith) in
-    record { number = h .number; bytes = rw n (o ∙ rw (a, b)) }
-trials-end (Refused r) head f k {number} {old} {mid} {out} e g z h o =
-    let k0 : k ≡ 0 = z r refl in
-    record { number = h .number; bytes = (rw (k0, append-nil, take-append-drop) at o) ∙ h .bytes }
+    let d : drop (512 * (k + 1)) mid ≡ drop (512 + 512 * k) old = rw (m, s) (drop-append-add head (drop 512 old) (512 * k) ∙ drop-drop (512 * k) 512 old) in
+    let n : length (head ++ rowTo (trialBytes rule l) k) ≡ 512 + 512 * k = rw (length-append, e, length-row (trialBytes rule l) 512 k (trial-length rule l)) (omega arith) in
+    record { number = rw q; bytes = rw (q, n) (p ∙ rw (a, d)) }

@@ -2,3 +2,5 @@
 pub mod Laws
 pub mod Replies
 pub mod Dispatch
+pub mod Lengths
+pub mod Unread

@@ -1,17 +1,21 @@
--- Each task's answer from the code's struct: what its verdict and its words say of the definition. Assumes nothing.
-use mathlib.Core.Path.{_≡_, refl, ap, _∙_}
-use mathlib.Core.List.{List, _++_}
-use mathlib.Core.Bool.{Bool, true, false, cond}
+-- Each task's answer from the code's struct: what its verdict and its block say of the definition. Assumes nothing.
+use mathlib.Core.Path.{_≡_, refl, ap, sym, _∙_}
+use mathlib.Core.List.{List}
+use mathlib.Core.Bool.{Bool, true, false, not}
 use Prim.Native.Nat.{ℕ, _≤_}
+use native.Mathlib.Nat.{min-le-right}
 use native.Mathlib.Omega.{arith}
-use lib.ListN.{length}
+use lib.ListN.{length, replicate}
 use lib.Ieee.{Float}
 use Rattle.floats.specs.Arithmetic.{0f}
 use Rattle.floats.specs.Small.{isFinite}
-use Rattle.floats.specs.Vector.{at, zeros8}
+use Rattle.floats.specs.Vector.{places}
 use Rattle.floats.specs.Outcome.{Out, ok, no, bind, need}
+use Rattle.floats.proofs.Folds.{was-no, was-yes}
+use Rattle.floats.proofs.Outcomes.{Each}
 use Rattle.thermo_types.specs.declared.Verdict.{Verdict}
 use Rattle.thermo_types.specs.declared.Verdict.the-variants.{Passed, Refused}
+use Rattle.thermo_types.specs.declared.ActivityOptions.{ActivityOptions}
 use Rattle.thermo_types.specs.declared.Temperature.{Temperature}
 use Rattle.thermo_types.specs.declared.Pressure.{Pressure}
 use Rattle.thermo_types.specs.declared.NewTemperature.{NewTemperature}
@@ -19,32 +23,60 @@ use Rattle.thermo_types.specs.declared.NewPressure.{NewPressure}
 use Rattle.thermo_types.specs.declared.NewTemperature.the-variants as temperature
 use Rattle.thermo_types.specs.declared.NewPressure.the-variants as pressure
 use Rattle.thermo_types.specs.Quantities.{kelvin, pascal, newTemperature, newPressure}
-use Rattle.blocks.specs.Bytes.{wordAt, rowTo, blockBytes}
-use Rattle.blocks.proofs.Laws.{length-block-bytes}
-use Rattle.nrtl.specs.declared.Energies.{Energies}
-use Rattle.nrtl.specs.State.{Excess}
-use Rattle.nrtl.specs.Answers.{Gives, energiesOf, lnGammasOf, slopesOf}
+use Rattle.blocks.specs.declared.Rule.{Rule}
+use Rattle.blocks.specs.Bytes.{wordAt, blockBytes}
+use Rattle.excess.specs.declared.Energies.{Energies}
+use Rattle.excess.specs.State.{Excess}
+use Rattle.thermo_models.specs.declared.Tabled.{Tabled}
+use Rattle.thermo_models.specs.Model.{Activity, Activities, Liquids}
+use Rattle.thermo_models.specs.Activity.{excessOf, activityOf, excessOn, activityOn, Stands}
+use Rattle.thermo_models.specs.Domain.{temperatureInDomain, pureLiquidsOf}
+use Rattle.thermo_models.specs.Mixture.{mixtureWith}
+use Rattle.thermo_models.proofs.Answers.{excess-fresh, stands-fresh}
+use Rattle.saturation.proofs.Answers.{stands-places}
+use Rattle.excess.specs.Answers.{Gives, energiesOf, excessLnGammas, excessSlopes}
 use Rattle.thermo_models.specs.declared.Assessment.{Assessment}
 use Rattle.saturation.specs.Saturation.{Saturation}
 use Rattle.saturation.specs.declared.ActivitySaturation.{ActivitySaturation}
 use Rattle.saturation.specs.Answers.{saturationAnswer}
-use Rattle.liquid_stability.specs.Stability.{Trials, noTrials, stabilityAnswer}
+use Rattle.liquid_stability.specs.Stability.{Trials, noTrials, stabilityOf, stabilityAnswer}
 use Rattle.liquid_stability.specs.declared.LiquidStability.{LiquidStability}
-use Rattle.tp_flash.specs.Tp.{Flash, flashAnswer}
+use Rattle.liquid_stability.proofs.Counts.{Few, stability-few}
+use Rattle.tp_flash.specs.Tp.{Flash, tpFlash, flashAnswer}
+use Rattle.tp_flash.proofs.Counts.{flash-few}
 use Rattle.tp_flash.specs.declared.ActivityTpFlash.{ActivityTpFlash}
 use Rattle.rachford_rice.specs.declared.RachfordRice.{RachfordRice}
 use Rattle.rachford_rice.specs.declared.RachfordRiceOutcome.{RachfordRiceOutcome}
 use Rattle.rachford_rice.specs.declared.RachfordRiceOutcome.the-variants.{LiquidOnly, VaporOnly, TwoPhase}
 use Rattle.rachford_rice.specs.Rachford.{Solution, constrained, splitOf, answerOf, twoPhase, refusedWith}
 use Rattle.rachford_rice.proofs.Answers.{constrained-no, constrained-ok}
-use Rattle.replies.specs.Blocks.{bit, stateWords, modelWords, stableWords, Answer, answerWords, trialBytes, answerBytes}
-use Rattle.replies.specs.Numbers.{statusNumber, phaseNumber, riceNumber, riceState}
-use Rattle.sheet.specs.Tasks.{excessAnswer, saturationSheet, stabilitySheet, flashSheet, riceSheet}
-use Rattle.sheet.specs.Sheet.{Answers}
-use Rattle.sheet.specs.Steps.{replied, onPassed, finiteReduced}
-use Rattle.sheet.proofs.Laws.{Behind, same-as, refuses, one-block, trial-length, trials-end}
-use Rattle.floats.proofs.Outcomes.{Each}
-use Rattle.liquid_stability.proofs.Counts.{Few}
+use Rattle.question.specs.declared.Question.{Question}
+use Rattle.replies.specs.declared.AnswerBlock.{AnswerBlock}
+use Rattle.replies.specs.Blocks.{Answer, answerWords, answerBytes}
+use Rattle.replies.specs.Answers.{excessBlock, saturationBlock, stabilityBlock, flashBlock, riceBlock}
+use Rattle.sheet.specs.Tasks.{alone, excessFound, saturated, task6, task7}
+use Rattle.sheet.specs.Sheet.{Answers, replied, onPassed}
+use Rattle.sheet.proofs.Laws.{same-as, refuses, one-block}
+
+-- ---- what the solvers found, from the code's structs
+abbrev foundExcess : Energies → List Float → List Float → Excess
+foundExcess e lg sl = record { lnGamma = lg; slopes = sl; reduced = e .reduced; gibbs = e .gibbs; enthalpy = e .enthalpy; entropy = e .entropy; heatCapacity = e .«heat_capacity» }
+
+abbrev foundFlash : ActivityTpFlash → Flash
+foundFlash f = record {
+  phases = f .phases;
+  bubble = f .bubble;
+  dew = f .dew;
+  iterations = f .iterations;
+  residual = f .residual;
+  balance = f .balance;
+  vaporFraction = f .«vapor_fraction»;
+  notes = f .notes;
+  liquid = f .liquid;
+  vapor = f .vapor;
+  tested = f .tested;
+  trials = record { stable = f .tested; count = f .count; trials = f .trials };
+}
 
 -- ---- temperatures and pressures
 pub kelvin-no : {made : NewTemperature} (o : Out Float) {r : ℕ} → made ≡ newTemperature o → made ≡ temperature.No r → o ≡ no r
@@ -62,142 +94,161 @@ unfolding newPressure
 pascal-no (ok v) e q = let z : _≡_ {A = ℕ} 0 1 = cc in absurd (omega arith)
 pascal-no (no m) e q = cc
 
-pub pascal-ok : {made : NewPressure} (o : Out Float) {t : Pressure} → made ≡ newPressure o → made ≡ pressure.Valid t → o ≡ ok (t .0)
+pub pascal-ok : {made : NewPressure} (o : Out Float) {p : Pressure} → made ≡ newPressure o → made ≡ pressure.Valid p → o ≡ ok (p .0)
 unfolding newPressure
-pascal-ok (ok v) {t} e q = let p : pascal v ≡ t = cc in ap (λ (u : Pressure). ok (u .0)) p
+pascal-ok (ok v) {p} e q = let h : pascal v ≡ p = cc in ap (λ (u : Pressure). ok (u .0)) h
 pascal-ok (no m) e q = let z : _≡_ {A = ℕ} 0 1 = cc in absurd (omega arith)
 
 -- a task from its temperature or pressure on
-module _ (task : ℕ) {o : Out Float} (f : Float → Out Answer) where
-  pub task-no : {r : ℕ} {old : List ℕ} → o ≡ no r → Answers (replied task (bind o f)) r old old
+module _ (rule : Rule) (task : ℕ) (o : Out Float) (f : Float → Out Answer) {r : ℕ} {old : List ℕ} where
+  refused : o ≡ no r → Answers (replied rule task (bind o f)) r old old
   unfolding bind
-  task-no e = refuses {o = bind o f} _ (rw e)
+  refused e = refuses {o = bind o f} _ (rw e)
 
-  pub task-ok : {v : Float} {r : ℕ} {old new : List ℕ} → o ≡ ok v → Answers (replied task (f v)) r old new → Answers (replied task (bind o f)) r old new
+  given : {v : Float} {new : List ℕ} → o ≡ ok v → Answers (replied rule task (f v)) r old new → Answers (replied rule task (bind o f)) r old new
   unfolding bind
-  task-ok e h = same-as (rw e) h
+  given e h = same-as (rw e) h
 
--- ---- 1
-finite-pick : (task : ℕ) (b : Bool) (a : Answer) {bs : List ℕ} → answerBytes task a ≡ bs → replied task (need b 25 (ok a)) ≡ onPassed (cond b Passed (Refused 25)) bs
-unfolding need bind onPassed
-finite-pick task true a e = ap ok e
-finite-pick task false a e = refl
+  pub temperature-no : {made : NewTemperature} → made ≡ newTemperature o → made ≡ temperature.No r → Answers (replied rule task (bind o f)) r old old
+  temperature-no e q = refused (kelvin-no o e q)
 
-excess-reply : (task : ℕ) (t : Float) (o : Out Excess) (w : Assessment) {e : Energies} {lg sl : List Float} → Gives o e lg sl
-    → replied task (bind o (λ s. need (isFinite (s .reduced)) 25 (ok (excessAnswer t s w))))
-    ≡ onPassed (finiteReduced (e .verdict) (e .reduced)) (blockBytes (wordAt (answerWords task 0 (stateWords t 0f 0f 0f 0 0f 0f 0f 0 0) lg sl
-    (modelWords (e .reduced) (e .gibbs) (e .enthalpy) (e .entropy) (e .«heat_capacity») (statusNumber (w .status)) (bit (w .inferred)) 0))))
-unfolding bind onPassed finiteReduced excessAnswer energiesOf lnGammasOf slopesOf
-excess-reply task t (ok s) w g = rw (g .energies, g .values, g .slopes) (finite-pick task (isFinite (s .reduced)) _ (one-block task 0 _ _ _ _))
-excess-reply task t (no r) w g = rw (g .energies)
+  pub temperature-ok : {made : NewTemperature} {t : Temperature} {new : List ℕ} → made ≡ newTemperature o → made ≡ temperature.Valid t → Answers (replied rule task (f (t .0))) r old new
+      → Answers (replied rule task (bind o f)) r old new
+  temperature-ok e q h = given (kelvin-ok o e q) h
 
--- ---- 2 to 5
-saturation-reply : (task : ℕ) (o : Out Saturation) {s : ActivitySaturation} → s ≡ saturationAnswer o
-    → replied task (bind o (λ s. ok (saturationSheet s)))
-    ≡ onPassed (s .verdict) (blockBytes (wordAt (answerWords task 0 (stateWords (s .temperature) (s .pressure) 0f 0f (s .iterations) (s .residual) 0f 0f 0 0) (s .liquid) (s .vapor) (stableWords 0))))
-unfolding bind onPassed saturationSheet saturationAnswer
-saturation-reply task (ok v) e = rw e (ap ok (one-block task 0 _ _ _ _))
-saturation-reply task (no r) e = rw e
+  pub pressure-no : {made : NewPressure} → made ≡ newPressure o → made ≡ pressure.No r → Answers (replied rule task (bind o f)) r old old
+  pressure-no e q = refused (pascal-no o e q)
 
-pub saturation-says : (task : ℕ) (o : Out Saturation) {s : ActivitySaturation} {r : ℕ} {old new : List ℕ} → s ≡ saturationAnswer o
-    → Answers (onPassed (s .verdict) (blockBytes (wordAt (answerWords task 0 (stateWords (s .temperature) (s .pressure) 0f 0f (s .iterations) (s .residual) 0f 0f 0 0) (s .liquid) (s .vapor) (stableWords 0))))) r old new
-    → Answers (replied task (bind o (λ s. ok (saturationSheet s)))) r old new
-saturation-says task o e h = same-as (saturation-reply task o e) h
+  pub pressure-ok : {made : NewPressure} {p : Pressure} {new : List ℕ} → made ≡ newPressure o → made ≡ pressure.Valid p → Answers (replied rule task (f (p .0))) r old new
+      → Answers (replied rule task (bind o f)) r old new
+  pressure-ok e q h = given (pascal-ok o e q) h
 
-pub excess-says : (task : ℕ) (t : Float) (o : Out Excess) (w : Assessment) {u : Float} {x : Assessment} {e : Energies} {v : Verdict} {lg sl : List Float} {ws : List ℕ} {r : ℕ} {old new : List ℕ}
-    → u ≡ t → x ≡ w → Gives o e lg sl → v ≡ finiteReduced (e .verdict) (e .reduced)
-    → ws ≡ answerWords task 0 (stateWords u 0f 0f 0f 0 0f 0f 0f 0 0) lg sl
-    (modelWords (e .reduced) (e .gibbs) (e .enthalpy) (e .entropy) (e .«heat_capacity») (statusNumber (x .status)) (bit (x .inferred)) 0)
-    → Answers (onPassed v (blockBytes (wordAt ws))) r old new
-    → Answers (replied task (bind o (λ s. need (isFinite (s .reduced)) 25 (ok (excessAnswer t s w))))) r old new
-excess-says task t o w a b g p q h = same-as (excess-reply task t o w g) (rw (← a, ← b, ← p, ← q) h)
+-- ---- 1: refused, g^E / RT not finite, and answered
+module _ (rule : Rule) (task : ℕ) (t : Float) (w : Assessment) (o : Out Excess) {e : Energies} {lg sl : List Float} where
+  pub excess-no : {r : ℕ} {old : List ℕ} → Gives o e lg sl → e .verdict ≡ Refused r → Answers (replied rule task (bind o (excessFound t w))) r old old
+  unfolding bind energiesOf
+  excess-no {r} g q = refuses {o = bind o (excessFound t w)} _ (gone o g)
+    where
+      gone : (o : Out Excess) → Gives o e lg sl → bind o (excessFound t w) ≡ no r
+      gone (ok s) g = let z : _≡_ {A = ℕ} 0 1 = cc (ap (λ (e : Energies). e .verdict) (g .energies), q) in absurd (omega arith)
+      gone (no m) g = cc (ap (λ (e : Energies). e .verdict) (g .energies), q)
 
--- ---- 6 and 7
-stability-reply : (task : ℕ) (o : Out Trials) {s : LiquidStability} → s ≡ stabilityAnswer o
-    → replied task (bind o (λ s. ok (stabilitySheet s)))
-    ≡ onPassed (s .verdict) (blockBytes (wordAt (answerWords task 0 (stateWords 0f 0f 0f 0f 0 0f 0f 0f (s .count) 0) zeros8 zeros8 (stableWords (bit (s .stable))))) ++ rowTo (trialBytes (s .trials)) (s .count))
-unfolding bind onPassed stabilitySheet stabilityAnswer answerBytes
-stability-reply task (ok v) e = rw e
-stability-reply task (no r) e = rw e
+  pub excess-wild : {f : Bool} {old : List ℕ} → Gives o e lg sl → e .verdict ≡ Passed → f ≡ isFinite (e .reduced) → not f ≡ true → Answers (replied rule task (bind o (excessFound t w))) 25 old old
+  unfolding bind need excessFound energiesOf
+  excess-wild g q p f = refuses {o = bind o (excessFound t w)} _ (gone o g)
+    where
+      gone : (o : Out Excess) → Gives o e lg sl → bind o (excessFound t w) ≡ no 25
+      gone (ok s) g = rw (← ap (λ (e : Energies). e .reduced) (g .energies), was-no f p)
+      gone (no m) g = let z : _≡_ {A = ℕ} 0 1 = cc (ap (λ (e : Energies). e .verdict) (g .energies), q) in absurd (omega arith)
 
-no-count : (o : Out Trials) {s : LiquidStability} {r : ℕ} → s ≡ stabilityAnswer o → s .verdict ≡ Refused r → s .count ≡ 0
-unfolding stabilityAnswer
-no-count (ok v) e q = let z : _≡_ {A = ℕ} 0 1 = cc in absurd (omega arith)
-no-count (no m) e q = rw e
+  pub excess-ok : {f : Bool} {b : AnswerBlock} {r : ℕ} {old new : List ℕ} → Gives o e lg sl → e .verdict ≡ Passed → f ≡ isFinite (e .reduced) → not f ≡ false
+      → b ≡ excessBlock t (foundExcess e lg sl) w
+      → Answers (onPassed Passed (blockBytes rule (wordAt (answerWords task b)))) r old new → Answers (replied rule task (bind o (excessFound t w))) r old new
+  unfolding bind need onPassed excessFound energiesOf excessLnGammas excessSlopes
+  excess-ok g q p f d h = same-as (found o g) (rw d at h)
+    where
+      found : (o : Out Excess) → Gives o e lg sl
+          → replied rule task (bind o (excessFound t w)) ≡ ok (blockBytes rule (wordAt (answerWords task (excessBlock t (foundExcess e lg sl) w))))
+      found (ok s) g =
+          let k : isFinite (s .reduced) ≡ true = rw (g .energies) at (was-yes f p) in
+          rw (g .energies, g .values, g .slopes, k) (ap ok (one-block rule task (excessBlock t s w) refl))
+      found (no m) g = let z : _≡_ {A = ℕ} 0 1 = cc (ap (λ (e : Energies). e .verdict) (g .energies), q) in absurd (omega arith)
 
-pub stability-says : (task : ℕ) (o : Out Trials) {s : LiquidStability} {number k : ℕ} {ws old mid out : List ℕ} → s ≡ stabilityAnswer o → k ≡ s .count
-    → ws ≡ answerWords task 0 (stateWords 0f 0f 0f 0f 0 0f 0f 0f (s .count) 0) zeros8 zeros8 (stableWords (bit (s .stable)))
-    → Answers (onPassed (s .verdict) (blockBytes (wordAt ws))) number old mid
-    → Behind (s .trials) k mid out
-    → Answers (replied task (bind o (λ s. ok (stabilitySheet s)))) number old out
-stability-says task o {s} {number} {k} e c u h p =
-    same-as (stability-reply task o e)
-    (rw (c, u) at (trials-end (s .verdict) _ (trialBytes (s .trials)) k (length-block-bytes _) (trial-length (s .trials)) (λ _ q. c ∙ no-count o e q) h (p .row)))
+-- of the parameters, by a table made for t
+module _ (rule : Rule) (task : ℕ) {P : List Float} {n : ℕ} {t : Temperature} {s : Tabled} {table : List Float} (x : List Float) (h : Stands P n t s (replicate 512 0f) table) where
+  pub excess-asked : {u : Float} {v w : Assessment} {e : Energies} {lg sl : List Float} {r : ℕ} {old new : List ℕ} → Gives (excessOn table s x) e lg sl → u ≡ t .0 → v ≡ w
+      → ((o : Out Excess) → Gives o e lg sl → Answers (replied rule task (bind o (excessFound u v))) r old new)
+      → Answers (replied rule task (bind (excessOf P n (t .0) x) (excessFound (t .0) w))) r old new
+  excess-asked g p q f =
+      let k : excessOn table s x ≡ excessOf P n (t .0) x = ap (λ (E : List Float → Out Excess). E x) (excess-fresh h) in
+      rw (p, q) at (f (excessOf P n (t .0) x) (rw k at g))
 
--- the array of an answer, refused or not
-pub stability-sized : (o : Out Trials) {s : LiquidStability} {n : ℕ} → Each (Few n) o → s ≡ stabilityAnswer o → (s .count ≤ n) × (length (s .trials) ≡ 8)
+pub rice-alone : (o : RachfordRiceOutcome) (x y : List Float) → riceBlock o x y .state .trials ≡ 0
+unfolding riceBlock
+rice-alone LiquidOnly x y = refl
+rice-alone VaporOnly x y = refl
+rice-alone (TwoPhase β g m) x y = refl
+
+module _ (rule : Rule) (task : ℕ) {r : ℕ} {old new : List ℕ} where
+  -- ---- 2 to 5
+  pub saturation-says : (o : Out Saturation) {s : ActivitySaturation} {b : AnswerBlock} → s ≡ saturationAnswer o
+      → b ≡ saturationBlock (record { temperature = s .temperature; pressure = s .pressure; liquid = s .liquid; vapor = s .vapor; residual = s .residual; iterations = s .iterations })
+      → Answers (onPassed (s .verdict) (blockBytes rule (wordAt (answerWords task b)))) r old new → Answers (replied rule task (saturated o)) r old new
+  unfolding bind onPassed saturated saturationAnswer
+  saturation-says (ok v) e q h = rw (one-block rule task (saturationBlock v) refl) (rw (q, e) at h)
+  saturation-says (no m) e q h = rw e at h
+
+  -- ---- 6 and 7
+  stability-replied : (o : Out Trials) {s : LiquidStability} {b : AnswerBlock} → s ≡ stabilityAnswer o → b ≡ stabilityBlock (s .stable) (s .count)
+      → Answers (onPassed (s .verdict) (answerBytes rule task (record { block = b; trials = s .trials }))) r old new
+      → Answers (replied rule task (bind o (λ s. ok (record { block = stabilityBlock (s .stable) (s .count); trials = s .trials })))) r old new
+  unfolding bind onPassed stabilityAnswer
+  stability-replied (ok v) e q h = rw (q, e) at h
+  stability-replied (no m) e q h = rw e at h
+
+  flash-replied : (o : Out Flash) {f : ActivityTpFlash} {t p u v : Float} {b : AnswerBlock} → f ≡ flashAnswer o → u ≡ t → v ≡ p
+      → b ≡ flashBlock u v (foundFlash f)
+      → Answers (onPassed (f .verdict) (answerBytes rule task (record { block = b; trials = f .trials }))) r old new
+      → Answers (replied rule task (bind o (λ f. ok (record { block = flashBlock t p f; trials = f .trials .trials })))) r old new
+  unfolding bind onPassed flashAnswer
+  flash-replied (ok x) e a c q h = rw (q, a, c, e) at h
+  flash-replied (no m) e a c q h = rw e at h
+
+  -- ---- 8 and 9
+  pub rice-says : (o : RachfordRiceOutcome) (x y : List Float) (v : Verdict) {b : AnswerBlock} → b ≡ riceBlock o x y
+      → Answers (onPassed v (blockBytes rule (wordAt (answerWords task b)))) r old new → Answers (onPassed v (blockBytes rule (wordAt (answerWords task (riceBlock o x y))))) r old new
+  rice-says o x y v e h = rw e at h
+
+  pub constrained-says : (z k : ℕ → Float) (n limit : ℕ) {s : RachfordRice} → s ≡ answerOf (constrained z k n limit)
+      → Answers (onPassed (s .verdict) (blockBytes rule (wordAt (answerWords task (riceBlock (s .outcome) (s .liquid) (s .vapor)))))) r old new
+      → Answers (replied rule task (bind (constrained z k n limit) (λ r. ok (alone (riceBlock (r .outcome) (r .liquid) (r .vapor)))))) r old new
+  unfolding bind onPassed
+  constrained-says z k n limit {s} e h = pick (s .verdict) refl
+    where
+      pick : (v : Verdict) → s .verdict ≡ v → Answers (replied rule task (bind (constrained z k n limit) (λ r. ok (alone (riceBlock (r .outcome) (r .liquid) (r .vapor)))))) r old new
+      pick Passed q = rw (constrained-ok z k n limit e q, one-block rule task (riceBlock (s .outcome) (s .liquid) (s .vapor)) (rice-alone (s .outcome) (s .liquid) (s .vapor))) (rw q at h)
+      pick (Refused m) q = rw (constrained-no z k n limit e q) (rw q at h)
+
+  pub split-says : (o : Out Solution) {s : RachfordRice} → s ≡ splitOf o
+      → Answers (onPassed (s .verdict) (blockBytes rule (wordAt (answerWords task (riceBlock (s .outcome) (s .liquid) (s .vapor)))))) r old new
+      → Answers (replied rule task (bind o (λ s. ok (alone (riceBlock (TwoPhase (s .vaporFraction) (s .residual) (s .iterations)) (s .liquid) (s .vapor)))))) r old new
+  unfolding bind onPassed splitOf twoPhase refusedWith
+  split-says (ok v) e h = rw (one-block rule task (riceBlock (TwoPhase (v .vaporFraction) (v .residual) (v .iterations)) (v .liquid) (v .vapor)) (rice-alone _ _ _)) (rw e at h)
+  split-says (no m) e h = rw e at h
+
+-- ---- 6 and 7 of the book's mixture
+module _ (rule : Rule) (book : List ℕ) (n : ℕ) (q : Question) (P : List Float) (t : Temperature) {b : AnswerBlock} {r : ℕ} {old new : List ℕ} where
+  pub stability-says : {a : Tabled} {table : List Float} {s : LiquidStability} → Stands P (places n) t a (replicate 512 0f) table
+      → s ≡ stabilityAnswer (stabilityOf (activityOn table a) (places (a .n)) (q .options) (q .fractions)) → b ≡ stabilityBlock (s .stable) (s .count)
+      → Answers (onPassed (s .verdict) (answerBytes rule (q .task) (record { block = b; trials = s .trials }))) r old new
+      → Answers (replied rule (q .task) (task6 (mixtureWith book P (places n)) q (t .0))) r old new
+  unfolding task6 activityOf
+  stability-says h e d g = stability-replied rule (q .task) (stabilityOf (activityOf P (places n) (t .0)) (places n) (q .options) (q .fractions)) (rw (stands-fresh h, stands-places n h) at e) d g
+
+  pub flash-says : (p : Pressure) {f : ActivityTpFlash} {u v : Float}
+      → f ≡ flashAnswer (tpFlash (activityOf P (places n)) (pureLiquidsOf book (places n)) (temperatureInDomain book (places n)) (places n) (q .options) (t .0) (q .fractions) (p .0))
+      → u ≡ t .0 → v ≡ p .0 → b ≡ flashBlock u v (foundFlash f) → Answers (onPassed (f .verdict) (answerBytes rule (q .task) (record { block = b; trials = f .trials }))) r old new
+      → Answers (replied rule (q .task) (task7 (mixtureWith book P (places n)) q (t .0) (p .0))) r old new
+  unfolding task7 activityOf
+  flash-says p e a c d g =
+      flash-replied rule (q .task)
+      (tpFlash (activityOf P (places n)) (pureLiquidsOf book (places n)) (temperatureInDomain book (places n)) (places n) (q .options) (t .0) (q .fractions) (p .0)) e a c d g
+
+-- ---- at most eight trials in an array of eight, refused or not
+stability-sized : (n : ℕ) (o : Out Trials) {s : LiquidStability} → Each (Few (places n)) o → s ≡ stabilityAnswer o → (s .count ≤ 8) × (length (s .trials) ≡ 8)
 unfolding stabilityAnswer noTrials
-stability-sized (ok v) h e = let f = h .each v refl in (rw e (f .count), rw e (f .eight))
-stability-sized (no m) h e = (rw e (omega arith), rw e refl)
+stability-sized n (ok v) h e = let f = h .each v refl in (rw e (omega (arith, f .count, min-le-right n 8)), rw e (f .eight))
+stability-sized n (no m) h e = (rw e (omega arith), rw e refl)
 
-flash-reply : (task : ℕ) (t p : Float) (o : Out Flash) {f : ActivityTpFlash} → f ≡ flashAnswer o
-    → replied task (bind o (λ f. ok (flashSheet t p f)))
-    ≡ onPassed (f .verdict) (blockBytes (wordAt (answerWords task (phaseNumber (f .phases))
-    (stateWords t p (f .bubble) (f .dew) (f .iterations) (f .residual) (f .balance) (f .«vapor_fraction») (f .count) (f .notes)) (f .liquid) (f .vapor) (stableWords (bit (f .tested))))) ++ rowTo (trialBytes (f .trials)) (f .count))
-unfolding bind onPassed flashSheet flashAnswer answerBytes
-flash-reply task t p (ok v) e = rw e
-flash-reply task t p (no r) e = rw e
+pub stability-fits : (n : ℕ) (E : List Float → Out Activity) (o : ActivityOptions) (x : List Float) {s : LiquidStability} {b : AnswerBlock}
+    → s ≡ stabilityAnswer (stabilityOf E (places n) o x) → b ≡ stabilityBlock (s .stable) (s .count) → (b .state .trials ≤ 8) × (length (s .trials) ≡ 8)
+stability-fits n E o x e q = let z = stability-sized n _ (stability-few E (places n) o x) e in (rw q (z .0), z .1)
 
-no-flash-count : (o : Out Flash) {f : ActivityTpFlash} {r : ℕ} → f ≡ flashAnswer o → f .verdict ≡ Refused r → f .count ≡ 0
-unfolding flashAnswer
-no-flash-count (ok v) e q = let z : _≡_ {A = ℕ} 0 1 = cc in absurd (omega arith)
-no-flash-count (no m) e q = rw e
-
-pub flash-says : (task : ℕ) (t p : Float) (o : Out Flash) {f : ActivityTpFlash} {number k : ℕ} {state ws old mid out : List ℕ} → f ≡ flashAnswer o → k ≡ f .count
-    → state ≡ stateWords t p (f .bubble) (f .dew) (f .iterations) (f .residual) (f .balance) (f .«vapor_fraction») (f .count) (f .notes)
-    → ws ≡ answerWords task (phaseNumber (f .phases)) state (f .liquid) (f .vapor) (stableWords (bit (f .tested)))
-    → Answers (onPassed (f .verdict) (blockBytes (wordAt ws))) number old mid
-    → Behind (f .trials) k mid out
-    → Answers (replied task (bind o (λ f. ok (flashSheet t p f)))) number old out
-flash-says task t p o {f} {number} {k} e c w u h q =
-    same-as (flash-reply task t p o e)
-    (rw (c, u, w) at (trials-end (f .verdict) _ (trialBytes (f .trials)) k (length-block-bytes _) (trial-length (f .trials)) (λ _ z. c ∙ no-flash-count o e z) h (q .row)))
-
-pub flash-sized : (o : Out Flash) {f : ActivityTpFlash} {n : ℕ} → ((v : Flash) → o ≡ ok v → Few n (v .trials)) → f ≡ flashAnswer o → (f .count ≤ n) × (length (f .trials) ≡ 8)
+flash-sized : (n : ℕ) (o : Out Flash) {f : ActivityTpFlash} → ((v : Flash) → o ≡ ok v → Few (places n) (v .trials)) → f ≡ flashAnswer o → (f .count ≤ 8) × (length (f .trials) ≡ 8)
 unfolding flashAnswer noTrials
-flash-sized (ok v) h e = let g = h v refl in (rw e (g .count), rw e (g .eight))
-flash-sized (no m) h e = (rw e (omega arith), rw e refl)
+flash-sized n (ok v) h e = let g = h v refl in (rw e (omega (arith, g .count, min-le-right n 8)), rw e (g .eight))
+flash-sized n (no m) h e = (rw e (omega arith), rw e refl)
 
--- ---- 8 and 9
-rice-bytes : (task : ℕ) (o : RachfordRiceOutcome) (x y : List Float) → answerBytes task (riceSheet o x y) ≡ blockBytes (wordAt (answerWords task (riceNumber o) (riceState o) x y (stableWords 0)))
-unfolding riceSheet riceNumber riceState
-rice-bytes task LiquidOnly x y = one-block task 1 _ _ _ _
-rice-bytes task VaporOnly x y = one-block task 2 _ _ _ _
-rice-bytes task (TwoPhase β g c) x y = one-block task 3 _ _ _ _
-
-says-rice : (task : ℕ) (v : Verdict) (o : RachfordRiceOutcome) (x y : List Float) (a : Out Answer) → ((r : ℕ) → v ≡ Refused r → a ≡ no r) → (v ≡ Passed → a ≡ ok (riceSheet o x y))
-    → replied task a ≡ onPassed v (blockBytes (wordAt (answerWords task (riceNumber o) (riceState o) x y (stableWords 0))))
-unfolding bind onPassed
-says-rice task Passed o x y a f g = rw (g refl) (ap ok (rice-bytes task o x y))
-says-rice task (Refused r) o x y a f g = rw (f r refl)
-
-module _ (task : ℕ) (z k : ℕ → Float) (n limit : ℕ) {s : RachfordRice} {r : ℕ} {old new : List ℕ} where
-  pub constrained-says : s ≡ answerOf (constrained z k n limit)
-      → Answers (onPassed (s .verdict) (blockBytes (wordAt (answerWords task (riceNumber (s .outcome)) (riceState (s .outcome)) (s .liquid) (s .vapor) (stableWords 0))))) r old new
-      → Answers (replied task (bind (constrained z k n limit) (λ r. ok (riceSheet (r .outcome) (r .liquid) (r .vapor))))) r old new
-  unfolding bind
-  constrained-says e h =
-      same-as (says-rice task (s .verdict) (s .outcome) (s .liquid) (s .vapor)
-      (bind (constrained z k n limit) (λ r. ok (riceSheet (r .outcome) (r .liquid) (r .vapor)))) (λ _ q. rw (constrained-no z k n limit e q)) (λ q. rw (constrained-ok z k n limit e q))) h
-
-split-reply : (task : ℕ) (o : Out Solution) {s : RachfordRice} → s ≡ splitOf o
-    → replied task (bind o (λ s. ok (riceSheet (TwoPhase (s .vaporFraction) (s .residual) (s .iterations)) (s .liquid) (s .vapor))))
-    ≡ onPassed (s .verdict) (blockBytes (wordAt (answerWords task (riceNumber (s .outcome)) (riceState (s .outcome)) (s .liquid) (s .vapor) (stableWords 0))))
-unfolding bind onPassed splitOf twoPhase refusedWith
-split-reply task (ok v) e = rw e (ap ok (rice-bytes task _ _ _))
-split-reply task (no r) e = rw e
-
-pub split-says : (task : ℕ) (o : Out Solution) {s : RachfordRice} {r : ℕ} {old new : List ℕ} → s ≡ splitOf o
-    → Answers (onPassed (s .verdict) (blockBytes (wordAt (answerWords task (riceNumber (s .outcome)) (riceState (s .outcome)) (s .liquid) (s .vapor) (stableWords 0))))) r old new
-    → Answers (replied task (bind o (λ s. ok (riceSheet (TwoPhase (s .vaporFraction) (s .residual) (s .iterations)) (s .liquid) (s .vapor))))) r old new
-split-says task o e h = same-as (split-reply task o e) h
+pub flash-fits : (E : Activities) (L : Liquids) (D : Float → Bool) (n : ℕ) (o : ActivityOptions) (t : Float) (z : List Float) (p : Float) {f : ActivityTpFlash} {u v : Float} {b : AnswerBlock}
+    → f ≡ flashAnswer (tpFlash E L D (places n) o t z p) → b ≡ flashBlock u v (foundFlash f) → (b .state .trials ≤ 8) × (length (f .trials) ≡ 8)
+flash-fits E L D n o t z p e q = let y = flash-sized n _ (flash-few E L D (places n) o t z p) e in (rw q (y .0), y .1)

@@ -1,4 +1,4 @@
 -- The whole call, from bytes to bytes. Assumes nothing.
 pub mod Tasks
 pub mod Sheet
-pub mod Steps
+pub mod Unread

@@ -1,10 +1,19 @@
 // Reads book.bin and a question on standard input, and writes the answer's blocks, or one block with the refusal's number.
-ghost use Prim.Native.Nat.{_≤_};
+ghost use mathlib.Core.Path.{_≡_};
+ghost use lib.ListN.{length};
 ghost use Rattle.io.specs.Counts.{Counts};
+ghost use Rattle.replies.specs.Blocks.{answerRoom};
+ghost use Rattle.still.specs.Sent.{Sent};
 use libc::STDIN_FILENO;
 use libc::STDOUT_FILENO;
+use replies::ANSWER_ROOM;
 
-// At most 19,456 bytes of book.bin, one block more than any book has; none where it is missing, unreadable or a folder.
+// One block more than any book has, and one byte more than a question: what is longer shows.
+const BOOK_BYTES: usize = 19456;
+
+const QUESTION_BYTES: usize = 513;
+
+// As many bytes of book.bin as fit; none where it is missing, unreadable or a folder.
 fn read_book(buffer: &mut [u8]) -> usize
     ensures { λ r. ⌜ Counts r (now (buffer .exit)) ⌝ }
 {
@@ -17,45 +26,29 @@ fn read_book(buffer: &mut [u8]) -> usize
     n
 }
 
-// Words 0, 1, 2 and the check; task 0 for numbers 1 to 12.
-fn write_refusal(question: &[u8], number: u64) {
-    let mut ws = [0u64; 64];
-    ws[0] = 9;
-    if 12 < number {
-        ws[1] = blocks::word(question, 1);
-    }
-    ws[2] = number;
-    let mut out = [0u8; 512];
-    blocks::write_block(&mut out, &ws);
-    io::write_all(STDOUT_FILENO, &out);
-}
-
-// The bytes of the answer: its first block and as many trials as word 12 says.
-fn answer_bytes(out: &[u8; 4608]) -> usize
-    ensures { λ r. ⌜ r ≤ 4608 ⌝ }
+// The reply to the bytes that were read, at the front of `out`: how many bytes it has.
+fn reply(book: &[u8], question: &[u8], out: &mut [u8]) -> usize
+    requires { ⌜ length (now out) ≡ answerRoom ⌝ }
+    ensures { λ r. ⌜ Sent (now (book .entry)) (now (question .entry)) r (now (out .exit)) ⌝ }
 {
-    let trials = blocks::word(out, 12);
-    if 8 < trials {
-        return 512;
+    let number = sheet::answer(book, question, out);
+    if number == 0 {
+        return replies::answer_length(out);
     }
-    512 * (1 + trials as usize)
+    replies::write_refusal(book::rule_of(book), question, number, out);
+    512
 }
 
 fn respond(book: &[u8], question: &[u8]) {
-    let mut out = [0u8; 4608];
-    let number = sheet::answer(book, question, &mut out);
-    if number == 0 {
-        let n = answer_bytes(&out);
-        io::write_all(STDOUT_FILENO, &out[..n]);
-    } else {
-        write_refusal(question, number);
-    }
+    let mut out = [0u8; ANSWER_ROOM];
+    let n = reply(book, question, &mut out);
+    io::write_all(STDOUT_FILENO, &out[..n]);
 }
 
 fn main() {
-    let mut book = [0u8; 19456];
+    let mut book = [0u8; BOOK_BYTES];
     let n = read_book(&mut book);
-    let mut question = [0u8; 513];
+    let mut question = [0u8; QUESTION_BYTES];
     let m = io::read_full(STDIN_FILENO, &mut question);
     respond(&book[..n], &question[..m]);
 }

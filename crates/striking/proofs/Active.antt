@@ -5,7 +5,7 @@ use mathlib.Core.Bool.{Bool, true, false, not, cond}
 use lib.Dec.{T}
 use lib.Ieee.{Float, nan, inf, fin, binary64, fits, lt, isNan, ofBits}
 use Rattle.floats.specs.Arithmetic.{0f}
-use Rattle.floats.specs.Small.{maxOf, minOf}
+use Rattle.floats.specs.Small.{maxOf}
 use Rattle.floats.specs.Fold.{foldTo, active}
 use Rattle.zeros.specs.Same.{_≈_}
 use Rattle.zeros.proofs.Congruence.{≈refl, lt-≈}
@@ -41,9 +41,6 @@ zero-cond b x e = subst Zero (sym (cond-off b x 0f e)) tt
 
 pub max-≈ : {x x' y y' : Float} → x ≈ x' → y ≈ y' → maxOf x y ≈ maxOf x' y'
 max-≈ {x} {x'} {y} {y'} p q = pick-≈ (isNan x) (isNan x') (isNan-≈ x x' p) q (pick-≈ (lt x y) (lt x' y') (lt-≈ p q) q p)
-
-pub min-≈ : {x x' y y' : Float} → x ≈ x' → y ≈ y' → minOf x y ≈ minOf x' y'
-min-≈ {x} {x'} {y} {y'} p q = pick-≈ (isNan x) (isNan x') (isNan-≈ x x' p) q (pick-≈ (lt y x) (lt y' x') (lt-≈ q p) q p)
 
 pub strike-active : {S S' : Type 0} (keep : ℕ → Bool) (n : ℕ) (R : S → S' → Type 0) (x x' : ℕ → Float) → Fractions keep n x x' → (f : ℕ → S → S) (f' : ℕ → S' → S') (s : S) (s' : S') → R s s'
     → ((k : ℕ) → k < n → T (keep k) → (a : S) (b : S') → R a b → R (f k a) (f' (cnt keep k) b))

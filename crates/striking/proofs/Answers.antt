@@ -1,47 +1,54 @@
--- Every task but dew temperature is struck, up to the words of its answer. Assumes nothing.
+-- Every task but dew temperature is struck, up to the words of its answer, for any two mixtures that are the same for the solvents kept. Assumes nothing.
 use mathlib.Core.Path.{_≡_, refl, sym, ap, subst}
-use mathlib.Core.Logic.{_≢_, inl}
+use mathlib.Core.Logic.{_≢_, inl, ⊎-elim}
 use Prim.Native.Nat.{ℕ, zero, suc, _≤_, _<_}
+use native.Mathlib.Nat.{eq-or-lt-of-le}
 use native.Mathlib.Omega.{arith}
-use mathlib.Core.Bool.{Bool, not}
+use borrow.Author.Tests.{leb-true, eq-eqb}
+use mathlib.Core.Bool.{Bool, true, false, not, _||_}
 use mathlib.Core.List.{List, [], _∷_}
 use lib.ListN.{getD}
-use lib.Dec.{T, eqb→eq}
-use lib.Ieee.{Float, binary64, fits}
+use lib.Dec.{T, eqb, leb, eqb→eq}
+use lib.Ieee.{Float}
+use lib.Ieee.Bits.{is-true}
+use lib.Ieee.Fits.{and-l, and-r}
 use Rattle.floats.specs.Arithmetic.{0f}
 use Rattle.floats.specs.Vector.{at}
 use Rattle.floats.specs.Outcome.{ok, no}
 use Rattle.thermo_types.specs.Quantities.{positiveOf}
 use Rattle.blocks.specs.Bytes.{wordAt}
-use Rattle.nrtl.specs.State.{Excess}
+use Rattle.excess.specs.State.{Excess}
 use Rattle.thermo_models.specs.declared.Assessment.{Assessment}
-use Rattle.thermo_models.specs.Domain.{temperatureInDomain}
+use Rattle.thermo_models.specs.Mixture.{Mixture, activity}
 use Rattle.rachford_rice.specs.declared.RachfordRiceOutcome.{RachfordRiceOutcome}
 use Rattle.rachford_rice.specs.declared.RachfordRiceOutcome.the-variants.{LiquidOnly, VaporOnly, TwoPhase}
 use Rattle.rachford_rice.specs.Rachford.{Solution}
 use Rattle.saturation.specs.Saturation.{Saturation}
 use Rattle.liquid_stability.specs.Stability.{Trials, noTrial, stabilityOf}
 use Rattle.tp_flash.specs.Tp.{Flash, tpFlash}
+use Rattle.question.specs.Inputs.{within, needsTemperature, needsPressure}
 use Rattle.question.specs.declared.Question.{Question}
-use Rattle.replies.specs.Numbers.{statusNumber, phaseNumber}
-use Rattle.replies.specs.Blocks.{bit, stateWords, modelWords, stableWords, Answer}
-use Rattle.sheet.specs.Tasks.{modelOf, liquidsOf, sheet, excessAnswer, saturationSheet, stabilitySheet, flashSheet, riceSheet, task1, task2, task3, task4, task6, task7, task8, task9, taskOf}
+use Rattle.replies.specs.declared.State.{State}
+use Rattle.replies.specs.declared.ModelState.{ModelState}
+use Rattle.replies.specs.declared.AnswerBlock.{AnswerBlock}
+use Rattle.replies.specs.Blocks.{bit, statusNumber, stateWords, modelWords, Answer}
+use Rattle.replies.specs.Answers.{noModel, excessBlock, saturationBlock, stabilityBlock, phaseNumber, flashBlock, riceBlock}
+use Rattle.sheet.specs.Tasks.{alone, excessFound, saturated, task1, task2, task3, task4, task6, task7, task8, task9, taskAt, taskUnder, taskSplit, taskOf}
 use Rattle.liquid_stability.proofs.Counts.{stability-few}
 use Rattle.tp_flash.proofs.Counts.{flash-few}
 use Rattle.zeros.specs.Same.{_≈_}
 use Rattle.zeros.proofs.Congruence.{same, ≈refl}
-use Rattle.zeros.proofs.Zero.{Zero}
 use Rattle.striking.specs.Places.{cnt}
 use Rattle.striking.specs.Accepted.{Acc}
 use Rattle.striking.specs.Related.{Fractions, SameExcess}
 use Rattle.striking.specs.Results.{SameSolution, SameRice, SameSaturation, SameTrial, SameTrials, SameFlash}
-use Rattle.striking.specs.Books.{KeptSolvents, KeptPairs}
 use Rattle.striking.specs.Words.{SameWord}
 use Rattle.striking.proofs.Acc.{acc-ok, acc-no, acc-same, acc-bind, acc-then, acc-need, acc-if, acc-known}
 use Rattle.striking.proofs.Excess.{isFinite-≈}
 use Rattle.striking.proofs.Vectors.{zeros-kept}
 use Rattle.striking.proofs.Words.{same-word}
 use Rattle.striking.proofs.Questions.{withFeed, SameQuestion}
+use Rattle.striking.proofs.Tasks.{SameFeed, SameMixture}
 use Rattle.striking.proofs.Tasks as struck
 
 -- ---- words
@@ -66,36 +73,29 @@ _then_ {x} {y} {xs} {ys} p q = record { entry = go }
     go zero = p
     go (suc k) = q .entry k
 
-same-state : {t t' p p' bubble bubble' dew dew' residual residual' balance balance' β β' : Float} {iterations iterations' count count' notes notes' : ℕ}
-    → t ≈ t' → p ≈ p' → bubble ≈ bubble' → dew ≈ dew' → iterations ≡ iterations' → residual ≈ residual' → balance ≈ balance' → β ≈ β' → count ≡ count' → notes ≡ notes'
-    → SameWords (stateWords t p bubble dew iterations residual balance β count notes) (stateWords t' p' bubble' dew' iterations' residual' balance' β' count' notes')
+same-state : (s s' : State) → s .temperature ≈ s' .temperature → s .pressure ≈ s' .pressure → s .bubble ≈ s' .bubble → s .dew ≈ s' .dew → s .iterations ≡ s' .iterations
+    → s .residual ≈ s' .residual → s .balance ≈ s' .balance → s .«vapor_fraction» ≈ s' .«vapor_fraction» → s .trials ≡ s' .trials → s .notes ≡ s' .notes
+    → SameWords (stateWords s) (stateWords s')
 unfolding stateWords
-same-state a b c d e f g h i j =
+same-state s s' a b c d e f g h i j =
     same-word a then same-word b then same-word c then same-word d then word-same e then same-word f then same-word g then same-word h then word-same i then word-same j then end
 
-same-model : {r r' g g' h h' s s' c c' : Float} {validity validity' inferred inferred' stable stable' : ℕ}
-    → r ≈ r' → g ≈ g' → h ≈ h' → s ≈ s' → c ≈ c' → validity ≡ validity' → inferred ≡ inferred' → stable ≡ stable'
-    → SameWords (modelWords r g h s c validity inferred stable) (modelWords r' g' h' s' c' validity' inferred' stable')
+same-model : (m m' : ModelState) → m .reduced ≈ m' .reduced → m .gibbs ≈ m' .gibbs → m .enthalpy ≈ m' .enthalpy → m .entropy ≈ m' .entropy → m .«heat_capacity» ≈ m' .«heat_capacity»
+    → m .validity ≡ m' .validity → m .inferred ≡ m' .inferred → m .stable ≡ m' .stable → SameWords (modelWords m) (modelWords m')
 unfolding modelWords
-same-model a b c d e f g h = same-word a then same-word b then same-word c then same-word d then same-word e then word-same f then word-same g then word-same h then end
-
--- word 12 is the count of trials
-counted : (t p bubble dew : Float) (iterations : ℕ) (residual balance β : Float) (count notes : ℕ) → wordAt (stateWords t p bubble dew iterations residual balance β count notes) 8 ≡ count
-unfolding stateWords
-counted t p bubble dew iterations residual balance β count notes = refl
+same-model m m' a b c d e f g h =
+    same-word a then same-word b then same-word c then same-word d then same-word e then word-same (ap statusNumber f) then word-same (ap bit g) then word-same (ap bit h) then end
 
 -- what two answers have in common
 pub record SameAnswer (keep : ℕ → Bool) (n : ℕ) (a b : Answer) : Type 0 where
-  pub outcome : a .outcome ≡ b .outcome
-  pub state : SameWords (a .state) (b .state)
-  pub liquid : (i : ℕ) → i < n → T (keep i) → at (a .liquid) i ≈ at (b .liquid) (cnt keep i)
-  pub vapor : (i : ℕ) → i < n → T (keep i) → at (a .vapor) i ≈ at (b .vapor) (cnt keep i)
-  pub model : SameWords (a .model) (b .model)
-  pub counted : wordAt (a .state) 8 ≡ a .count
-  pub counted' : wordAt (b .state) 8 ≡ b .count
-  pub few : a .count ≤ n
-  pub count : a .count ≡ b .count
-  pub trials : (k : ℕ) → k < a .count → SameTrial keep n (getD (a .trials) k noTrial) (getD (b .trials) k noTrial)
+  pub outcome : a .block .outcome ≡ b .block .outcome
+  pub state : SameWords (stateWords (a .block .state)) (stateWords (b .block .state))
+  pub liquid : (i : ℕ) → i < n → T (keep i) → at (a .block .liquid) i ≈ at (b .block .liquid) (cnt keep i)
+  pub vapor : (i : ℕ) → i < n → T (keep i) → at (a .block .vapor) i ≈ at (b .block .vapor) (cnt keep i)
+  pub model : SameWords (modelWords (a .block .model)) (modelWords (b .block .model))
+  pub few : a .block .state .trials ≤ n
+  pub count : a .block .state .trials ≡ b .block .state .trials
+  pub trials : (k : ℕ) → k < a .block .state .trials → SameTrial keep n (getD (a .trials) k noTrial) (getD (b .trials) k noTrial)
 
 zero-≈ : 0f ≈ 0f
 zero-≈ = ≈refl 0f
@@ -104,162 +104,161 @@ none : {A : Type 0} (k : ℕ) → k < 0 → A
 none k l = absurd (omega arith)
 
 module _ (keep : ℕ → Bool) (n : ℕ) (small : n ≤ 8) where
-  -- ---- answers without trials
-  plain : {outcome outcome' : ℕ} {state state' : List ℕ} {liquid liquid' vapor vapor' : List Float} {model model' : List ℕ} → outcome ≡ outcome'
-      → SameWords state state' → ((i : ℕ) → i < n → T (keep i) → at liquid i ≈ at liquid' (cnt keep i)) → ((i : ℕ) → i < n → T (keep i) → at vapor i ≈ at vapor' (cnt keep i))
-      → SameWords model model' → wordAt state 8 ≡ 0 → wordAt state' 8 ≡ 0
-      → SameAnswer keep n (sheet outcome state liquid vapor model) (sheet outcome' state' liquid' vapor' model')
-  plain o s l v m c c' = record {
-    outcome = o;
-    state = s;
-    liquid = l;
-    vapor = v;
-    model = m;
-    counted = c;
-    counted' = c';
+  excess-answer : (t : Float) (e e' : Excess) (v v' : Assessment) → SameExcess keep n e e' → v ≡ v' → SameAnswer keep n (alone (excessBlock t e v)) (alone (excessBlock t e' v'))
+  excess-answer t e e' v v' s w = record {
+    outcome = refl;
+    state = same-words _;
+    liquid = s .lnGamma;
+    vapor = s .slopes;
+    model = same-model _ _ (s .reduced) (s .gibbs) (s .enthalpy) (s .entropy) (s .heatCapacity) (ap (λ (x : Assessment). x .status) w) (ap (λ (x : Assessment). x .inferred) w) refl;
     few = omega arith;
     count = refl;
     trials = λ k h. none k h;
   }
 
-  excess-answer : (t : Float) (e e' : Excess) (v v' : Assessment) → SameExcess keep n e e' → v ≡ v' → SameAnswer keep n (excessAnswer t e v) (excessAnswer t e' v')
-  unfolding excessAnswer
-  excess-answer t e e' v v' s w =
-      plain refl (same-state (≈refl t) zero-≈ zero-≈ zero-≈ refl zero-≈ zero-≈ zero-≈ refl refl) (s .lnGamma) (s .slopes)
-      (same-model (s .reduced) (s .gibbs) (s .enthalpy) (s .entropy) (s .heatCapacity) (ap (λ (x : Assessment). statusNumber (x .status)) w) (ap (λ (x : Assessment). bit (x .inferred)) w) refl)
-      (counted t 0f 0f 0f 0 0f 0f 0f 0 0) (counted t 0f 0f 0f 0 0f 0f 0f 0 0)
+  saturation-answer : (s s' : Saturation) → SameSaturation keep n s s' → SameAnswer keep n (alone (saturationBlock s)) (alone (saturationBlock s'))
+  saturation-answer s s' h = record {
+    outcome = refl;
+    state = same-state _ _ (same (h .temperature)) (same (h .pressure)) zero-≈ zero-≈ (h .iterations) (h .residual) zero-≈ zero-≈ refl refl;
+    liquid = h .liquid .fraction;
+    vapor = h .vapor .fraction;
+    model = same-words _;
+    few = omega arith;
+    count = refl;
+    trials = λ k l. none k l;
+  }
 
-  saturation-answer : (s s' : Saturation) → SameSaturation keep n s s' → SameAnswer keep n (saturationSheet s) (saturationSheet s')
-  unfolding saturationSheet
-  saturation-answer s s' h =
-      plain refl (same-state (same (h .temperature)) (same (h .pressure)) zero-≈ zero-≈ (h .iterations) (h .residual) zero-≈ zero-≈ refl refl) (h .liquid .fraction) (h .vapor .fraction) (same-words (stableWords 0))
-      (counted (s .temperature) (s .pressure) 0f 0f (s .iterations) (s .residual) 0f 0f 0 0) (counted (s' .temperature) (s' .pressure) 0f 0f (s' .iterations) (s' .residual) 0f 0f 0 0)
-
-  rice-answer : (o : RachfordRiceOutcome) (x x' y y' : List Float) → Fractions keep n (at x) (at x') → Fractions keep n (at y) (at y') → SameAnswer keep n (riceSheet o x y) (riceSheet o x' y')
-  unfolding riceSheet
-  rice-answer LiquidOnly x x' y y' p q = plain refl (same-words _) (p .fraction) (q .fraction) (same-words (stableWords 0)) (counted 0f 0f 0f 0f 0 0f 0f 0f 0 0) (counted 0f 0f 0f 0f 0 0f 0f 0f 0 0)
-  rice-answer VaporOnly x x' y y' p q = plain refl (same-words _) (p .fraction) (q .fraction) (same-words (stableWords 0)) (counted 0f 0f 0f 0f 0 0f 0f 0f 0 0) (counted 0f 0f 0f 0f 0 0f 0f 0f 0 0)
-  rice-answer (TwoPhase β r c) x x' y y' p q = plain refl (same-words _) (p .fraction) (q .fraction) (same-words (stableWords 0)) (counted 0f 0f 0f 0f c r 0f β 0 0) (counted 0f 0f 0f 0f c r 0f β 0 0)
+  rice-answer : (o : RachfordRiceOutcome) (x x' y y' : List Float) → Fractions keep n (at x) (at x') → Fractions keep n (at y) (at y') → SameAnswer keep n (alone (riceBlock o x y)) (alone (riceBlock o x' y'))
+  unfolding riceBlock
+  rice-answer LiquidOnly x x' y y' p q = record { outcome = refl; state = same-words _; liquid = p .fraction; vapor = q .fraction; model = same-words _; few = omega arith; count = refl; trials = λ k l. none k l }
+  rice-answer VaporOnly x x' y y' p q = record { outcome = refl; state = same-words _; liquid = p .fraction; vapor = q .fraction; model = same-words _; few = omega arith; count = refl; trials = λ k l. none k l }
+  rice-answer (TwoPhase β r c) x x' y y' p q = record { outcome = refl; state = same-words _; liquid = p .fraction; vapor = q .fraction; model = same-words _; few = omega arith; count = refl; trials = λ k l. none k l }
 
   -- ---- answers with trials
-  stability-answer : (s s' : Trials) → SameTrials keep n s s' → s .count ≤ n → SameAnswer keep n (stabilitySheet s) (stabilitySheet s')
-  unfolding stabilitySheet
+  stability-answer : (s s' : Trials) → SameTrials keep n s s' → s .count ≤ n
+      → SameAnswer keep n (record { block = stabilityBlock (s .stable) (s .count); trials = s .trials }) (record { block = stabilityBlock (s' .stable) (s' .count); trials = s' .trials })
   stability-answer s s' h l = record {
     outcome = refl;
-    state = same-state zero-≈ zero-≈ zero-≈ zero-≈ refl zero-≈ zero-≈ zero-≈ (h .count) refl;
+    state = same-state _ _ zero-≈ zero-≈ zero-≈ zero-≈ refl zero-≈ zero-≈ zero-≈ (h .count) refl;
     liquid = zeros-kept keep n small;
     vapor = zeros-kept keep n small;
-    model = same-model zero-≈ zero-≈ zero-≈ zero-≈ zero-≈ refl refl (ap bit (h .stable));
-    counted = counted 0f 0f 0f 0f 0 0f 0f 0f (s .count) 0;
-    counted' = counted 0f 0f 0f 0f 0 0f 0f 0f (s' .count) 0;
+    model = same-model _ _ zero-≈ zero-≈ zero-≈ zero-≈ zero-≈ refl refl (h .stable);
     few = l;
     count = h .count;
     trials = h .trials;
   }
 
-  flash-answer : (t p : Float) (f f' : Flash) → SameFlash keep n f f' → f .trials .count ≤ n → SameAnswer keep n (flashSheet t p f) (flashSheet t p f')
-  unfolding flashSheet
+  flash-answer : (t p : Float) (f f' : Flash) → SameFlash keep n f f' → f .trials .count ≤ n
+      → SameAnswer keep n (record { block = flashBlock t p f; trials = f .trials .trials }) (record { block = flashBlock t p f'; trials = f' .trials .trials })
   flash-answer t p f f' h l = record {
     outcome = ap phaseNumber (h .phases);
-    state = same-state (≈refl t) (≈refl p) (same (h .bubble)) (same (h .dew)) (h .iterations) (h .residual) (h .balance) (same (h .vaporFraction)) (h .trials .count) (h .notes);
+    state = same-state _ _ (≈refl t) (≈refl p) (same (h .bubble)) (same (h .dew)) (h .iterations) (h .residual) (h .balance) (same (h .vaporFraction)) (h .trials .count) (h .notes);
     liquid = h .liquid .fraction;
     vapor = h .vapor .fraction;
-    model = same-model zero-≈ zero-≈ zero-≈ zero-≈ zero-≈ refl refl (ap bit (h .tested));
-    counted = counted t p (f .bubble) (f .dew) (f .iterations) (f .residual) (f .balance) (f .vaporFraction) (f .trials .count) (f .notes);
-    counted' = counted t p (f' .bubble) (f' .dew) (f' .iterations) (f' .residual) (f' .balance) (f' .vaporFraction) (f' .trials .count) (f' .notes);
+    model = same-model _ _ zero-≈ zero-≈ zero-≈ zero-≈ zero-≈ refl refl (h .tested);
     few = l;
     count = h .trials .count;
     trials = h .trials .trials;
   }
 
+-- what is left of the tasks at a pressure: dew temperature
+or-case : {A : Type 0} (a b : Bool) → T (a || b) → (T a → A) → (T b → A) → A
+or-case true b h f g = f tt
+or-case false b h f g = g h
+
+five-left : (k : ℕ) → T (not (needsTemperature k)) → T (needsPressure k) → T (not (eqb k 4)) → k ≡ 5
+five-left k warm under four =
+    or-case (within 4 5 k) (eqb k 7) under
+    (λ w. let low : 4 ≤ k = leb-true 4 k (is-true _ (and-l (leb 4 k) (leb k 5) w)) in
+    let high : k ≤ 5 = leb-true k 5 (is-true _ (and-r (leb 4 k) (leb k 5) w)) in
+    ⊎-elim (λ (e : 4 ≡ k). absurd (subst (λ (b : Bool). T (not b)) (eq-eqb k 4 (sym e)) four)) (λ (l : 4 < k). omega arith) (eq-or-lt-of-le low))
+    (λ s. absurd (subst (λ (x : ℕ). T (not (within 1 3 x || within 6 7 x))) (eqb→eq k 7 s) warm))
+
 -- ---- the tasks, for a question a and the same with the shorter feed z' and K k'
-module _ (keep : ℕ → Bool) (n : ℕ) (small : n ≤ 8) (book book' : List ℕ) (hs : KeptSolvents keep n book book') (hp : KeptPairs keep n book book') (a : Question) (z' k' : List Float)
-    (ez : (i : ℕ) → i < n → T (keep i) → at (a .fractions) i ≡ at z' (cnt keep i)) (absent : (i : ℕ) → i < n → T (not (keep i)) → Zero (at (a .fractions) i))
-    (fit : (i : ℕ) → T (fits binary64 (at (a .fractions) i))) (fit' : (i : ℕ) → T (fits binary64 (at z' i))) (ek : (i : ℕ) → i < n → T (keep i) → at (a .ratios) i ≡ at k' (cnt keep i)) where
+module _ (keep : ℕ → Bool) (n : ℕ) (small : n ≤ 8) (m m' : Mixture) (hm : SameMixture keep n m m') (a : Question) (z' k' : List Float) (s : SameFeed keep n (a .fractions) z')
+    (ek : (i : ℕ) → i < n → T (keep i) → at (a .ratios) i ≡ at k' (cnt keep i)) where
   abbrev z : List Float
   z = a .fractions
 
   abbrev b : Question
   b = withFeed a z' k'
 
-  strike-1 : Acc (SameAnswer keep n) (task1 book n a) (task1 book' (cnt keep n) b)
-  unfolding task1 withFeed
-  strike-1 =
-      acc-then (positiveOf (a .temperature) 13) (positiveOf (a .temperature) 13) _ _ (acc-same (positiveOf (a .temperature) 13)) (λ t.
-      acc-bind (SameExcess keep n) _ _ _ _ (struck.task1 keep n small book book' hs hp z z' ez absent fit fit' t) (λ e e' s.
-      acc-need _ _ 25 _ _ (subst T (isFinite-≈ (s .reduced))) (λ h.
-      acc-ok (excess-answer keep n small t e e' _ _ s (struck.task1-validity keep n small book book' hs hp z z' ez absent fit fit' t)))))
+  fewer : {c : ℕ} → c ≤ m .n → c ≤ n
+  fewer l = omega (arith, l, hm .count)
 
-  strike-2 : Acc (SameAnswer keep n) (task2 book n a) (task2 book' (cnt keep n) b)
-  unfolding task2 withFeed
-  strike-2 =
-      acc-then (positiveOf (a .temperature) 13) (positiveOf (a .temperature) 13) _ _ (acc-same (positiveOf (a .temperature) 13)) (λ t.
-      acc-bind (SameSaturation keep n) _ _ _ _ (struck.task2 keep n small book book' hs hp z z' ez absent fit fit' t) (λ s s' h. acc-ok (saturation-answer keep n small s s' h)))
+  strike-1 : (t : Float) → Acc (SameAnswer keep n) (task1 m a t) (task1 m' b t)
+  unfolding task1 excessFound withFeed
+  strike-1 t =
+      acc-bind (SameExcess keep n) _ _ _ _ (hm .excess t z z' (struck.feed-fractions keep n s)) (λ e e' h.
+      acc-need _ _ 25 _ _ (subst T (isFinite-≈ (h .reduced))) (λ f.
+      acc-ok (excess-answer keep n small t e e' _ _ h (hm .validity t z z' s))))
 
-  strike-3 : Acc (SameAnswer keep n) (task3 book n a) (task3 book' (cnt keep n) b)
-  unfolding task3 withFeed
-  strike-3 =
-      acc-then (positiveOf (a .temperature) 13) (positiveOf (a .temperature) 13) _ _ (acc-same (positiveOf (a .temperature) 13)) (λ t.
-      acc-bind (SameSaturation keep n) _ _ _ _ (struck.task3 keep n small book book' hs hp z z' ez absent fit fit' t (a .tolerance) (a .«max_iterations»)) (λ s s' h. acc-ok (saturation-answer keep n small s s' h)))
+  strike-2 : (t : Float) → Acc (SameAnswer keep n) (task2 m a t) (task2 m' b t)
+  unfolding task2 saturated withFeed
+  strike-2 t = acc-bind (SameSaturation keep n) _ _ _ _ (struck.task2 keep n small m m' hm z z' s t) (λ u u' h. acc-ok (saturation-answer keep n small u u' h))
 
-  strike-4 : Acc (SameAnswer keep n) (task4 book n a) (task4 book' (cnt keep n) b)
-  unfolding task4 withFeed
-  strike-4 =
-      acc-then (positiveOf (a .pressure) 14) (positiveOf (a .pressure) 14) _ _ (acc-same (positiveOf (a .pressure) 14)) (λ p.
-      acc-bind (SameSaturation keep n) _ _ _ _ (struck.task4 keep n small book book' hs hp z z' ez absent fit fit' p (a .tolerance) (a .«max_temperature_iterations») (a .low) (a .high)) (λ s s' h. acc-ok (saturation-answer keep n small s s' h)))
+  strike-3 : (t : Float) → Acc (SameAnswer keep n) (task3 m a t) (task3 m' b t)
+  unfolding task3 saturated withFeed
+  strike-3 t = acc-bind (SameSaturation keep n) _ _ _ _ (struck.task3 keep n small m m' hm z z' s (a .options) t) (λ u u' h. acc-ok (saturation-answer keep n small u u' h))
 
-  strike-6 : Acc (SameAnswer keep n) (task6 book n a) (task6 book' (cnt keep n) b)
+  strike-4 : (p : Float) → Acc (SameAnswer keep n) (task4 m a p) (task4 m' b p)
+  unfolding task4 saturated withFeed
+  strike-4 p = acc-bind (SameSaturation keep n) _ _ _ _ (struck.task4 keep n small m m' hm z z' s (a .options) p) (λ u u' h. acc-ok (saturation-answer keep n small u u' h))
+
+  strike-6 : (t : Float) → Acc (SameAnswer keep n) (task6 m a t) (task6 m' b t)
   unfolding task6 withFeed
-  strike-6 =
-      acc-then (positiveOf (a .temperature) 13) (positiveOf (a .temperature) 13) _ _ (acc-same (positiveOf (a .temperature) 13)) (λ t.
-      acc-bind (λ (s s' : Trials). SameTrials keep n s s' × (stabilityOf (modelOf book n t) (a .«tm_threshold») n z (a .«max_iterations») ≡ ok s)) _ _ _ _
-      (acc-known (SameTrials keep n) _ _ (struck.task6 keep n small book book' hs hp z z' ez absent fit fit' t (a .«tm_threshold») (a .«max_iterations»))) (λ s s' h.
-      acc-ok (stability-answer keep n small s s' (h .0) (stability-few (modelOf book n t) (a .«tm_threshold») n z (a .«max_iterations») .each s (h .1) .count))))
+  strike-6 t =
+      acc-bind (λ (u u' : Trials). SameTrials keep n u u' × (stabilityOf (activity m t) (m .n) (a .options) z ≡ ok u)) _ _ _ _
+      (acc-known (SameTrials keep n) _ _ (struck.task6 keep n small m m' hm z z' s (a .options) t)) (λ u u' h.
+      acc-ok (stability-answer keep n small u u' (h .0) (fewer (stability-few (activity m t) (m .n) (a .options) z .each u (h .1) .count))))
 
-  strike-7 : Acc (SameAnswer keep n) (task7 book n a) (task7 book' (cnt keep n) b)
+  strike-7 : (t p : Float) → Acc (SameAnswer keep n) (task7 m a t p) (task7 m' b t p)
   unfolding task7 withFeed
-  strike-7 =
-      acc-then (positiveOf (a .temperature) 13) (positiveOf (a .temperature) 13) _ _ (acc-same (positiveOf (a .temperature) 13)) (λ t.
-      acc-then (positiveOf (a .pressure) 14) (positiveOf (a .pressure) 14) _ _ (acc-same (positiveOf (a .pressure) 14)) (λ p.
-      acc-bind (λ (f f' : Flash). SameFlash keep n f f' × (tpFlash (modelOf book n) (liquidsOf book n) (temperatureInDomain book n) n (a .«tm_threshold») (a .tolerance) (a .«max_iterations») t z p ≡ ok f)) _ _ _ _
-      (acc-known (SameFlash keep n) _ _ (struck.task7 keep n small book book' hs hp z z' ez absent fit fit' (a .«tm_threshold») (a .tolerance) (a .«max_iterations») t p)) (λ f f' h.
-      acc-ok (flash-answer keep n small t p f f' (h .0)
-      (flash-few (modelOf book n) (liquidsOf book n) (temperatureInDomain book n) n (a .«tm_threshold») (a .tolerance) (a .«max_iterations») t z p f (h .1) .count)))))
+  strike-7 t p =
+      acc-bind (λ (f f' : Flash). SameFlash keep n f f' × (tpFlash (activity m) (m .liquids) (m .domain) (m .n) (a .options) t z p ≡ ok f)) _ _ _ _
+      (acc-known (SameFlash keep n) _ _ (struck.task7 keep n small m m' hm z z' s (a .options) t p)) (λ f f' h.
+      acc-ok (flash-answer keep n small t p f f' (h .0) (fewer (flash-few (activity m) (m .liquids) (m .domain) (m .n) (a .options) t z p f (h .1) .count))))
 
-  strike-8 : Acc (SameAnswer keep n) (task8 book n a) (task8 book' (cnt keep n) b)
+  strike-8 : Acc (SameAnswer keep n) (task8 m a) (task8 m' b)
   unfolding task8 withFeed
   strike-8 =
-      acc-bind (SameRice keep n) _ _ _ _ (struck.task8 keep n small (at z) (at z') (at (a .ratios)) (at k') ez ek absent fit fit' (a .«max_iterations»)) (λ r r' h.
-      acc-ok (subst (λ (o : RachfordRiceOutcome). SameAnswer keep n (riceSheet (r .outcome) (r .liquid) (r .vapor)) (riceSheet o (r' .liquid) (r' .vapor))) (h .outcome) (rice-answer keep n small (r .outcome) (r .liquid) (r' .liquid) (r .vapor) (r' .vapor) (h .liquid) (h .vapor))))
+      acc-bind (SameRice keep n) _ _ _ _ (struck.task8 keep n small m m' hm z z' s (a .ratios) k' ek (a .options .«max_iterations»)) (λ r r' h.
+      acc-ok (subst (λ (o : RachfordRiceOutcome). SameAnswer keep n (alone (riceBlock (r .outcome) (r .liquid) (r .vapor))) (alone (riceBlock o (r' .liquid) (r' .vapor)))) (h .outcome)
+      (rice-answer keep n small (r .outcome) (r .liquid) (r' .liquid) (r .vapor) (r' .vapor) (h .liquid) (h .vapor))))
 
-  strike-9 : Acc (SameAnswer keep n) (task9 book n a) (task9 book' (cnt keep n) b)
+  strike-9 : Acc (SameAnswer keep n) (task9 m a) (task9 m' b)
   unfolding task9 withFeed
   strike-9 =
-      acc-bind (SameSolution keep n) _ _ _ _ (struck.task9 keep n small (at z) (at z') (at (a .ratios)) (at k') ez ek absent fit fit' (a .«max_iterations»)) (λ s s' h.
-      acc-ok (subst (λ (o : RachfordRiceOutcome). SameAnswer keep n (riceSheet (both s) (s .liquid) (s .vapor)) (riceSheet o (s' .liquid) (s' .vapor))) (same-both s s' h) (rice-answer keep n small (both s) (s .liquid) (s' .liquid) (s .vapor) (s' .vapor) (h .liquid) (h .vapor))))
+      acc-bind (SameSolution keep n) _ _ _ _ (struck.task9 keep n small m m' hm z z' s (a .ratios) k' ek (a .options .«max_iterations»)) (λ u u' h.
+      acc-ok (subst (λ (o : RachfordRiceOutcome). SameAnswer keep n (alone (riceBlock (both u) (u .liquid) (u .vapor))) (alone (riceBlock o (u' .liquid) (u' .vapor)))) (same-both u u' h)
+      (rice-answer keep n small (both u) (u .liquid) (u' .liquid) (u .vapor) (u' .vapor) (h .liquid) (h .vapor))))
     where
       both : Solution → RachfordRiceOutcome
-      both s = TwoPhase (s .vaporFraction) (s .residual) (s .iterations)
+      both u = TwoPhase (u .vaporFraction) (u .residual) (u .iterations)
 
-      same-both : (s s' : Solution) → SameSolution keep n s s' → both s ≡ both s'
-      same-both s s' h = rw (h .vaporFraction, h .residual, h .iterations)
+      same-both : (u u' : Solution) → SameSolution keep n u u' → both u ≡ both u'
+      same-both u u' h = rw (h .vaporFraction, h .residual, h .iterations)
+
+  strike-at : (t : Float) → Acc (SameAnswer keep n) (taskAt m a t) (taskAt m' b t)
+  unfolding taskAt withFeed
+  strike-at t =
+      acc-if _ _ _ _ _ _ refl (λ e. strike-1 t) (λ f1.
+      acc-if _ _ _ _ _ _ refl (λ e. strike-2 t) (λ f2.
+      acc-if _ _ _ _ _ _ refl (λ e. strike-3 t) (λ f3.
+      acc-if _ _ _ _ _ _ refl (λ e. strike-6 t) (λ f6.
+      acc-then (positiveOf (a .pressure) 14) (positiveOf (a .pressure) 14) _ _ (acc-same (positiveOf (a .pressure) 14)) (λ p. strike-7 t p)))))
 
   -- by the task's number
-  strike-fed : a .task ≢ 5 → Acc (SameAnswer keep n) (taskOf book n a) (taskOf book' (cnt keep n) b)
-  unfolding taskOf withFeed
+  strike-fed : a .task ≢ 5 → Acc (SameAnswer keep n) (taskOf m a) (taskOf m' b)
+  unfolding taskOf taskUnder taskSplit withFeed
   strike-fed other =
-      acc-if _ _ _ _ _ _ refl (λ t. strike-1) (λ f1.
-      acc-if _ _ _ _ _ _ refl (λ t. strike-2) (λ f2.
-      acc-if _ _ _ _ _ _ refl (λ t. strike-3) (λ f3.
-      acc-if _ _ _ _ _ _ refl (λ t. strike-4) (λ f4.
-      acc-if _ _ _ _ _ _ refl (λ t. absurd (other (eqb→eq (a .task) 5 t))) (λ f5.
-      acc-if _ _ _ _ _ _ refl (λ t. strike-6) (λ f6.
-      acc-if _ _ _ _ _ _ refl (λ t. strike-7) (λ f7.
-      acc-if _ _ _ _ _ _ refl (λ t. strike-8) (λ f8.
-      acc-if _ _ _ _ _ _ refl (λ t. strike-9) (λ f9. acc-no (no 12))))))))))
+      acc-if _ _ _ _ _ _ refl (λ e. acc-then (positiveOf (a .temperature) 13) (positiveOf (a .temperature) 13) _ _ (acc-same (positiveOf (a .temperature) 13)) strike-at) (λ f.
+      acc-if _ _ _ _ _ _ refl (λ e. acc-then (positiveOf (a .pressure) 14) (positiveOf (a .pressure) 14) _ _ (acc-same (positiveOf (a .pressure) 14)) (λ p.
+      acc-if _ _ _ _ _ _ refl (λ four. strike-4 p) (λ five. absurd (other (five-left (a .task) f e five))))) (λ g.
+      acc-if _ _ _ _ _ _ refl (λ e. strike-8) (λ f8.
+      acc-if _ _ _ _ _ _ refl (λ e. strike-9) (λ f9. acc-no (no 12)))))
 
-pub strike-task : (keep : ℕ → Bool) (n : ℕ) → n ≤ 8 → (book book' : List ℕ) → KeptSolvents keep n book book' → KeptPairs keep n book book' → (a b : Question) → SameQuestion keep n a b → a .task ≢ 5
-    → Acc (SameAnswer keep n) (taskOf book n a) (taskOf book' (cnt keep n) b)
-strike-task keep n small book book' hs hp a b h other =
-    subst (λ (c : Question). Acc (SameAnswer keep n) (taskOf book n a) (taskOf book' (cnt keep n) c)) (sym (h .rest))
-    (strike-fed keep n small book book' hs hp a (b .fractions) (b .ratios) (h .fractions) (h .absent) (h .fit) (h .fit') (h .ratios) other)
+pub strike-task : (keep : ℕ → Bool) (n : ℕ) → n ≤ 8 → (m m' : Mixture) → SameMixture keep n m m' → (a b : Question) → SameQuestion keep n a b → a .task ≢ 5
+    → Acc (SameAnswer keep n) (taskOf m a) (taskOf m' b)
+strike-task keep n small m m' hm a b h other =
+    subst (λ (c : Question). Acc (SameAnswer keep n) (taskOf m a) (taskOf m' c)) (sym (h .rest)) (strike-fed keep n small m m' hm a (b .fractions) (b .ratios) (h .feed) (h .ratios) other)

@@ -11,8 +11,9 @@ use Rattle.floats.specs.Small.{absOf}
 use Rattle.floats.specs.Vector.{at}
 use Rattle.numerics.specs.Numerics.{lnOf}
 use Rattle.thermo_types.specs.Quantities.{positiveOf}
-use Rattle.thermo_models.specs.Model.{Activity, Pures, Model, Liquids}
-use Rattle.saturation_temperature.specs.Boiling.{weight, weightSum, weightSlope, bubblePoint, bubbleTemperature}
+use Rattle.thermo_types.specs.declared.ActivityOptions.{ActivityOptions}
+use Rattle.thermo_models.specs.Model.{Activity, Pures, Activities, Liquids}
+use Rattle.saturation_temperature.specs.Boiling.{weight, weightSum, weightSlope, bubblePointFrom, bubbleSaturation, saturationTemperature, bubblePointAt, bubblePoint, bubbleFound, bubbleTemperature}
 use Rattle.zeros.specs.Same.{_≈_}
 use Rattle.zeros.proofs.Congruence.{≈refl, same, add-≈, mul-≈, div-≈}
 use Rattle.zeros.proofs.Numbers.{exp-≈}
@@ -26,7 +27,7 @@ use Rattle.striking.proofs.Saturation.{SameBubble, strike-bubble, strik
 use Rattle.striking.proofs.Search.{SamePoint, strike-solve}
 
 module _ (keep : ℕ → Bool) (n : ℕ) (small : n ≤ 8)
-    (E E' : Model) (hE : (t : Float) (x x' : List Float) → Fractions keep n (at x) (at x') → Acc (SameActivity keep n) (E t x) (E' t x'))
+    (E E' : Activities) (hE : (t : Float) (x x' : List Float) → Fractions keep n (at x) (at x') → Acc (SameActivity keep n) (E t x) (E' t x'))
     (L L' : Liquids) (hL : (t : Float) → Acc (SamePures keep n) (L t) (L' t))
     (x x' : List Float) (hx : Fractions keep n (at x) (at x')) (ex : (i : ℕ) → i < n → T (keep i) → at x i ≡ at x' (cnt keep i)) where
   module _ (a a' : Activity) (ha : SameActivity keep n a a') (u u' : Pures) (hu : SamePures keep n u u') where
@@ -41,28 +42,26 @@ module _ (keep : ℕ → Bool) (n : ℕ) (small : n ≤ 8)
     unfolding weightSlope
     same-weightSlope = strike-active keep n _≈_ (at x) (at x') hx _ _ 0f 0f (≈refl 0f) (λ i l q b c h. add-≈ h (mul-≈ (same (same-weight i l q)) (add-≈ (ha .slopes i l q) (same (hu .slope i l q)))))
 
-  pub strike-bubblePoint : (p t : Float) → Acc SamePoint (bubblePoint E L n p x t) (bubblePoint E' L' (cnt keep n) p x' t)
-  unfolding bubblePoint
-  strike-bubblePoint p t =
-      acc-then _ _ _ _ (acc-same (positiveOf t 13)) (λ T₁.
-      acc-bind (SameActivity keep n) _ _ _ _ (hE T₁ x x' hx) (λ a a' ha.
-      acc-bind (SamePures keep n) _ _ _ _ (hL T₁) (λ u u' hu.
+  strike-bubblePointAt : (p t : Float) → Acc SamePoint (bubblePointAt E L n p x t) (bubblePointAt E' L' (cnt keep n) p x' t)
+  unfolding bubblePointAt bubblePointFrom
+  strike-bubblePointAt p t =
+      acc-bind (SameActivity keep n) _ _ _ _ (hE t x x' hx) (λ a a' ha.
+      acc-bind (SamePures keep n) _ _ _ _ (hL t) (λ u u' hu.
       acc-ok (record {
         value = ap (λ (v : Float). lnOf v ⊖ lnOf p) (same-weightSum a a' ha u u' hu);
         slope = div-≈ (same-weightSlope a a' ha u u' hu) (same-weightSum a a' ha u u' hu);
-      }))))
+      })))
 
-  -- `activity_bubble_temperature`
-  pub strike-bubbleTemperature : (p tolerance : Float) (limit : ℕ) (lo hi : Float)
-      → Acc (SameSaturation keep n) (bubbleTemperature E L n p x tolerance limit lo hi) (bubbleTemperature E' L' (cnt keep n) p x' tolerance limit lo hi)
-  unfolding bubbleTemperature
-  strike-bubbleTemperature p tolerance limit lo hi =
-      acc-need _ _ 23 _ _ (λ h. h) (λ g.
-      acc-then _ _ _ _ (strike-solve (bubblePoint E L n p x) (bubblePoint E' L' (cnt keep n) p x') (strike-bubblePoint p) tolerance lo hi limit) (λ root.
-      acc-then _ _ _ _ (acc-same (positiveOf (root .temperature) 13)) (λ T₁.
-      acc-bind (SamePures keep n) _ _ _ _ (hL T₁) (λ u u' hu.
-      acc-bind (SameBubble keep n) _ _ _ _ (strike-bubble keep n small (u .pressure) (u' .pressure) (hu .pressure) (E T₁) (E' T₁) (hE T₁) x x' hx) (λ b b' hb.
-      acc-bind _≈_ _ _ _ _ (strike-residual keep n small (u .pressure) (u' .pressure) (hu .pressure) (E T₁) (E' T₁) (hE T₁) p p refl x x' (b .vapor) (b' .vapor) hx (hb .vapor)) (λ r r' hr.
+  strike-bubblePoint : (p t : Float) → Acc SamePoint (bubblePoint E L n p x t) (bubblePoint E' L' (cnt keep n) p x' t)
+  unfolding bubblePoint
+  strike-bubblePoint p t = acc-then _ _ _ _ (acc-same (positiveOf t 13)) (strike-bubblePointAt p)
+
+  strike-bubbleFound : (p : Float) (iterations : ℕ) (t : Float) → Acc (SameSaturation keep n) (bubbleFound E L n p x iterations t) (bubbleFound E' L' (cnt keep n) p x' iterations t)
+  unfolding bubbleFound bubbleSaturation
+  strike-bubbleFound p iterations t =
+      acc-bind (SamePures keep n) _ _ _ _ (hL t) (λ u u' hu.
+      acc-bind (SameBubble keep n) _ _ _ _ (strike-bubble keep n small (u .pressure) (u' .pressure) (hu .pressure) (E t) (E' t) (hE t) x x' hx) (λ b b' hb.
+      acc-bind _≈_ _ _ _ _ (strike-residual keep n small (u .pressure) (u' .pressure) (hu .pressure) (E t) (E' t) (hE t) p p refl x x' (b .vapor) (b' .vapor) hx (hb .vapor)) (λ r r' hr.
       acc-ok (record {
         temperature = refl;
         pressure = refl;
@@ -70,4 +69,12 @@ module _ (keep : ℕ → Bool) (n : ℕ) (small : n ≤ 8)
         vapor = hb .vapor;
         residual = max-≈ hr (same (ap (λ (q : Float). absOf (lnOf (q ⊘ p))) (hb .pressure)));
         iterations = refl;
-      })))))))
+      }))))
+
+  -- `activity_bubble_temperature`
+  pub strike-bubbleTemperature : (o : ActivityOptions) (p : Float) → Acc (SameSaturation keep n) (bubbleTemperature E L n o p x) (bubbleTemperature E' L' (cnt keep n) o p x')
+  unfolding bubbleTemperature saturationTemperature
+  strike-bubbleTemperature o p =
+      acc-need _ _ 23 _ _ (λ h. h) (λ g.
+      acc-then _ _ _ _ (strike-solve (bubblePoint E L n p x) (bubblePoint E' L' (cnt keep n) p x') (strike-bubblePoint p) o) (λ root.
+      acc-then _ _ _ _ (acc-same (positiveOf (root .temperature) 13)) (strike-bubbleFound p (root .iterations))))

@@ -16,11 +16,12 @@ use Rattle.floats.specs.Outcome.{ok}
 use Rattle.floats.proofs.Folds.{all-at}
 use Rattle.floats.proofs.Outcomes.{need-yes}
 use Rattle.book.specs.Places.{words, pairCount, blockCount, rowFrom, pairPlace}
-use Rattle.book.specs.Book.{floatsFinite, headRight, solventRight, rangeRight, termCount, recordRight, recordsRight, casNew, pairRight, rowRight, boundsFinite, pairFinite, alphasEqual, pairsOf, solventsOf, headOf, bookOf}
+use Rattle.book.specs.declared.Head.{Head}
+use Rattle.book.specs.Book.{headIn, ruleOf, floatsFinite, headRight, solventRight, rangeRight, termCount, recordRight, recordsRight, casNew, pairRight, rowRight, boundsFinite, pairFinite, alphasEqual, pairsOf, solventsOf, headOf, bookOf}
 use Rattle.book.proofs.Unread.{floats-same}
-use Rattle.book.proofs.Accepted.{Accepted, accepted, solvent-stands, records-stand, pair-stands, floats-stand, alphas-stand}
+use Rattle.book.proofs.Accepted.{Accepted, accepted, opened-head, solvent-stands, records-stand, pair-stands, floats-stand, alphas-stand}
 use Rattle.striking.specs.Places.{cnt}
-use Rattle.striking.specs.Books.{ShorterBook, KeptSolvents, KeptPairs}
+use Rattle.striking.specs.Books.{ShorterBook, KeptSolvents, KeptPairs, shorterHead}
 use Rattle.striking.proofs.Strike.{place, cnt-lt-back}
 use Rattle.striking.proofs.Acc.{all-of}
 use Rattle.striking.proofs.Excess.{cnt-le}
@@ -183,34 +184,46 @@ module _ (keep : ℕ → Bool) (n : ℕ) where
           let e : i + 1 + d - i - 1 ≡ d = omega arith in
           subst (λ (x : ℕ). pairRight (words s' (rowFrom (cnt keep n) i + x)) i (i + 1 + d) ≡ true) e (pair-places i (i + 1 + d) (omega arith) (omega arith)))
 
-      pairs-open : pairsOf (words s') (cnt keep n) ≡ ok (cnt keep n)
+      -- block 0 with its version
+      abbrev headed : ℕ → Head
+      headed version = record { n = cnt keep n; version = version }
+
+      pairs-open : (version : ℕ) → pairsOf (words s') (headed version) ≡ ok (headed version)
       unfolding pairsOf
-      pairs-open =
+      pairs-open version =
           need-yes 7 _ (all-true (λ i. rowRight (words s') i (rowFrom (cnt keep n) i) (cnt keep n - i - 1)) (cnt keep n) rows-right)
           ∙ need-yes 8 _ (each-pair (λ b. pairFinite (words s' b)) (cnt keep n) few (at-pairs (λ i j. pairFinite (words s' (pairPlace (cnt keep n) i j)) ≡ true) (λ i j l u p q. sym (finite-same _ _ (shorter-pairs .pair i j l u p q)) ∙ floats-stand s n a i j l u)))
           ∙ need-yes 9 _ (each-pair (λ b. alphasEqual (words s' b)) (cnt keep n) few (at-pairs (λ i j. alphasEqual (words s' (pairPlace (cnt keep n) i j)) ≡ true) (λ i j l u p q. sym (alphas-same _ _ (shorter-pairs .pair i j l u p q)) ∙ alphas-stand s n a i j l u)))
 
-      solvents-open : solventsOf (words s') (cnt keep n) ≡ ok (cnt keep n)
+      solvents-open : (version : ℕ) → solventsOf (words s') (headed version) ≡ ok (headed version)
       unfolding solventsOf
-      solvents-open =
+      solvents-open version =
           need-yes 4 _ (at-places (λ i. solventRight (words s' (i + 1)) i) (λ i l q. solvent-right _ _ i (cnt keep i) (h .solvent i l q) (h .index i l q) (solvent-stands s n a i l)))
           ∙ need-yes 5 _ (at-places (λ i. recordsRight (words s' (i + 1))) (λ i l q. sym (records-same _ _ (shorter-solvents .solvent i l q)) ∙ records-stand s n a i l))
           ∙ need-yes 6 _ (at-places (casNew (words s')) cas-places)
-          ∙ pairs-open
+          ∙ pairs-open version
 
       blocks : length s' / 512 ≡ blockCount (cnt keep n)
       blocks = omega (arith, h .size)
 
-      opens : bookOf s' ≡ ok (cnt keep n)
-      unfolding bookOf headOf
+      opens : bookOf s' ≡ ok (headed (words s' 0 1))
+      unfolding bookOf headOf headIn
       opens =
           need-yes 1 _ (eq-eqb (length s' % 512) 0 (omega (arith, h .size)))
           ∙ need-yes 1 _ (lt-ltb 0 (length s') (omega (arith, h .size)))
-          ∙ need-yes 2 _ (subst (λ (c : ℕ). allTo (λ k. checkRight (words s' k)) c ≡ true) (sym blocks) (is-true _ (h .checks)))
+          ∙ need-yes 2 _ (subst (λ (c : ℕ). allTo (λ k. checkRight (ruleOf s') (words s' k)) c ≡ true) (sym blocks) (is-true _ (h .checks)))
           ∙ need-yes 3 _ (head-right (words s 0) (words s' 0) (h .head) (subst (λ (x : ℕ). 0 < x) (sym (h .count)) some) (subst (λ (x : ℕ). x ≤ 8) (sym (h .count)) few) (a .head))
           ∙ need-yes 3 _ (eq-eqb (length s' / 512) (blockCount (words s' 0 2)) (blocks ∙ ap (λ (x : ℕ). blockCount x) (sym (h .count))))
-          ∙ subst (λ (x : ℕ). solventsOf (words s') x ≡ ok (cnt keep n)) (sym (h .count)) solvents-open
+          ∙ subst (λ (x : ℕ). solventsOf (words s') (record { n = x; version = words s' 0 1 }) ≡ ok (headed (words s' 0 1))) (sym (h .count)) (solvents-open (words s' 0 1))
 
 -- questions 1 to 9; that some solvent is kept follows from a feed that sums to 1
-pub strike-book : (keep : ℕ → Bool) (n : ℕ) (s s' : List ℕ) → ShorterBook keep n s s' → 0 < cnt keep n → bookOf s ≡ ok n → bookOf s' ≡ ok (cnt keep n)
-strike-book keep n s s' h some e = opens keep n s s' h (accepted s e) some
+pub strike-book : (keep : ℕ → Bool) (g : Head) (s s' : List ℕ) → ShorterBook keep (g .n) s s' → 0 < cnt keep (g .n) → bookOf s ≡ ok g → bookOf s' ≡ ok (shorterHead keep g)
+unfolding headIn shorterHead
+strike-book keep g s s' h some e =
+    let version : words s' 0 1 ≡ g .version = sym (h .head 1 (omega arith) (λ (z : 1 ≡ 2). omega arith)) ∙ ap (λ (x : Head). x .version) (opened-head s e) in
+    opens keep (g .n) s s' h (accepted s e) some ∙ ap (λ (v : ℕ). ok (record { n = cnt keep (g .n); version = v })) version
+
+-- both books are summed by one rule
+pub rule-same : (keep : ℕ → Bool) (n : ℕ) (s s' : List ℕ) → ShorterBook keep n s s' → ruleOf s ≡ ruleOf s'
+unfolding ruleOf
+rule-same keep n s s' h = refl

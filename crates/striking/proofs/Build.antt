@@ -11,18 +11,22 @@ use borrow.Author.Tests.{lt-ltb, le-ltb, le-leb, lt-leb, eq-eqb, ne-eqb}
 use lib.ListN.{length, length-append}
 use lib.Dec.{T, eqb, ltb, leb, ltb→lt, nltb→le}
 use lib.Ieee.Bits.{is-true}
-use Rattle.floats.specs.Outcome.{ok}
+use Rattle.floats.specs.Outcome.{Out, ok, no, bind}
 use Rattle.blocks.specs.Words.{word, checkRight}
 use Rattle.blocks.specs.Bytes.{rowTo, blockBytes}
 use Rattle.blocks.proofs.Laws.{length-row, length-block-bytes}
 use Rattle.book.specs.Places.{words, blockCount, rowFrom, pairPlace}
-use Rattle.book.specs.Book.{bookOf}
+use Rattle.book.specs.Book.{bookOf, ruleOf}
+use Rattle.book.specs.declared.Head.{Head}
+use Rattle.blocks.specs.declared.Rule.{Rule}
+use Rattle.sheet.specs.Sheet.{sheetOf}
 use Rattle.book.proofs.Laws.{row-fits}
-use Rattle.book.proofs.Accepted.{accepted}
+use Rattle.book.proofs.Accepted as open-book
 use Rattle.striking.specs.Places.{cnt}
 use Rattle.striking.specs.Books.{ShorterBook}
 use Rattle.striking.specs.Questions.{ShorterQuestion, Shorter, keptIn, solvents}
-use Rattle.striking.specs.Build.{Bytes, keptAt, change, headWords, solventWords, pairWords, pairRow, shorterBook, moveUp, shorterQuestion}
+use Rattle.striking.specs.Build.{Bytes, keptAt, change, headWords, solventWords, pairWords, pairRow, shorterBook, moveUp, shorterQuestion, shorterOf, shorterAsk}
+use Rattle.striking.specs.Theorem.{Accepted}
 use Rattle.striking.proofs.Strike.{cnt-lt}
 use Rattle.striking.proofs.Acc.{all-of}
 use Rattle.striking.proofs.Excess.{cnt-le}
@@ -61,13 +65,16 @@ module _ (f x : ℕ) (w : ℕ → ℕ) where
 
 -- ---- the book: where each block stands
 module _ (keep : ℕ → Bool) (n : ℕ) (book : List ℕ) where
-  solvents-long : (k : ℕ) → length (rowTo (λ k. blockBytes (solventWords keep n book k)) k) ≡ k * 512
-  solvents-long k = length-row (λ k. blockBytes (solventWords keep n book k)) 512 k (λ k. length-block-bytes (solventWords keep n book k))
+  abbrev rule : Rule
+  rule = ruleOf book
 
-  row-long : (i d : ℕ) → length (rowTo (λ d. blockBytes (pairWords keep n book i (i + 1 + d))) d) ≡ d * 512
-  row-long i d = length-row (λ d. blockBytes (pairWords keep n book i (i + 1 + d))) 512 d (λ d. length-block-bytes (pairWords keep n book i (i + 1 + d)))
+  solvents-long : (k : ℕ) → length (rowTo (λ k. blockBytes rule (solventWords keep n book k)) k) ≡ k * 512
+  solvents-long k = length-row (λ k. blockBytes rule (solventWords keep n book k)) 512 k (λ k. length-block-bytes rule (solventWords keep n book k))
 
-  front-long : length (blockBytes (headWords keep n book) ++ rowTo (λ k. blockBytes (solventWords keep n book k)) (cnt keep n)) ≡ 512 * (1 + cnt keep n)
+  row-long : (i d : ℕ) → length (rowTo (λ d. blockBytes rule (pairWords keep n book i (i + 1 + d))) d) ≡ d * 512
+  row-long i d = length-row (λ d. blockBytes rule (pairWords keep n book i (i + 1 + d))) 512 d (λ d. length-block-bytes rule (pairWords keep n book i (i + 1 + d)))
+
+  front-long : length (blockBytes rule (headWords keep n book) ++ rowTo (λ k. blockBytes rule (solventWords keep n book k)) (cnt keep n)) ≡ 512 * (1 + cnt keep n)
   front-long = rw (length-append, length-block-bytes, solvents-long (cnt keep n)) (omega arith)
 
   rows-long : (i : ℕ) → 512 * (1 + cnt keep n) + length (rowTo (pairRow keep n book) i) ≡ 512 * rowFrom (cnt keep n) i
@@ -75,34 +82,34 @@ module _ (keep : ℕ → Bool) (n : ℕ) (book : List ℕ) where
   rows-long zero = omega arith
   rows-long (suc i) = rw (length-append, row-long i (cnt keep n - i - 1)) (omega (arith, rows-long i))
 
-  head-at : Stands (shorterBook keep n book) (512 * 0) (blockBytes (headWords keep n book))
+  head-at : Stands (shorterBook keep n book) (512 * 0) (blockBytes rule (headWords keep n book))
   unfolding shorterBook
   head-at = inside (first-of _ _) (first-of _ _) (omega arith)
 
-  solvent-at : (k : ℕ) → k < cnt keep n → Stands (shorterBook keep n book) (512 * (k + 1)) (blockBytes (solventWords keep n book k))
+  solvent-at : (k : ℕ) → k < cnt keep n → Stands (shorterBook keep n book) (512 * (k + 1)) (blockBytes rule (solventWords keep n book k))
   unfolding shorterBook
   solvent-at k l =
-      inside (first-of _ _) (inside (last-of (blockBytes (headWords keep n book)) _) (in-row (λ k. blockBytes (solventWords keep n book k)) (cnt keep n) k l) refl)
-      (omega (arith, length-block-bytes (headWords keep n book), solvents-long k))
+      inside (first-of _ _) (inside (last-of (blockBytes rule (headWords keep n book)) _) (in-row (λ k. blockBytes rule (solventWords keep n book k)) (cnt keep n) k l) refl)
+      (omega (arith, length-block-bytes rule (headWords keep n book), solvents-long k))
 
-  pair-in-row : (i j : ℕ) → i < j → j < cnt keep n → Stands (pairRow keep n book i) (512 * (j - i - 1)) (blockBytes (pairWords keep n book i j))
+  pair-in-row : (i j : ℕ) → i < j → j < cnt keep n → Stands (pairRow keep n book i) (512 * (j - i - 1)) (blockBytes rule (pairWords keep n book i j))
   unfolding pairRow
   pair-in-row i j l m =
       let e : i + 1 + (j - i - 1) ≡ j = omega arith in
-      let f : length (rowTo (λ d. blockBytes (pairWords keep n book i (i + 1 + d))) (j - i - 1)) ≡ 512 * (j - i - 1) = omega (arith, row-long i (j - i - 1)) in
-      rw (e, f) at (in-row (λ d. blockBytes (pairWords keep n book i (i + 1 + d))) (cnt keep n - i - 1) (j - i - 1) (omega arith))
+      let f : length (rowTo (λ d. blockBytes rule (pairWords keep n book i (i + 1 + d))) (j - i - 1)) ≡ 512 * (j - i - 1) = omega (arith, row-long i (j - i - 1)) in
+      rw (e, f) at (in-row (λ d. blockBytes rule (pairWords keep n book i (i + 1 + d))) (cnt keep n - i - 1) (j - i - 1) (omega arith))
 
-  pair-at : (i j : ℕ) → i < j → j < cnt keep n → Stands (shorterBook keep n book) (512 * pairPlace (cnt keep n) i j) (blockBytes (pairWords keep n book i j))
+  pair-at : (i j : ℕ) → i < j → j < cnt keep n → Stands (shorterBook keep n book) (512 * pairPlace (cnt keep n) i j) (blockBytes rule (pairWords keep n book i j))
   unfolding shorterBook pairPlace
   pair-at i j l m =
-      inside (last-of (blockBytes (headWords keep n book) ++ rowTo (λ k. blockBytes (solventWords keep n book k)) (cnt keep n)) _)
+      inside (last-of (blockBytes rule (headWords keep n book) ++ rowTo (λ k. blockBytes rule (solventWords keep n book k)) (cnt keep n)) _)
       (inside (in-row (pairRow keep n book) (cnt keep n) i (omega arith)) (pair-in-row i j l m) refl) (omega (arith, front-long, rows-long i))
 
   pub book-bytes : Bytes (shorterBook keep n book)
   unfolding shorterBook pairRow
   book-bytes =
-      append-bytes _ _ (append-bytes _ _ (block-bytes (headWords keep n book)) (row-bytes _ (cnt keep n) (λ k. block-bytes (solventWords keep n book k))))
-      (row-bytes (pairRow keep n book) (cnt keep n) (λ i. row-bytes _ (cnt keep n - i - 1) (λ d. block-bytes (pairWords keep n book i (i + 1 + d)))))
+      append-bytes _ _ (append-bytes _ _ (block-bytes rule (headWords keep n book)) (row-bytes _ (cnt keep n) (λ k. block-bytes rule (solventWords keep n book k))))
+      (row-bytes (pairRow keep n book) (cnt keep n) (λ i. row-bytes _ (cnt keep n - i - 1) (λ d. block-bytes rule (pairWords keep n book i (i + 1 + d)))))
 
   -- ---- the book: what is read of each block
   module _ (few : n ≤ 8) (h : Bytes book) where
@@ -120,12 +127,12 @@ module _ (keep : ℕ → Bool) (n : ℕ) (book : List ℕ) where
         change-small 1 i _ (omega (arith, fewer)) (change-small 2 j _ (omega (arith, fewer)) (words-small book h (pairPlace n (keptAt keep n i) (keptAt keep n j))))
 
     head-read : (f : ℕ) → f < 63 → words (shorterBook keep n book) 0 f ≡ headWords keep n book f
-    head-read = read-word (headWords keep n book) head-small _ 0 head-at
+    head-read = read-word rule (headWords keep n book) head-small _ 0 head-at
 
     solvent-read : (i : ℕ) → i < n → T (keep i) → (f : ℕ) → f < 63 → words (shorterBook keep n book) (cnt keep i + 1) f ≡ change 1 (cnt keep i) (words book (i + 1)) f
     solvent-read i l t f u =
         let m : cnt keep i < cnt keep n = cnt-lt keep i n t l in
-        read-word (solventWords keep n book (cnt keep i)) (solvent-small (cnt keep i) m) _ (cnt keep i + 1) (solvent-at (cnt keep i) m) f u ∙ rw (at-place keep n i l t)
+        read-word rule (solventWords keep n book (cnt keep i)) (solvent-small (cnt keep i) m) _ (cnt keep i + 1) (solvent-at (cnt keep i) m) f u ∙ rw (at-place keep n i l t)
 
     pair-read : (i j : ℕ) → i < j → j < n → T (keep i) → T (keep j) → (f : ℕ) → f < 63
         → words (shorterBook keep n book) (pairPlace (cnt keep n) (cnt keep i) (cnt keep j)) f ≡ change 1 (cnt keep i) (change 2 (cnt keep j) (words book (pairPlace n i j))) f
@@ -133,30 +140,35 @@ module _ (keep : ℕ → Bool) (n : ℕ) (book : List ℕ) where
         let a : cnt keep i < cnt keep j = cnt-lt keep i j p l in
         let b : cnt keep j < cnt keep n = cnt-lt keep j n q m in
         let e : i < n = omega arith in
-        read-word (pairWords keep n book (cnt keep i) (cnt keep j)) (pair-small _ _ a b) _ (pairPlace (cnt keep n) (cnt keep i) (cnt keep j)) (pair-at _ _ a b) f u
+        read-word rule (pairWords keep n book (cnt keep i) (cnt keep j)) (pair-small _ _ a b) _ (pairPlace (cnt keep n) (cnt keep i) (cnt keep j)) (pair-at _ _ a b) f u
         ∙ rw (at-place keep n i e p, at-place keep n j m q)
 
-    pair-check : (b : ℕ) → PairOf (cnt keep n) b → T (checkRight (words (shorterBook keep n book) b))
+    pair-check : (b : ℕ) → PairOf (cnt keep n) b → T (checkRight rule (words (shorterBook keep n book) b))
     pair-check b r =
         rw (r .stands)
-        (read-check (pairWords keep n book (r .first) (r .second)) (pair-small _ _ (r .ordered) (r .below)) _ (pairPlace (cnt keep n) (r .first) (r .second)) (pair-at _ _ (r .ordered) (r .below)))
+        (read-check rule (pairWords keep n book (r .first) (r .second)) (pair-small _ _ (r .ordered) (r .below)) _ (pairPlace (cnt keep n) (r .first) (r .second)) (pair-at _ _ (r .ordered) (r .below)))
 
-    each-check : (b : ℕ) → b < blockCount (cnt keep n) → T (checkRight (words (shorterBook keep n book) b))
-    each-check zero l = read-check (headWords keep n book) head-small _ 0 head-at
+    each-check : (b : ℕ) → b < blockCount (cnt keep n) → T (checkRight rule (words (shorterBook keep n book) b))
+    each-check zero l = read-check rule (headWords keep n book) head-small _ 0 head-at
     each-check (suc k) l = go (ltb k (cnt keep n)) (ltb→lt k (cnt keep n)) (nltb→le k (cnt keep n))
       where
-        go : (b : Bool) → (T b → k < cnt keep n) → (T (not b) → cnt keep n ≤ k) → T (checkRight (words (shorterBook keep n book) (suc k)))
-        go true f g = rw add-one at (read-check (solventWords keep n book k) (solvent-small k (f tt)) _ (k + 1) (solvent-at k (f tt)))
+        go : (b : Bool) → (T b → k < cnt keep n) → (T (not b) → cnt keep n ≤ k) → T (checkRight rule (words (shorterBook keep n book) (suc k)))
+        go true f g = rw add-one at (read-check rule (solventWords keep n book k) (solvent-small k (f tt)) _ (k + 1) (solvent-at k (f tt)))
         go false f g = pair-check (suc k) (found (cnt keep n) (suc k) (cnt keep n) (le-refl (cnt keep n)) (omega (arith, g tt)) (omega (arith, rows-end (cnt keep n) fewer)))
 
     book-long : length (shorterBook keep n book) ≡ 512 * blockCount (cnt keep n)
     unfolding shorterBook
     book-long = rw length-append (omega (arith, front-long, rows-long (cnt keep n), rows-end (cnt keep n) fewer, row-fits (cnt keep n) (cnt keep n) fewer (le-refl (cnt keep n))))
 
+    -- the rule that its blocks were made by is its own
+    pub built-rule : ruleOf (shorterBook keep n book) ≡ rule
+    unfolding ruleOf
+    built-rule = refl
+
     pub builds-book : ShorterBook keep n book (shorterBook keep n book)
     builds-book = record {
       size = book-long;
-      checks = all-of (λ b. checkRight (words (shorterBook keep n book) b)) (blockCount (cnt keep n)) each-check;
+      checks = rw built-rule (all-of (λ b. checkRight rule (words (shorterBook keep n book) b)) (blockCount (cnt keep n)) each-check);
       head = λ k l d. sym (head-read k l ∙ change-other 2 _ _ k d);
       count = head-read 2 (omega arith) ∙ change-at 2 _ _;
       solvent = λ i l t k u d. sym (solvent-read i l t k u ∙ change-other 1 _ _ k d);
@@ -189,18 +201,18 @@ module _ (keep : ℕ → Bool) (n f : ℕ) (w : ℕ → ℕ) where
   unfolding moveUp
   moved-behind k l = rw (le-leb f k (omega arith), le-ltb k (f + 8) l)
 
-module _ (keep : ℕ → Bool) (n : ℕ) (question : List ℕ) where
-  pub question-bytes : Bytes (shorterQuestion keep n question)
+module _ (rule : Rule) (keep : ℕ → Bool) (n : ℕ) (question : List ℕ) where
+  pub question-bytes : Bytes (shorterQuestion rule keep n question)
   unfolding shorterQuestion
-  question-bytes = block-bytes _
+  question-bytes = block-bytes rule _
 
-  pub builds-question : n ≤ 8 → Bytes question → ShorterQuestion keep n question (shorterQuestion keep n question)
+  pub builds-question : n ≤ 8 → Bytes question → ShorterQuestion rule keep n question (shorterQuestion rule keep n question)
   unfolding shorterQuestion
   builds-question few h =
-      let r = written-word (moveUp keep n 4 (moveUp keep n 19 (word question))) small in
+      let r = written-word rule (moveUp keep n 4 (moveUp keep n 19 (word question))) small in
       record {
-        size = length-block-bytes _;
-        check = written-check _ small;
+        size = length-block-bytes rule _;
+        check = written-check rule _ small;
         head = λ k l. sym (r k (omega arith) ∙ moved-before keep n 4 _ k l ∙ moved-before keep n 19 _ k (omega arith));
         fraction = λ i l t. sym (r (4 + cnt keep i) (below i 4 l (omega arith)) ∙ moved-kept keep n 4 _ few i l t ∙ moved-before keep n 19 _ (4 + i) (omega arith));
         options = λ k l m. sym (r k (omega arith) ∙ moved-behind keep n 4 _ k l ∙ moved-before keep n 19 _ k m);
@@ -214,16 +226,20 @@ module _ (keep : ℕ → Bool) (n : ℕ) (question : List ℕ) where
       below : (i f : ℕ) → i < n → f ≤ 19 → f + cnt keep i < 63
       below i f l m = omega (arith, cnt-le keep i)
 
--- ---- both, of any book that says it has up to 8 solvents, so of every accepted one
-pub builds : (book question : List ℕ) → solvents book ≤ 8 → Bytes book → Bytes question
-    → Shorter book question (shorterBook (keptIn question) (solvents book) book) (shorterQuestion (keptIn question) (solvents book) question)
+-- ---- both, of any book that says it has up to 8 solvents
+pub builds : (book question : List ℕ) → solvents book ≤ 8 → Bytes book → Bytes question → Shorter book question (shorterOf book question) (shorterAsk book question)
 builds book question few b q = record {
   of-book = builds-book (keptIn question) (solvents book) book few b;
-  of-question = builds-question (keptIn question) (solvents book) question few q;
+  of-question = rw (built-rule (keptIn question) (solvents book) book few b) (builds-question (ruleOf book) (keptIn question) (solvents book) question few q);
 }
 
-pub accepted-builds : (book question : List ℕ) {n : ℕ} → bookOf book ≡ ok n → Bytes book → Bytes question
-    → Shorter book question (shorterBook (keptIn question) n book) (shorterQuestion (keptIn question) n question)
-accepted-builds book question e b q =
-    let a = accepted book e in
-    rw (a .count) at (builds book question (omega (arith, a .few, a .count)) b q)
+-- so of every accepted call
+few-of : (book : List ℕ) (o : Out Head) → bookOf book ≡ o → (k : Head → Out (List ℕ)) → Accepted (bind o k) → solvents book ≤ 8
+unfolding Accepted bind
+few-of book (no r) e k h = absurd h
+few-of book (ok g) e k h = let a = open-book.accepted book e in omega (arith, a .few, a .count)
+
+pub accepted-builds : (book question : List ℕ) (room : ℕ) → Accepted (sheetOf book question room) → Bytes book → Bytes question
+    → Shorter book question (shorterOf book question) (shorterAsk book question)
+unfolding sheetOf
+accepted-builds book question room a b q = builds book question (few-of book (bookOf book) refl _ a) b q

@@ -40,10 +40,6 @@ J-same {a} {b} p = subst (λ (x : Jet). a ⊑J x) p (J-refl a)
 pub J-of-D : {a b : Jet} → a ⊑D b → a ⊑J b
 J-of-D p = record { v = ⊑-weaken (p .v); d = p .d; dd = p .dd }
 
-pub J-add : {a a' b b' : Jet} → a ⊑J a' → b ⊑J b' → addJ a b ⊑J addJ a' b'
-unfolding addJ
-J-add p q = record { v = ⊑-add (p .v) (q .v); d = ⊑-add (p .d) (q .d); dd = ⊑-add (p .dd) (q .dd) }
-
 pub J-sub : {a a' b b' : Jet} → a ⊑J a' → b ⊑J b' → subJ a b ⊑J subJ a' b'
 unfolding subJ
 J-sub p q = record { v = ⊑-sub (p .v) (q .v); d = ⊑-sub (p .d) (q .d); dd = ⊑-sub (p .dd) (q .dd) }

@@ -14,10 +14,11 @@ use Rattle.floats.specs.Vector.{at, fill, zeros8}
 use Rattle.floats.specs.Outcome.{Out, ok, bind, need, choose}
 use Rattle.numerics.specs.Numerics.{expOf, lnOf}
 use Rattle.thermo_types.specs.Composition.{sumsToOne, normalizeOf}
+use Rattle.thermo_types.specs.declared.ActivityOptions.{ActivityOptions}
 use Rattle.thermo_models.specs.Model.{Activity}
 use Rattle.rachford_rice.specs.Rachford.{Solution, residualOf, slopeOf, kMax, kMin, validate, turnOf, liquidPart, vaporPart, solutionAt, iterate, between, negative}
 use Rattle.saturation.specs.Saturation.{Bubble, bubbleFrom, gapAt}
-use Rattle.liquid_stability.specs.Stability.{Trials, noTrials, noTrial, withTrial, trialWith, presentCount, tangent, startOf, totalOf, trialComposition, distanceOf, changeOf, apartOf, unstable, trialFrom, stabilityOf}
+use Rattle.liquid_stability.specs.Stability.{Trials, noTrials, noTrial, withTrial, trialWith, presentCount, tangent, startFrom, othersIn, totalOf, trialComposition, distanceOf, changeOf, apartOf, unstable, judge, trialFrom, stabilityOf}
 use Rattle.tp_flash.specs.Split.{Split, kValues, phaseOf, splitGap, turnAt, splitTurn, splitFrom}
 use Rattle.zeros.specs.Same.{_≈_}
 use Rattle.zeros.specs.Below.{_⊑_}
@@ -228,17 +229,21 @@ gap-of-all keep n small ps ps' hps lg lg' hl p x x' y y' hx hy =
     (λ i l q a b h. ≈trans (same (ap (maxOf a) (gap-nan _ _ _ (low-less _ _ _ (ln-low _ (hy .absent i l q)) (ln-low _ (hx .absent i l q)))) ∙ max-nan a)) h)
 
 -- ---- 4. the component of a trial
-abbrev pub StabilityLaw : ((List Float → Out Activity) → Float → ℕ → List Float → ℕ → Out Trials) → Type 0
+abbrev pub StabilityLaw : ((List Float → Out Activity) → ℕ → ActivityOptions → List Float → Out Trials) → Type 0
 StabilityLaw stability =
     (keep : ℕ → Bool) (n : ℕ) → n ≤ 8 → (E E' : List Float → Out Activity) → ((x x' : List Float) → Fractions keep n (at x) (at x') → Acc (SameActivity keep n) (E x) (E' x'))
-    → (threshold : Float) (x x' : List Float) → Fractions keep n (at x) (at x') → (limit : ℕ)
-    → Acc (SameTrials keep n) (stability E threshold n x limit) (stability E' threshold (cnt keep n) x' limit)
+    → (o : ActivityOptions) (x x' : List Float) → Fractions keep n (at x) (at x')
+    → Acc (SameTrials keep n) (stability E n o x) (stability E' (cnt keep n) o x')
 
 pub stability-law : StabilityLaw stabilityOf
 stability-law = strike-stability
 
+-- one turn, and a threshold that every tm is below
+once : ActivityOptions
+once = record { «max_iterations» = 1; tolerance = 0f; «max_temperature_iterations» = 1; «tm_threshold» = 2f; «minimum_temperature_k» = 0f; «maximum_temperature_k» = 0f }
+
 -- the first trial, of solvent 1, is numbered 0, which is absent
 pub stability-leaks : StabilityLaw leakyStability → ⊥
-unfolding cnt leakyTrials leakyStability ideal dilute noTrials noTrial withTrial trialWith presentCount tangent startOf totalOf trialComposition distanceOf changeOf apartOf
-    unstable trialFrom expOf lnOf ofBits add sub mul div neg lt le eq isNan ofInt toSigned size isFinite foldTo fill bind need choose
-stability-leaks law = law keep 4 (omega arith) dilute ideal same-model 2f feed feed' fractions 1 .says .trials 0 (omega arith) .kept
+unfolding cnt once leakyTrials leakyStability ideal dilute noTrials noTrial withTrial trialWith presentCount tangent startFrom othersIn totalOf trialComposition distanceOf changeOf apartOf
+    unstable judge trialFrom expOf lnOf ofBits add sub mul div neg lt le eq isNan ofInt toSigned size isFinite foldTo fill bind need choose
+stability-leaks law = law keep 4 (omega arith) dilute ideal same-model once feed feed' fractions .says .trials 0 (omega arith) .kept

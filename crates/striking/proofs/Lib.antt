@@ -4,7 +4,7 @@ pub mod Acc
 pub mod Jets
 pub mod Sums
 pub mod Excess
-pub mod Models
+pub mod Nrtl
 pub mod Active
 pub mod Vectors
 pub mod Rice
@@ -16,7 +16,6 @@ pub mod Sizes
 pub mod Split
 pub mod Flash
 pub mod Liquids
-pub mod Parameters
 pub mod Validity
 pub mod Words
 pub mod Tasks

@@ -11,14 +11,14 @@ use lib.Seq.{getD-set-same, getD-set-other}
 use lib.Dec.{T}
 use lib.Ieee.{Float, nan}
 use lib.Ieee.Fits.{and-i, and-l, and-r}
-use Rattle.floats.specs.Arithmetic.{#}
+use Rattle.thermo_types.specs.Quantities.{lowestKelvin, highestKelvin}
 use Rattle.floats.specs.Fold.{allTo}
-use Rattle.floats.specs.Small.{floatOf}
+use Rattle.floats.specs.Small.{floatOf, float}
 use Rattle.floats.specs.Vector.{at, vec, zeros8, places}
 use Rattle.floats.specs.Outcome.{Out, ok, bind}
 use Rattle.floats.proofs.Fills.{fill-cong}
 use Rattle.book.specs.Places.{words}
-use Rattle.book.specs.Book.{float, termCount}
+use Rattle.book.specs.Book.{termCount}
 use Rattle.records.specs.declared.Ancillary.{Ancillary}
 use Rattle.records.specs.declared.Range.{Range}
 use Rattle.records.specs.Records.{ancillaryOf, rangeOf}
@@ -79,7 +79,7 @@ module _ (keep : ℕ → Bool) (n : ℕ) (book book' : List ℕ) (hb : KeptSolve
   pub strike-domain : (t : Float) → T (temperatureInDomain book n t) → T (temperatureInDomain book' (cnt keep n) t)
   unfolding temperatureInDomain
   strike-domain t h =
-      let a = inRange (# 0x4071128f5c28f5c3) (# 0x407c200000000000) t in
+      let a = inRange lowestKelvin highestKelvin t in
       and-i a (allTo (solventCovers book' t) (cnt keep n)) (and-l a (allTo (solventCovers book t) n) h)
       (strike-all keep (solventCovers book t) (solventCovers book' t) n (λ k l q u. subst T (same-covers k l q t) u) (and-r a (allTo (solventCovers book t) n) h))
 

@@ -12,26 +12,27 @@ use lib.Ieee.{Float, binary64, fits, ofBits, lt}
 use lib.Ieee.Bits.{ofBits-fits}
 use lib.Ieee.Fits.{and-i, and-l, and-r}
 use Rattle.floats.specs.Arithmetic.{_⊖_, 0f, 1f}
-use Rattle.floats.specs.Small.{isFinite, absOf, floatOf}
+use Rattle.floats.specs.Small.{isFinite, absOf, floatOf, float}
 use Rattle.floats.specs.Fold.{allTo}
-use Rattle.floats.specs.Vector.{at}
+use Rattle.floats.specs.Vector.{at, vec}
 use Rattle.floats.proofs.Fills.{vec-at}
 use Rattle.floats.specs.Outcome.{Out}
-use Rattle.thermo_types.specs.Composition.{tolerance, sumsToOne}
-use Rattle.blocks.specs.Words.{word}
-use Rattle.question.specs.Inputs.{isTask, needsTemperature, needsPressure, needsOptions, needsRatios}
-use Rattle.question.specs.Asked.{float, fraction, ratio, positive, optionsRight, unless, limited, questionFrom, inputsRight, limitsRight, questionOf}
+use Rattle.thermo_types.specs.Composition.{sumTolerance, allFinite, allPositive, sumsToOne}
+use Rattle.blocks.specs.Words.{word, checkRight}
+use Rattle.blocks.specs.declared.Rule.{Rule}
+use Rattle.question.specs.Inputs.{isTask, needsTemperature, needsPressure, needsOptions, needsRatios, ifNeeded}
+use Rattle.question.specs.Asked.{taskIn, feedOf, fraction, ratio, ratiosOf, positive, temperatureRight, pressureRight, inputsFinite, ratiosPositive, inputsRight, optionsRight, limited, limitsSome, limitsFew, limitsRight, optionsIn, questionFrom, restOf, questionOf}
 use Rattle.question.specs.declared.Question.{Question}
 use Rattle.zeros.proofs.Zero.{Zero}
 use Rattle.striking.specs.Places.{cnt}
 use Rattle.striking.specs.Accepted.{Acc}
 use Rattle.striking.specs.Related.{Fractions}
 use Rattle.striking.specs.Questions.{keptIn, ShorterQuestion}
-use Rattle.striking.proofs.Acc.{acc-ok, acc-need, strike-all}
+use Rattle.striking.proofs.Acc.{acc-ok, acc-need, acc-bind, strike-all}
 use Rattle.striking.proofs.Excess.{same-sum, cnt-le}
 use Rattle.striking.proofs.Strike.{cnt-lt}
 use Rattle.striking.proofs.Vectors.{vec-fits}
-use Rattle.striking.proofs.Tasks.{feed-fractions}
+use Rattle.striking.proofs.Tasks.{SameFeed, feed-fractions}
 use Rattle.striking.proofs.Some.{some-kept}
 
 -- ---- an absent solvent's fraction is a zero
@@ -46,51 +47,23 @@ absent-zero q i h = go (eqb (word q (4 + i)) 0) (eqb→eq (word q (4 + i)) 0) (e
 
 -- ---- the same question with another feed and other K
 unfoldable pub withFeed : Question → List Float → List Float → Question
-withFeed q z k = record {
-  task = q .task;
-  temperature = q .temperature;
-  pressure = q .pressure;
-  fractions = z;
-  «max_iterations» = q .«max_iterations»;
-  tolerance = q .tolerance;
-  «max_temperature_iterations» = q .«max_temperature_iterations»;
-  «tm_threshold» = q .«tm_threshold»;
-  low = q .low;
-  high = q .high;
-  ratios = k;
-}
+withFeed q z k = record { task = q .task; temperature = q .temperature; pressure = q .pressure; fractions = z; options = q .options; ratios = k }
 
 -- the kept fractions and K at their new places, all else equal
 pub record SameQuestion (keep : ℕ → Bool) (n : ℕ) (a b : Question) : Type 0 where
   pub rest : b ≡ withFeed a (b .fractions) (b .ratios)
-  pub fractions : (i : ℕ) → i < n → T (keep i) → at (a .fractions) i ≡ at (b .fractions) (cnt keep i)
-  pub absent : (i : ℕ) → i < n → T (not (keep i)) → Zero (at (a .fractions) i)
-  pub fit : (i : ℕ) → T (fits binary64 (at (a .fractions) i))
-  pub fit' : (i : ℕ) → T (fits binary64 (at (b .fractions) i))
+  pub feed : SameFeed keep n (a .fractions) (b .fractions)
   pub ratios : (i : ℕ) → i < n → T (keep i) → at (a .ratios) i ≡ at (b .ratios) (cnt keep i)
 
 -- a test that a task needs
-unless-to : {b b' : Bool} (t t' : Bool) → b ≡ b' → (T t → T t') → T (unless b t) → T (unless b' t')
-unless-to {b} {b'} t t' e f h = subst (λ (c : Bool). T (unless c t')) e (go b h)
+needed-to : {b b' : Bool} (t t' : Bool) → b ≡ b' → (T t → T t') → T (ifNeeded b t) → T (ifNeeded b' t')
+needed-to {b} {b'} t t' e f h = subst (λ (c : Bool). T (ifNeeded c t')) e (go b h)
   where
-    go : (b : Bool) → T (unless b t) → T (unless b t')
+    go : (b : Bool) → T (ifNeeded b t) → T (ifNeeded b t')
     go true h = f h
     go false h = tt
 
-abbrev finite : (ℕ → ℕ) → ℕ → Bool
-finite w n = allTo (λ i. isFinite (fraction w i)) n
-
-abbrev finiteK : (ℕ → ℕ) → ℕ → Bool
-finiteK w n = allTo (λ i. isFinite (ratio w i)) n
-
--- both limits: not 0, and not too many
-abbrev both : (ℕ → ℕ) → Bool
-both w = not (eqb (w 12) 0) && not (eqb (w 14) 0)
-
-abbrev most : (ℕ → ℕ) → Bool
-most w = limited (w 12) && limited (w 14)
-
-module _ (keep : ℕ → Bool) (n : ℕ) (small : n ≤ 8) (q q' : List ℕ) (h : ShorterQuestion keep n q q') (absent : (i : ℕ) → i < n → T (not (keep i)) → Zero (fraction (word q) i)) where
+module _ (keep : ℕ → Bool) (n : ℕ) (small : n ≤ 8) (rule : Rule) (q q' : List ℕ) (h : ShorterQuestion rule keep n q q') where
   abbrev w : ℕ → ℕ
   w = word q
 
@@ -106,64 +79,79 @@ module _ (keep : ℕ → Bool) (n : ℕ) (small : n ≤ 8) (q q' : List ℕ) (h 
   option : (k : ℕ) → 12 ≤ k → k < 19 → w k ≡ v k
   option = h .options
 
-  ez : (i : ℕ) → i < n → T (keep i) → fraction w i ≡ fraction v (cnt keep i)
-  ez i l t = ap floatOf (h .fraction i l t)
-
-  ek : (i : ℕ) → i < n → T (keep i) → ratio w i ≡ ratio v (cnt keep i)
-  ek i l t = ap floatOf (h .ratio i l t)
-
-  hz : Fractions keep n (fraction w) (fraction v)
-  hz = feed-fractions keep n (fraction w) (fraction v) ez absent (λ i. ofBits-fits binary64 (w (4 + i))) (λ i. ofBits-fits binary64 (v (4 + i)))
-
   task : w 1 ≡ v 1
   task = at-head 1 (omega arith)
 
   by-task : (f : ℕ → Bool) → f (w 1) ≡ f (v 1)
   by-task f = ap f task
 
-  -- a test of every fraction, or of every K
+  -- entries of two arrays, read from words at their places
+  entries : (f : ℕ) → ((i : ℕ) → i < n → T (keep i) → w (f + i) ≡ v (f + cnt keep i)) → (i : ℕ) → i < n → T (keep i)
+      → at (vec (λ k. float w (f + k)) n) i ≡ at (vec (λ k. float v (f + k)) (cnt keep n)) (cnt keep i)
+  entries f e i l t =
+      vec-at (λ k. float w (f + k)) n i small l ∙ ap floatOf (e i l t) ∙ sym (vec-at (λ k. float v (f + k)) (cnt keep n) (cnt keep i) few (cnt-lt keep i n t l))
+
+  ek : (i : ℕ) → i < n → T (keep i) → at (ratiosOf q n) i ≡ at (ratiosOf q' (cnt keep n)) (cnt keep i)
+  ek = entries 19 (h .ratio)
+
+  -- the feed in words 4 to 11
+  feed-same : ((i : ℕ) → i < n → T (not (keep i)) → Zero (fraction w i)) → SameFeed keep n (feedOf q n) (feedOf q' (cnt keep n))
+  feed-same absent = record {
+    fractions = entries 4 (h .fraction);
+    absent = λ i l t. subst Zero (sym (vec-at (fraction w) n i small l)) (absent i l t);
+    fit = vec-fits (fraction w) (λ i. ofBits-fits binary64 (w (4 + i))) n;
+    fit' = vec-fits (fraction v) (λ i. ofBits-fits binary64 (v (4 + i))) (cnt keep n);
+  }
+
+  -- a test of every entry
   each : (f g : ℕ → Float) → ((i : ℕ) → i < n → T (keep i) → f i ≡ g (cnt keep i)) → (p : Float → Bool) → T (allTo (λ i. p (f i)) n) → T (allTo (λ i. p (g i)) (cnt keep n))
   each f g e p = strike-all keep (λ i. p (f i)) (λ i. p (g i)) n (λ i l t. subst (λ (x : Float). T (p x)) (e i l t))
 
-  sums : T (allTo (λ i. isFinite (fraction w i)) n) → sumsToOne (fraction w) n ≡ sumsToOne (fraction v) (cnt keep n)
-  unfolding sumsToOne
-  sums f = ap (λ (s : Float). not (lt tolerance (absOf (s ⊖ 1f)))) (same-sum keep n small (fraction w) (fraction v) hz f)
+  -- ---- 13 to 18, put to any two feeds that are the same
+  module _ (x x' : List Float) (s : SameFeed keep n x x') where
+    hz : Fractions keep n (at x) (at x')
+    hz = feed-fractions keep n s
 
-  strike-inputs : {A A' : Type 0} {R : A → A' → Type 0} (o : Out A) (o' : Out A') → (0 < cnt keep n → Acc R o o') → Acc R (inputsRight w n o) (inputsRight v (cnt keep n) o')
-  unfolding inputsRight
-  strike-inputs o o' f =
-      acc-need _ _ 13 _ _ (unless-to (positive (float w 2)) (positive (float v 2)) (by-task needsTemperature) (subst (λ (x : ℕ). T (positive (floatOf x))) (at-head 2 (omega arith)))) (λ h13.
-      acc-need _ _ 14 _ _ (unless-to (positive (float w 3)) (positive (float v 3)) (by-task needsPressure) (subst (λ (x : ℕ). T (positive (floatOf x))) (at-head 3 (omega arith)))) (λ h14.
-      acc-need (finite w n && unless (needsRatios (w 1)) (finiteK w n)) (finite v (cnt keep n) && unless (needsRatios (v 1)) (finiteK v (cnt keep n))) 15 _ _
-      (λ t. and-i (finite v (cnt keep n)) _ (each (fraction w) (fraction v) ez isFinite (and-l (finite w n) _ t))
-      (unless-to (finiteK w n) (finiteK v (cnt keep n)) (by-task needsRatios) (each (ratio w) (ratio v) ek isFinite) (and-r (finite w n) _ t))) (λ h15.
-      acc-need _ _ 16 _ _ (each (fraction w) (fraction v) ez (λ x. not (lt x 0f))) (λ h16.
-      acc-need _ _ 17 _ _ (unless-to (allTo (λ i. lt 0f (ratio w i)) n) (allTo (λ i. lt 0f (ratio v i)) (cnt keep n)) (by-task needsRatios) (each (ratio w) (ratio v) ek (λ x. lt 0f x))) (λ h17.
-      acc-need _ _ 18 _ _ (subst T (sums (and-l (finite w n) _ h15))) (λ h18.
-      f (some-kept keep n small (fraction w) (fraction v) hz (and-l (finite w n) _ h15) h18)))))))
+    sums : T (allFinite (at x) n) → sumsToOne (at x) n ≡ sumsToOne (at x') (cnt keep n)
+    unfolding sumsToOne
+    sums f = ap (λ (s : Float). not (lt sumTolerance (absOf (s ⊖ 1f)))) (same-sum keep n small (at x) (at x') hz f)
 
+    strike-inputs : {A A' : Type 0} {R : A → A' → Type 0} (o : Out A) (o' : Out A') → (0 < cnt keep n → Acc R o o')
+        → Acc R (inputsRight w n x (ratiosOf q n) o) (inputsRight v (cnt keep n) x' (ratiosOf q' (cnt keep n)) o')
+    unfolding inputsRight
+    strike-inputs o o' f =
+        acc-need (temperatureRight w) (temperatureRight v) 13 _ _ (needed-to (positive (float w 2)) (positive (float v 2)) (by-task needsTemperature) (subst (λ (k : ℕ). T (positive (floatOf k))) (at-head 2 (omega arith)))) (λ h13.
+        acc-need (pressureRight w) (pressureRight v) 14 _ _ (needed-to (positive (float w 3)) (positive (float v 3)) (by-task needsPressure) (subst (λ (k : ℕ). T (positive (floatOf k))) (at-head 3 (omega arith)))) (λ h14.
+        acc-need (inputsFinite w n x (ratiosOf q n)) (inputsFinite v (cnt keep n) x' (ratiosOf q' (cnt keep n))) 15 _ _
+        (λ t. and-i (allFinite (at x') (cnt keep n)) _ (each (at x) (at x') (s .fractions) isFinite (and-l (allFinite (at x) n) _ t))
+        (needed-to (allFinite (at (ratiosOf q n)) n) (allFinite (at (ratiosOf q' (cnt keep n))) (cnt keep n)) (by-task needsRatios) (each (at (ratiosOf q n)) (at (ratiosOf q' (cnt keep n))) ek isFinite) (and-r (allFinite (at x) n) _ t))) (λ h15.
+        acc-need _ _ 16 _ _ (each (at x) (at x') (s .fractions) (λ y. not (lt y 0f))) (λ h16.
+        acc-need (ratiosPositive w n (ratiosOf q n)) (ratiosPositive v (cnt keep n) (ratiosOf q' (cnt keep n))) 17 _ _
+        (needed-to (allPositive (at (ratiosOf q n)) n) (allPositive (at (ratiosOf q' (cnt keep n))) (cnt keep n)) (by-task needsRatios) (each (at (ratiosOf q n)) (at (ratiosOf q' (cnt keep n))) ek (λ y. lt 0f y))) (λ h17.
+        acc-need _ _ 18 _ _ (subst T (sums (and-l (allFinite (at x) n) _ h15))) (λ h18.
+        f (some-kept keep n small (at x) (at x') hz (and-l (allFinite (at x) n) _ h15) h18)))))))
+
+  -- ---- 19 to 21
   options-same : optionsRight w ≡ optionsRight v
   unfolding optionsRight
   options-same = rw (option 13 (omega arith) (omega arith), option 15 (omega arith) (omega arith), option 16 (omega arith) (omega arith), option 17 (omega arith) (omega arith), option 18 (omega arith) (omega arith))
 
-  both-same : both w ≡ both v
-  both-same = rw (option 12 (omega arith) (omega arith), option 14 (omega arith) (omega arith))
+  some-same : limitsSome w ≡ limitsSome v
+  some-same = rw (task, option 12 (omega arith) (omega arith), option 14 (omega arith) (omega arith))
 
-  most-same : most w ≡ most v
-  most-same = rw (option 12 (omega arith) (omega arith), option 14 (omega arith) (omega arith))
+  few-same : limitsFew w ≡ limitsFew v
+  few-same = rw (task, option 12 (omega arith) (omega arith), option 14 (omega arith) (omega arith))
 
   strike-limits : {A A' : Type 0} {R : A → A' → Type 0} (o : Out A) (o' : Out A') → Acc R o o' → Acc R (limitsRight w o) (limitsRight v o')
   unfolding limitsRight
   strike-limits o o' f =
-      acc-need _ _ 19 _ _ (unless-to (optionsRight w) (optionsRight v) (by-task needsOptions) (subst T options-same)) (λ h19.
-      acc-need _ _ 20 _ _ (unless-to (both w) (both v) (by-task needsOptions) (subst T both-same)) (λ h20.
-      acc-need (unless (needsOptions (w 1)) (most w) && unless (needsRatios (w 1)) (limited (w 12))) (unless (needsOptions (v 1)) (most v) && unless (needsRatios (v 1)) (limited (v 12))) 21 _ _
-      (λ t. and-i (unless (needsOptions (v 1)) (most v)) _ (unless-to (most w) (most v) (by-task needsOptions) (subst T most-same) (and-l (unless (needsOptions (w 1)) (most w)) _ t))
-      (unless-to (limited (w 12)) (limited (v 12)) (by-task needsRatios) (subst T (ap limited (option 12 (omega arith) (omega arith)))) (and-r (unless (needsOptions (w 1)) (most w)) _ t))) (λ h21. f)))
+      acc-need _ _ 19 _ _ (needed-to (optionsRight w) (optionsRight v) (by-task needsOptions) (subst T options-same)) (λ h19.
+      acc-need _ _ 20 _ _ (subst T some-same) (λ h20.
+      acc-need _ _ 21 _ _ (subst T few-same) (λ h21. f)))
 
-  from-words : SameQuestion keep n (questionFrom w n) (questionFrom v (cnt keep n))
-  unfolding questionFrom withFeed
-  from-words = record {
+  from-words : (x x' : List Float) → SameFeed keep n x x' → SameQuestion keep n (questionFrom w x (ratiosOf q n)) (questionFrom v x' (ratiosOf q' (cnt keep n)))
+  unfolding questionFrom optionsIn withFeed
+  from-words x x' s = record {
     rest = rw (
       ← task,
       ← at-head 2 (omega arith),
@@ -175,19 +163,27 @@ module _ (keep : ℕ → Bool) (n : ℕ) (small : n ≤ 8) (q q' : List ℕ) (h 
       ← option 17 (omega arith) (omega arith),
       ← option 18 (omega arith) (omega arith),
     );
-    fractions = λ i l t. vec-at (fraction w) n i small l ∙ ez i l t ∙ sym (vec-at (fraction v) (cnt keep n) (cnt keep i) few (cnt-lt keep i n t l));
-    absent = λ i l t. subst Zero (sym (vec-at (fraction w) n i small l)) (absent i l t);
-    fit = vec-fits (fraction w) (λ i. ofBits-fits binary64 (w (4 + i))) n;
-    fit' = vec-fits (fraction v) (λ i. ofBits-fits binary64 (v (4 + i))) (cnt keep n);
-    ratios = λ i l t. vec-at (ratio w) n i small l ∙ ek i l t ∙ sym (vec-at (ratio v) (cnt keep n) (cnt keep i) few (cnt-lt keep i n t l));
+    feed = s;
+    ratios = ek;
   }
 
-  -- questions 11 to 21; a feed that passes has a solvent that is kept
-  pub strike-question : Acc (λ (a b : Question). SameQuestion keep n a b × (0 < cnt keep n) × (a .task ≡ word q 1)) (questionOf q n) (questionOf q' (cnt keep n))
-  unfolding questionOf questionFrom
-  strike-question =
-      acc-need _ _ 11 _ _ (λ t. subst T (sym (eq-eqb (length q') 512 (h .size))) tt) (λ size.
-      acc-need _ _ 11 _ _ (λ t. h .check) (λ check.
-      acc-need _ _ 11 _ _ (subst (λ (x : ℕ). T (eqb x 8)) (at-head 0 (omega arith))) (λ kind.
-      acc-need _ _ 12 _ _ (subst T (by-task isTask)) (λ one.
-      strike-inputs _ _ (λ some. strike-limits _ _ (acc-ok (from-words, some, refl)))))))
+  -- ---- block and task
+  strike-taskIn : Acc (λ (a b : ℕ). a ≡ b) (taskIn rule q) (taskIn rule q')
+  unfolding taskIn
+  strike-taskIn =
+      acc-need (eqb (length q) 512) (eqb (length q') 512) 11 _ _ (λ t. subst T (sym (eq-eqb (length q') 512 (h .size))) tt) (λ size.
+      acc-need (checkRight rule w) (checkRight rule v) 11 _ _ (λ t. h .check) (λ check.
+      acc-need (eqb (w 0) 8) (eqb (v 0) 8) 11 _ _ (subst (λ (x : ℕ). T (eqb x 8)) (at-head 0 (omega arith))) (λ kind.
+      acc-need (isTask (w 1)) (isTask (v 1)) 12 _ _ (subst T (by-task isTask)) (λ one. acc-ok task))))
+
+  -- questions 13 to 21 to two feeds that are the same; a feed that passes has a solvent that is kept
+  pub strike-rest : (x x' : List Float) → SameFeed keep n x x'
+      → Acc (λ (a b : Question). SameQuestion keep n a b × (0 < cnt keep n) × (a .task ≡ word q 1)) (restOf q n x) (restOf q' (cnt keep n) x')
+  unfolding restOf questionFrom
+  strike-rest x x' s = strike-inputs x x' s _ _ (λ some. strike-limits _ _ (acc-ok (from-words x x' s, some, refl)))
+
+  -- questions 11 to 21
+  pub strike-question : ((i : ℕ) → i < n → T (not (keep i)) → Zero (fraction (word q) i))
+      → Acc (λ (a b : Question). SameQuestion keep n a b × (0 < cnt keep n) × (a .task ≡ word q 1)) (questionOf rule q n) (questionOf rule q' (cnt keep n))
+  unfolding questionOf
+  strike-question absent = acc-bind (λ (a b : ℕ). a ≡ b) _ _ _ _ strike-taskIn (λ a b e. strike-rest (feedOf q n) (feedOf q' (cnt keep n)) (feed-same absent))

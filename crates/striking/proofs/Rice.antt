@@ -10,7 +10,7 @@ use Rattle.floats.specs.Arithmetic.{_⊕_, _⊖_, _⊗_, _⊘_, 0f, ½, 1f, ∞
 use Rattle.floats.specs.Small.{isFinite, maxOf, minOf, absOf}
 use Rattle.floats.specs.Fold.{foldTo, sumTo, allTo, active}
 use Rattle.floats.specs.Outcome.{Out, ok, need, choose}
-use Rattle.thermo_types.specs.Composition.{tolerance, sumsToOne}
+use Rattle.thermo_types.specs.Composition.{sumTolerance, sumsToOne}
 use Rattle.rachford_rice.specs.declared.RachfordRiceOutcome.{RachfordRiceOutcome}
 use Rattle.rachford_rice.specs.declared.RachfordRiceOutcome.the-variants.{LiquidOnly, VaporOnly, TwoPhase}
 use Rattle.rachford_rice.specs.Rachford.{Solution, turnOf, rootOf, residualOf, slopeOf, kMax, kMin, validate, liquidPart, vaporPart, solutionAt, iterate, between, negative, twoPhase, onePhase, constrained}
@@ -115,8 +115,8 @@ module _ (keep : ℕ → Bool) (n : ℕ) (small : n ≤ 8) (z z' k k' : ℕ → 
       (strike-all keep (λ i. isFinite (z i)) (λ i. isFinite (z' i)) n (λ i l q u. subst T (ap isFinite (ez i l q)) u) (and-l (allTo (λ i. isFinite (z i)) n) (allTo (λ i. isFinite (k i)) n) h))
       (strike-all keep (λ i. isFinite (k i)) (λ i. isFinite (k' i)) n (λ i l q u. subst T (ap isFinite (ek i l q)) u) (and-r (allTo (λ i. isFinite (z i)) n) (allTo (λ i. isFinite (k i)) n) h))) (λ h1.
       acc-need _ _ 16 _ _ (strike-all keep _ _ n (λ i l q u. subst (λ (x : Float). T (not (lt x 0f))) (ez i l q) u)) (λ h2.
-      acc-need _ _ 17 _ _ (strike-all keep _ _ n (λ i l q u. subst (λ (x : Float). T (not (le x 0f))) (ek i l q) u)) (λ h3.
-      acc-need _ _ 18 _ _ (λ h. subst (λ (s : Float). T (not (lt tolerance (absOf (s ⊖ 1f))))) (z-sum (and-l (allTo (λ i. isFinite (z i)) n) (allTo (λ i. isFinite (k i)) n) h1)) h) (λ h4.
+      acc-need _ _ 17 _ _ (strike-all keep _ _ n (λ i l q u. subst (λ (x : Float). T (lt 0f x)) (ek i l q) u)) (λ h3.
+      acc-need _ _ 18 _ _ (λ h. subst (λ (s : Float). T (not (lt sumTolerance (absOf (s ⊖ 1f))))) (z-sum (and-l (allTo (λ i. isFinite (z i)) n) (allTo (λ i. isFinite (k i)) n) h1)) h) (λ h4.
       f (and-r (allTo (λ i. isFinite (z i)) n) (allTo (λ i. isFinite (k i)) n) h1)))))
     where
       z-sum : T (allTo (λ i. isFinite (z i)) n) → sumTo z n ≡ sumTo z' (cnt keep n)

@@ -11,8 +11,9 @@ use Rattle.floats.specs.Small.{isFinite}
 use Rattle.floats.specs.Vector.{at, zeros8}
 use Rattle.floats.specs.Outcome.{Out}
 use Rattle.numerics.specs.Numerics.{lnOf}
-use Rattle.thermo_models.specs.Model.{Activity, Model, Liquids, pressureInDomain}
-use Rattle.saturation.specs.Saturation.{Bubble, Dew, partialOf, partialSum, bubbleFrom, gapAt, gapOf, residualWith, dewTerm, dewPressure, dewLiquid, changeOf, bubbleAt, residual, dewTurn, dewPoint, dewLoop, dewAt, bubblePressure, dewPressurePoint}
+use Rattle.thermo_types.specs.declared.ActivityOptions.{ActivityOptions}
+use Rattle.thermo_models.specs.Model.{Activity, Activities, Liquids, pressureInDomain}
+use Rattle.saturation.specs.Saturation.{Bubble, Dew, partialOf, partialSum, bubbleFrom, gapAt, gapOf, residualWith, dewTerm, dewPressure, dewLiquid, changeOf, bubbleAt, residual, dewTurn, dewPoint, dewLoop, dewAt, bubblePressure, dewPressurePoint, bubbleTask, dewTask}
 use Rattle.zeros.specs.Same.{_≈_}
 use Rattle.zeros.proofs.Congruence.{≈refl, ≈trans, same, add-≈, sub-≈, mul-≈, div-≈, lt-≈, le-≈}
 use Rattle.zeros.proofs.Zero.{Zero}
@@ -150,17 +151,17 @@ module _ (keep : ℕ → Bool) (n : ℕ) (small : n ≤ 8) (ps ps' : List Float)
           (λ c. strike-dewLoop tolerance left (suc done) (a .lnGamma) (a' .lnGamma) (ha .lnGamma)))
 
       -- `dew_at`
-      pub strike-dew : (tolerance : Float) (limit : ℕ) → Acc (SameDew keep n) (dewAt E ps n y tolerance limit) (dewAt E' ps' (cnt keep n) y' tolerance limit)
+      pub strike-dew : (o : ActivityOptions) → Acc (SameDew keep n) (dewAt E ps n o y) (dewAt E' ps' (cnt keep n) o y')
       unfolding dewAt
-      strike-dew tolerance limit = strike-dewLoop tolerance limit 0 zeros8 zeros8 (zeros-kept keep n small)
+      strike-dew o = strike-dewLoop (o .tolerance) (o .«max_iterations») 0 zeros8 zeros8 (zeros-kept keep n small)
 
 -- ---- tasks 2 and 3, for any model and pure liquids that are struck
 module _ (keep : ℕ → Bool) (n : ℕ) (small : n ≤ 8)
-    (E E' : Model) (hE : (t : Float) (x x' : List Float) → Fractions keep n (at x) (at x') → Acc (SameActivity keep n) (E t x) (E' t x'))
+    (E E' : Activities) (hE : (t : Float) (x x' : List Float) → Fractions keep n (at x) (at x') → Acc (SameActivity keep n) (E t x) (E' t x'))
     (L L' : Liquids) (hL : (t : Float) → Acc (SamePures keep n) (L t) (L' t)) where
   -- `activity_bubble_pressure`
   pub strike-bubblePressure : (t : Float) (x x' : List Float) → Fractions keep n (at x) (at x') → Acc (SameSaturation keep n) (bubblePressure E L n t x) (bubblePressure E' L' (cnt keep n) t x')
-  unfolding bubblePressure
+  unfolding bubblePressure bubbleTask
   strike-bubblePressure t x x' hx =
       acc-bind (SamePures keep n) _ _ _ _ (hL t) (λ u u' hu.
       acc-bind (SameBubble keep n) _ _ _ _ (strike-bubble keep n small (u .pressure) (u' .pressure) (hu .pressure) (E t) (E' t) (hE t) x x' hx) (λ b b' hb.
@@ -169,11 +170,11 @@ module _ (keep : ℕ → Bool) (n : ℕ) (small : n ≤ 8)
       acc-ok (record { temperature = refl; pressure = hb .pressure; liquid = hx; vapor = hb .vapor; residual = hr; iterations = refl })))))
 
   -- `activity_dew_pressure`
-  pub strike-dewPressure : (t : Float) (y y' : List Float) → Fractions keep n (at y) (at y') → (tolerance : Float) (limit : ℕ)
-      → Acc (SameSaturation keep n) (dewPressurePoint E L n t y tolerance limit) (dewPressurePoint E' L' (cnt keep n) t y' tolerance limit)
-  unfolding dewPressurePoint
-  strike-dewPressure t y y' hy tolerance limit =
+  pub strike-dewPressure : (o : ActivityOptions) (t : Float) (y y' : List Float) → Fractions keep n (at y) (at y')
+      → Acc (SameSaturation keep n) (dewPressurePoint E L n o t y) (dewPressurePoint E' L' (cnt keep n) o t y')
+  unfolding dewPressurePoint dewTask
+  strike-dewPressure o t y y' hy =
       acc-bind (SamePures keep n) _ _ _ _ (hL t) (λ u u' hu.
-      acc-bind (SameDew keep n) _ _ _ _ (strike-dew keep n small (u .pressure) (u' .pressure) (hu .pressure) (E t) (E' t) (hE t) y y' hy tolerance limit) (λ d d' hd.
+      acc-bind (SameDew keep n) _ _ _ _ (strike-dew keep n small (u .pressure) (u' .pressure) (hu .pressure) (E t) (E' t) (hE t) y y' hy o) (λ d d' hd.
       acc-need _ _ 23 _ _ (λ h. subst (λ (p : Float). T (pressureInDomain p)) (hd .pressure) h) (λ c.
       acc-ok (record { temperature = refl; pressure = hd .pressure; liquid = hd .liquid; vapor = hy; residual = hd .residual; iterations = hd .iterations }))))

@@ -8,7 +8,8 @@ use lib.Ieee.{Float, lt, le, ofBits}
 use Rattle.floats.specs.Arithmetic.{_⊖_, _⊘_, 0f}
 use Rattle.floats.specs.Small.{absOf}
 use Rattle.floats.specs.Outcome.{Out, need}
-use Rattle.saturation_temperature.specs.Search.{Point, Root, Step, middle, stepOf, collapsed, searchFrom, solveTemperature}
+use Rattle.thermo_types.specs.declared.ActivityOptions.{ActivityOptions}
+use Rattle.saturation_temperature.specs.Search.{Point, Root, stepOf, collapsed, searchFrom, solveTemperature}
 use Rattle.zeros.specs.Same.{_≈_}
 use Rattle.zeros.proofs.Congruence.{≈refl, lt-≈}
 use Rattle.zeros.proofs.Zero.{Zero, zero-≈, solid-≈}
@@ -25,43 +26,31 @@ pub positive-solid : (x : Float) → lt 0f x ≡ true → Zero x → ⊥
 unfolding ofBits
 positive-solid x h z = true≢false (sym h ∙ lt-≈ (≈refl 0f) (zero-≈ x 0f z tt) ∙ (unfold lt in refl))
 
-same-step : (a b : Point) → SamePoint a b → (lo hi t : Float) → stepOf a lo hi t ≡ stepOf b lo hi t
+same-step : (f g : Point) → SamePoint f g → (b : _) → stepOf f b ≡ stepOf g b
 unfolding stepOf
-same-step a b h lo hi t = go (lt 0f (a .slope)) refl
+same-step f g h b = go (lt 0f (f .slope)) refl
   where
-    -- the step from f(T), the test of the slope, and the slope
-    from : Float → Bool → Float → Step
-    from v c s =
-        let l = cond (lt v 0f) t lo in
-        let u = cond (lt v 0f) hi t in
-        let w = t ⊖ v ⊘ s in
-        record { lo = l; hi = u; next = cond (c && lt l w && lt w u) w (middle l u) }
+    go : (c : Bool) → lt 0f (f .slope) ≡ c → stepOf f b ≡ stepOf g b
+    go true e = rw (h .value, solid-≈ (f .slope) (g .slope) (positive-solid (f .slope) e) (h .slope))
+    go false e = rw (e, sym (lt-≈ (≈refl 0f) (h .slope)) ∙ e, h .value)
 
-    go : (c : Bool) → lt 0f (a .slope) ≡ c → from (a .value) (lt 0f (a .slope)) (a .slope) ≡ from (b .value) (lt 0f (b .slope)) (b .slope)
-    go true e = cong2 (λ v s. from v (lt 0f s) s) (h .value) (solid-≈ (a .slope) (b .slope) (positive-solid (a .slope) e) (h .slope))
-    go false e =
-        ap (λ (c : Bool). from (a .value) c (a .slope)) e
-        ∙ ap (λ (v : Float). from v false (b .slope)) (h .value)
-        ∙ sym (ap (λ (c : Bool). from (b .value) c (b .slope)) (sym (lt-≈ (≈refl 0f) (h .slope)) ∙ e))
-
-module _ (f f' : Float → Out Point) (hf : (t : Float) → Acc SamePoint (f t) (f' t)) (tolerance : Float) where
-  strike-search : (left done : ℕ) (lo hi t : Float) → Acc (λ (a b : Root). a ≡ b) (searchFrom f tolerance left done lo hi t) (searchFrom f' tolerance left done lo hi t)
+module _ (f f' : Float → Out Point) (hf : (t : Float) → Acc SamePoint (f t) (f' t)) where
+  strike-search : (tolerance : Float) (left done : ℕ) (b : _) → Acc (λ (x y : Root). x ≡ y) (searchFrom f tolerance left done b) (searchFrom f' tolerance left done b)
   unfolding searchFrom
-  strike-search zero done lo hi t = acc-no _
-  strike-search (suc left) done lo hi t =
-      acc-bind SamePoint _ _ _ _ (hf t) (λ a b h.
-      acc-if (le (absOf (a .value)) tolerance) (le (absOf (b .value)) tolerance) _ _ _ _ (ap (λ (v : Float). le (absOf v) tolerance) (h .value)) (λ c. acc-ok refl) (λ c.
-      let s = stepOf a lo hi t in
-      subst (λ (u : Step). Acc (λ (a b : Root). a ≡ b) (need (not (collapsed s t)) 27 (searchFrom f tolerance left (suc done) (s .lo) (s .hi) (s .next))) (need (not (collapsed u t)) 27 (searchFrom f' tolerance left (suc done) (u .lo) (u .hi) (u .next)))) (same-step a b h lo hi t)
-      (acc-need _ _ 27 _ _ (λ g. g) (λ g. strike-search left (suc done) (s .lo) (s .hi) (s .next)))))
+  strike-search tolerance zero done b = acc-no _
+  strike-search tolerance (suc left) done b =
+      acc-bind SamePoint _ _ _ _ (hf (b .next)) (λ v v' h.
+      acc-if (le (absOf (v .value)) tolerance) (le (absOf (v' .value)) tolerance) _ _ _ _ (ap (λ (y : Float). le (absOf y) tolerance) (h .value)) (λ c. acc-ok refl) (λ c.
+      subst (λ u. Acc (λ (x y : Root). x ≡ y) (need (not (collapsed (stepOf v b) (b .next))) 27 (searchFrom f tolerance left (suc done) (stepOf v b))) (need (not (collapsed u (b .next))) 27 (searchFrom f' tolerance left (suc done) u))) (same-step v v' h b)
+      (acc-need _ _ 27 _ _ (λ g. g) (λ g. strike-search tolerance left (suc done) (stepOf v b)))))
 
   -- `solve_temperature`, for any two functions whose points are related
-  pub strike-solve : (lo hi : Float) (limit : ℕ) → Acc (λ (a b : Root). a ≡ b) (solveTemperature f tolerance lo hi limit) (solveTemperature f' tolerance lo hi limit)
+  pub strike-solve : (o : ActivityOptions) → Acc (λ (x y : Root). x ≡ y) (solveTemperature f o) (solveTemperature f' o)
   unfolding solveTemperature
-  strike-solve lo hi limit =
-      acc-bind SamePoint _ _ _ _ (hf lo) (λ a a' ha.
-      acc-bind SamePoint _ _ _ _ (hf hi) (λ b b' hb.
-      acc-if _ _ _ _ _ _ (ap (λ (v : Float). le (absOf v) tolerance) (ha .value)) (λ c. acc-ok refl) (λ c.
-      acc-if _ _ _ _ _ _ (ap (λ (v : Float). le (absOf v) tolerance) (hb .value)) (λ d. acc-ok refl) (λ d.
+  strike-solve o =
+      acc-bind SamePoint _ _ _ _ (hf (o .«minimum_temperature_k»)) (λ a a' ha.
+      acc-bind SamePoint _ _ _ _ (hf (o .«maximum_temperature_k»)) (λ b b' hb.
+      acc-if _ _ _ _ _ _ (ap (λ (v : Float). le (absOf v) (o .tolerance)) (ha .value)) (λ c. acc-ok refl) (λ c.
+      acc-if _ _ _ _ _ _ (ap (λ (v : Float). le (absOf v) (o .tolerance)) (hb .value)) (λ d. acc-ok refl) (λ d.
       acc-need _ _ 26 _ _ (λ h. subst T (cong2 (λ u v. not (lt 0f u || lt v 0f)) (ha .value) (hb .value)) h) (λ h.
-      strike-search limit 0 lo hi (middle lo hi))))))
+      strike-search (o .tolerance) (o .«max_temperature_iterations») 0 _)))))

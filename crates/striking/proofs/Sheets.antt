@@ -14,12 +14,14 @@ use Rattle.floats.specs.Small.{bitsOf}
 use Rattle.floats.specs.Vector.{at, fillFrom}
 use Rattle.floats.proofs.Fills.{fillFrom-length, fillFrom-at, fillFrom-before}
 use Rattle.blocks.specs.Words.{wordFrom}
+use Rattle.blocks.specs.declared.Rule.{Rule}
 use Rattle.blocks.specs.Bytes.{bytes, wordAt, rowTo, blockBytes}
 use Rattle.blocks.proofs.Laws.{length-block-bytes, length-row, word-bytes, block-read}
 use Rattle.book.specs.Places.{words}
 use Rattle.liquid_stability.specs.declared.LiquidStabilityTrial.{LiquidStabilityTrial}
 use Rattle.liquid_stability.specs.Stability.{noTrial}
-use Rattle.replies.specs.Blocks.{bit, Answer, answerWords, trialWords, trialBytes, answerBytes}
+use Rattle.replies.specs.declared.AnswerBlock.{AnswerBlock}
+use Rattle.replies.specs.Blocks.{bit, stateWords, modelWords, Answer, answerWords, trialWords, trialBytes, answerBytes}
 use Rattle.striking.specs.Places.{cnt}
 use Rattle.striking.specs.Results.{SameTrial}
 use Rattle.striking.specs.Words.{ZeroWord, SameWord}
@@ -34,7 +36,7 @@ abbrev again : ℕ → ℕ
 again x = wordFrom (bytes x) 0
 
 zero-again : (x : ℕ) → ZeroWord x → ZeroWord (again x)
-unfolding wordFrom bytes
+unfolding bytes
 zero-again x (inl e) = inl (ap again e)
 zero-again x (inr e) = inr (ap again e)
 
@@ -63,55 +65,56 @@ fill-same k f g b (suc n) l m e h r =
     (fill-same k f g b n l m e (λ j i. h j (omega arith)) r)
 
 -- ---- the answer block
-module _ (task outcome : ℕ) (state : List ℕ) (liquid vapor : List Float) (model : List ℕ) where
+module _ (task : ℕ) (x : AnswerBlock) where
   base : List ℕ
-  base = 9 ∷ task ∷ 0 ∷ outcome ∷ replicate 60 0
+  base = 9 ∷ task ∷ 0 ∷ x .outcome ∷ replicate 60 0
 
   with-state : List ℕ
-  with-state = fillFrom (wordAt state) 4 10 base
+  with-state = fillFrom (wordAt (stateWords (x .state))) 4 10 base
 
   with-liquid : List ℕ
-  with-liquid = fillFrom (λ i. bitsOf (at liquid i)) 14 8 with-state
+  with-liquid = fillFrom (λ i. bitsOf (at (x .liquid) i)) 14 8 with-state
 
   with-vapor : List ℕ
-  with-vapor = fillFrom (λ i. bitsOf (at vapor i)) 22 8 with-liquid
+  with-vapor = fillFrom (λ i. bitsOf (at (x .vapor) i)) 22 8 with-liquid
 
   state-long : length with-state ≡ 64
   unfolding with-state base
-  state-long = fillFrom-length (wordAt state) 4 10 base
+  state-long = fillFrom-length (wordAt (stateWords (x .state))) 4 10 base
 
   liquid-long : length with-liquid ≡ 64
   unfolding with-liquid
-  liquid-long = fillFrom-length (λ i. bitsOf (at liquid i)) 14 8 with-state ∙ state-long
+  liquid-long = fillFrom-length (λ i. bitsOf (at (x .liquid) i)) 14 8 with-state ∙ state-long
 
   vapor-long : length with-vapor ≡ 64
   unfolding with-vapor
-  vapor-long = fillFrom-length (λ i. bitsOf (at vapor i)) 22 8 with-liquid ∙ liquid-long
+  vapor-long = fillFrom-length (λ i. bitsOf (at (x .vapor) i)) 22 8 with-liquid ∙ liquid-long
 
-  answer-liquid : (i : ℕ) → i < 8 → wordAt (answerWords task outcome state liquid vapor model) (14 + i) ≡ bitsOf (at liquid i)
+  answer-liquid : (i : ℕ) → i < 8 → wordAt (answerWords task x) (14 + i) ≡ bitsOf (at (x .liquid) i)
   unfolding answerWords with-vapor with-liquid with-state base
   answer-liquid i l =
-      fillFrom-before (wordAt model) 30 8 with-vapor 0 (14 + i) (omega arith)
-      ∙ fillFrom-before (λ i. bitsOf (at vapor i)) 22 8 with-liquid 0 (14 + i) (omega arith)
-      ∙ fillFrom-at (λ i. bitsOf (at liquid i)) 14 8 with-state 0 i (omega (arith, state-long)) l
+      fillFrom-before (wordAt (modelWords (x .model))) 30 8 with-vapor 0 (14 + i) (omega arith)
+      ∙ fillFrom-before (λ i. bitsOf (at (x .vapor) i)) 22 8 with-liquid 0 (14 + i) (omega arith)
+      ∙ fillFrom-at (λ i. bitsOf (at (x .liquid) i)) 14 8 with-state 0 i (omega (arith, state-long)) l
 
-  answer-vapor : (i : ℕ) → i < 8 → wordAt (answerWords task outcome state liquid vapor model) (22 + i) ≡ bitsOf (at vapor i)
+  answer-vapor : (i : ℕ) → i < 8 → wordAt (answerWords task x) (22 + i) ≡ bitsOf (at (x .vapor) i)
   unfolding answerWords with-vapor with-liquid with-state base
   answer-vapor i l =
-      fillFrom-before (wordAt model) 30 8 with-vapor 0 (22 + i) (omega arith)
-      ∙ fillFrom-at (λ i. bitsOf (at vapor i)) 22 8 with-liquid 0 i (omega (arith, liquid-long)) l
+      fillFrom-before (wordAt (modelWords (x .model))) 30 8 with-vapor 0 (22 + i) (omega arith)
+      ∙ fillFrom-at (λ i. bitsOf (at (x .vapor) i)) 22 8 with-liquid 0 i (omega (arith, liquid-long)) l
 
-  answer-state : (j : ℕ) → j < 10 → wordAt (answerWords task outcome state liquid vapor model) (4 + j) ≡ wordAt state j
-  unfolding answerWords with-vapor with-liquid with-state base
-  answer-state j l =
-      fillFrom-before (wordAt model) 30 8 with-vapor 0 (4 + j) (omega arith)
-      ∙ fillFrom-before (λ i. bitsOf (at vapor i)) 22 8 with-liquid 0 (4 + j) (omega arith)
-      ∙ fillFrom-before (λ i. bitsOf (at liquid i)) 14 8 with-state 0 (4 + j) (omega arith)
-      ∙ fillFrom-at (wordAt state) 4 10 base 0 j (omega arith) l
+  -- word 12
+  answer-trials : wordAt (answerWords task x) 12 ≡ x .state .trials
+  unfolding answerWords stateWords with-vapor with-liquid with-state base
+  answer-trials =
+      fillFrom-before (wordAt (modelWords (x .model))) 30 8 with-vapor 0 12 (omega arith)
+      ∙ fillFrom-before (λ i. bitsOf (at (x .vapor) i)) 22 8 with-liquid 0 12 (omega arith)
+      ∙ fillFrom-before (λ i. bitsOf (at (x .liquid) i)) 14 8 with-state 0 12 (omega arith)
+      ∙ fillFrom-at (wordAt (stateWords (x .state))) 4 10 base 0 8 (omega arith) (omega arith)
 
 -- the words of an answer
 abbrev head : ℕ → Answer → ℕ → ℕ
-head task a = wordAt (answerWords task (a .outcome) (a .state) (a .liquid) (a .vapor) (a .model))
+head task a = wordAt (answerWords task (a .block))
 
 module _ (keep : ℕ → Bool) (n : ℕ) (small : n ≤ 8) where
   module _ (task : ℕ) (a b : Answer) (h : SameAnswer keep n a b) where
@@ -119,10 +122,10 @@ module _ (keep : ℕ → Bool) (n : ℕ) (small : n ≤ 8) where
     outside : (k : ℕ) → ((j : ℕ) → j < 8 → 14 + j ≡ k → ⊥) → ((j : ℕ) → j < 8 → 22 + j ≡ k → ⊥) → SameWord (head task a k) (head task b k)
     unfolding answerWords with-vapor with-liquid with-state base
     outside k p q =
-        fill-same k (wordAt (a .model)) (wordAt (b .model)) 30 8 _ _ (vapor-long task (a .outcome) (a .state) (a .liquid) (a .vapor) (a .model) ∙ sym (vapor-long task (b .outcome) (b .state) (b .liquid) (b .vapor) (b .model))) (λ j l e. h .model .entry j)
-        (fill-same k (λ i. bitsOf (at (a .vapor) i)) (λ i. bitsOf (at (b .vapor) i)) 22 8 _ _ (liquid-long task (a .outcome) (a .state) (a .liquid) (a .vapor) (a .model) ∙ sym (liquid-long task (b .outcome) (b .state) (b .liquid) (b .vapor) (b .model))) (λ j l e. absurd (q j l e))
-        (fill-same k (λ i. bitsOf (at (a .liquid) i)) (λ i. bitsOf (at (b .liquid) i)) 14 8 _ _ (state-long task (a .outcome) (a .state) (a .liquid) (a .vapor) (a .model) ∙ sym (state-long task (b .outcome) (b .state) (b .liquid) (b .vapor) (b .model))) (λ j l e. absurd (p j l e))
-        (fill-same k (wordAt (a .state)) (wordAt (b .state)) 4 10 _ _ refl (λ j l e. h .state .entry j)
+        fill-same k (wordAt (modelWords (a .block .model))) (wordAt (modelWords (b .block .model))) 30 8 _ _ (vapor-long task (a .block) ∙ sym (vapor-long task (b .block))) (λ j l e. h .model .entry j)
+        (fill-same k (λ i. bitsOf (at (a .block .vapor) i)) (λ i. bitsOf (at (b .block .vapor) i)) 22 8 _ _ (liquid-long task (a .block) ∙ sym (liquid-long task (b .block))) (λ j l e. absurd (q j l e))
+        (fill-same k (λ i. bitsOf (at (a .block .liquid) i)) (λ i. bitsOf (at (b .block .liquid) i)) 14 8 _ _ (state-long task (a .block) ∙ sym (state-long task (b .block))) (λ j l e. absurd (p j l e))
+        (fill-same k (wordAt (stateWords (a .block .state))) (wordAt (stateWords (b .block .state))) 4 10 _ _ refl (λ j l e. h .state .entry j)
         (word-same (ap (λ (o : ℕ). wordAt (9 ∷ task ∷ 0 ∷ o ∷ replicate 60 0) k) (h .outcome))))))
 
     head-same : (w w' : ℕ → ℕ) → ((k : ℕ) → k < 63 → w k ≡ again (head task a k)) → ((k : ℕ) → k < 63 → w' k ≡ again (head task b k)) → SameHead keep n w w'
@@ -130,13 +133,13 @@ module _ (keep : ℕ → Bool) (n : ℕ) (small : n ≤ 8) where
       front = λ k l. reads k k (omega arith) (omega arith) (outside k (λ j m q. omega arith) (λ j m q. omega arith));
       liquid = record {
         entry = λ i l t. reads (14 + i) (14 + cnt keep i) (omega arith) (omega (arith, new-below keep n small i l t))
-            (subst (λ (x : ℕ). SameWord x (head task b (14 + cnt keep i))) (sym (answer-liquid task (a .outcome) (a .state) (a .liquid) (a .vapor) (a .model) i (omega arith)))
-            (subst (λ (x : ℕ). SameWord (bitsOf (at (a .liquid) i)) x) (sym (answer-liquid task (b .outcome) (b .state) (b .liquid) (b .vapor) (b .model) (cnt keep i) (new-below keep n small i l t))) (same-word (h .liquid i l t))));
+            (subst (λ (x : ℕ). SameWord x (head task b (14 + cnt keep i))) (sym (answer-liquid task (a .block) i (omega arith)))
+            (subst (λ (x : ℕ). SameWord (bitsOf (at (a .block .liquid) i)) x) (sym (answer-liquid task (b .block) (cnt keep i) (new-below keep n small i l t))) (same-word (h .liquid i l t))));
       };
       vapor = record {
         entry = λ i l t. reads (22 + i) (22 + cnt keep i) (omega arith) (omega (arith, new-below keep n small i l t))
-            (subst (λ (x : ℕ). SameWord x (head task b (22 + cnt keep i))) (sym (answer-vapor task (a .outcome) (a .state) (a .liquid) (a .vapor) (a .model) i (omega arith)))
-            (subst (λ (x : ℕ). SameWord (bitsOf (at (a .vapor) i)) x) (sym (answer-vapor task (b .outcome) (b .state) (b .liquid) (b .vapor) (b .model) (cnt keep i) (new-below keep n small i l t))) (same-word (h .vapor i l t))));
+            (subst (λ (x : ℕ). SameWord x (head task b (22 + cnt keep i))) (sym (answer-vapor task (a .block) i (omega arith)))
+            (subst (λ (x : ℕ). SameWord (bitsOf (at (a .block .vapor) i)) x) (sym (answer-vapor task (b .block) (cnt keep i) (new-below keep n small i l t))) (same-word (h .vapor i l t))));
       };
       back = λ k l m. reads k k (omega arith) (omega arith) (outside k (λ j u q. omega arith) (λ j u q. omega arith));
     }
@@ -198,47 +201,54 @@ module _ (keep : ℕ → Bool) (n : ℕ) (small : n ≤ 8) (t t' : LiquidStabili
       new = e' 1 (omega arith) ∙ ap again (trial-component t') ∙ word-bytes (t' .component) (omega (arith, fewer))
 
 -- ---- the blocks of an answer, and whatever stands behind them
-module _ (task : ℕ) (a : Answer) (r : List ℕ) where
+module _ (rule : Rule) (task : ℕ) (a : Answer) (r : List ℕ) where
+  abbrev count : ℕ
+  count = a .block .state .trials
+
+  abbrev trial : ℕ → ℕ → ℕ
+  trial k = wordAt (trialWords (getD (a .trials) k noTrial))
+
   whole : List ℕ
-  whole = answerBytes task a ++ r
+  whole = answerBytes rule task a ++ r
 
-  head-at : Stands whole (512 * 0) (blockBytes (head task a))
+  head-at : Stands whole (512 * 0) (blockBytes rule (head task a))
   unfolding whole answerBytes
-  head-at = inside (first-of _ r) (first-of (blockBytes (head task a)) _) (omega arith)
+  head-at = inside (first-of _ r) (first-of (blockBytes rule (head task a)) _) (omega arith)
 
-  trial-at : (k : ℕ) → k < a .count → Stands whole (512 * (k + 1)) (blockBytes (wordAt (trialWords (getD (a .trials) k noTrial))))
+  trial-at : (k : ℕ) → k < count → Stands whole (512 * (k + 1)) (blockBytes rule (trial k))
   unfolding whole answerBytes trialBytes
   trial-at k l =
-      inside (first-of _ r) (inside (last-of (blockBytes (head task a)) (rowTo (trialBytes (a .trials)) (a .count))) (in-row (trialBytes (a .trials)) (a .count) k l) refl)
-      (omega (arith, length-block-bytes (head task a), length-row (trialBytes (a .trials)) 512 k (λ i. length-block-bytes (wordAt (trialWords (getD (a .trials) i noTrial))))))
+      inside (first-of _ r) (inside (last-of (blockBytes rule (head task a)) (rowTo (trialBytes rule (a .trials)) count)) (in-row (trialBytes rule (a .trials)) count k l) refl)
+      (omega (arith, length-block-bytes rule (head task a), length-row (trialBytes rule (a .trials)) 512 k (λ i. length-block-bytes rule (trial i))))
 
-  read-at : (b : ℕ) (w : ℕ → ℕ) → Stands whole (512 * b) (blockBytes w) → (k : ℕ) → k < 63 → words whole b k ≡ again (w k)
-  read-at b w h k l = rw (block-is w whole b h) (rw append-nil at (block-read w k [] l))
+  read-at : (b : ℕ) (w : ℕ → ℕ) → Stands whole (512 * b) (blockBytes rule w) → (k : ℕ) → k < 63 → words whole b k ≡ again (w k)
+  read-at b w h k l = rw (block-is rule w whole b h) (rw append-nil at (block-read rule w k [] l))
 
   head-read : (k : ℕ) → k < 63 → words whole 0 k ≡ again (head task a k)
   head-read = read-at 0 (head task a) head-at
 
-  trial-read : (k : ℕ) → k < a .count → (f : ℕ) → f < 63 → words whole (k + 1) f ≡ again (wordAt (trialWords (getD (a .trials) k noTrial)) f)
-  trial-read k l = read-at (k + 1) (wordAt (trialWords (getD (a .trials) k noTrial))) (trial-at k l)
+  trial-read : (k : ℕ) → k < count → (f : ℕ) → f < 63 → words whole (k + 1) f ≡ again (trial k f)
+  trial-read k l = read-at (k + 1) (trial k) (trial-at k l)
 
-  count-read : wordAt (a .state) 8 ≡ a .count → a .count ≤ 8 → words whole 0 12 ≡ a .count
-  count-read e l =
-      head-read 12 (omega arith) ∙ ap again (answer-state task (a .outcome) (a .state) (a .liquid) (a .vapor) (a .model) 8 (omega arith) ∙ e) ∙ word-bytes (a .count) (omega arith)
+  count-read : count ≤ 8 → words whole 0 12 ≡ count
+  count-read l = head-read 12 (omega arith) ∙ ap again (answer-trials task (a .block)) ∙ word-bytes count (omega arith)
 
-pub sheet-same : (keep : ℕ → Bool) (n : ℕ) → n ≤ 8 → (task : ℕ) (a b : Answer) → SameAnswer keep n a b → (r r' : List ℕ) → SameSheet keep n (answerBytes task a ++ r) (answerBytes task b ++ r')
+pub sheet-same : (keep : ℕ → Bool) (n : ℕ) → n ≤ 8 → (rule : Rule) (task : ℕ) (a b : Answer) → SameAnswer keep n a b → (r r' : List ℕ)
+    → SameSheet keep n (answerBytes rule task a ++ r) (answerBytes rule task b ++ r')
 unfolding whole
-sheet-same keep n small task a b h r r' = record {
-  answer = head-same keep n small task a b h _ _ (head-read task a r) (head-read task b r');
-  count = longer ∙ h .count ∙ sym (count-read task b r' (h .counted') (subst (λ (x : ℕ). x ≤ 8) (h .count) (le-trans (h .few) small)));
+sheet-same keep n small rule task a b h r r' = record {
+  answer = head-same keep n small task a b h _ _ (head-read rule task a r) (head-read rule task b r');
+  count = longer ∙ h .count ∙ sym (count-read rule task b r' (subst (λ (x : ℕ). x ≤ 8) (h .count) (le-trans (h .few) small)));
   trials = trials;
 }
   where
-    longer : words (answerBytes task a ++ r) 0 12 ≡ a .count
-    longer = count-read task a r (h .counted) (le-trans (h .few) small)
+    longer : words (answerBytes rule task a ++ r) 0 12 ≡ a .block .state .trials
+    longer = count-read rule task a r (le-trans (h .few) small)
 
-    trials : (k : ℕ) → 1 ≤ k → k ≤ words (answerBytes task a ++ r) 0 12 → SameTrialBlock keep n (words (answerBytes task a ++ r) k) (words (answerBytes task b ++ r') k)
+    trials : (k : ℕ) → 1 ≤ k → k ≤ words (answerBytes rule task a ++ r) 0 12 → SameTrialBlock keep n (words (answerBytes rule task a ++ r) k) (words (answerBytes rule task b ++ r') k)
     trials zero l m = absurd (omega arith)
     trials (suc k) l m =
-        let u : k < a .count = omega (arith, longer) in
-        let v : k < b .count = omega (arith, h .count) in
-        rw add-one at (trial-same keep n small (getD (a .trials) k noTrial) (getD (b .trials) k noTrial) (h .trials k u) (words (answerBytes task a ++ r) (k + 1)) (words (answerBytes task b ++ r') (k + 1)) (trial-read task a r k u) (trial-read task b r' k v))
+        let u : k < a .block .state .trials = omega (arith, longer) in
+        let v : k < b .block .state .trials = omega (arith, h .count) in
+        rw add-one at (trial-same keep n small (getD (a .trials) k noTrial) (getD (b .trials) k noTrial) (h .trials k u) (words (answerBytes rule task a ++ r) (k + 1)) (words (answerBytes rule task b ++ r') (k + 1))
+        (trial-read rule task a r k u) (trial-read rule task b r' k v))

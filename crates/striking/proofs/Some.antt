@@ -9,12 +9,12 @@ use lib.Ieee.{Float, lt, le, eq, add, sub, neg, ofBits}
 use Rattle.floats.specs.Arithmetic.{_⊖_, 0f, 1f}
 use Rattle.floats.specs.Small.{isFinite, absOf}
 use Rattle.floats.specs.Fold.{foldTo, sumTo, allTo}
-use Rattle.thermo_types.specs.Composition.{tolerance, sumsToOne}
+use Rattle.thermo_types.specs.Composition.{sumTolerance, sumsToOne}
 use Rattle.striking.specs.Places.{cnt}
 use Rattle.striking.specs.Related.{Fractions}
 use Rattle.striking.proofs.Excess.{same-sum}
 
-nothing : lt tolerance (absOf (0f ⊖ 1f)) ≡ true
+nothing : lt sumTolerance (absOf (0f ⊖ 1f)) ≡ true
 unfolding lt le eq add sub neg ofBits
 nothing = refl
 
@@ -22,6 +22,6 @@ pub some-kept : (keep : ℕ → Bool) (n : ℕ) → n ≤ 8 → (z z' : ℕ → 
 unfolding sumsToOne foldTo
 some-kept keep n small z z' hz f h =
     ⊎-elim
-    (λ (e : cnt keep n ≡ 0). absurd (subst (λ (b : Bool). T (not b)) nothing (subst (λ (s : Float). T (not (lt tolerance (absOf (s ⊖ 1f))))) (same-sum keep n small z z' hz f ∙ ap (sumTo z') e) h)))
+    (λ (e : cnt keep n ≡ 0). absurd (subst (λ (b : Bool). T (not b)) nothing (subst (λ (s : Float). T (not (lt sumTolerance (absOf (s ⊖ 1f))))) (same-sum keep n small z z' hz f ∙ ap (sumTo z') e) h)))
     (λ (l : 0 < cnt keep n). l)
     (eq-zero-or-pos (cnt keep n))

@@ -16,9 +16,10 @@ use Rattle.floats.specs.Arithmetic.{_⊕_, _⊘_, #, 0f, 1f}
 use Rattle.floats.specs.Vector.{at}
 use Rattle.floats.specs.Outcome.{Out, ok, bind, choose}
 use Rattle.numerics.specs.Numerics.{expOf, lnOf}
+use Rattle.thermo_types.specs.declared.ActivityOptions.{ActivityOptions}
 use Rattle.thermo_models.specs.Model.{Activity}
 use Rattle.liquid_stability.specs.declared.LiquidStabilityTrial.{LiquidStabilityTrial}
-use Rattle.liquid_stability.specs.Stability.{presentCount, tangent, startOf, totalOf, trialComposition, distanceOf, nextOf, changeOf, apartOf, trivialAt, unstable, trialWith, noTrial, Trials, noTrials, withTrial, trialFrom, trialsTo, stabilityOf}
+use Rattle.liquid_stability.specs.Stability.{presentCount, tangent, startOf, totalOf, trialComposition, distanceOf, nextOf, changeOf, apartOf, trivialAt, unstable, trialWith, noTrial, Trials, noTrials, withTrial, trialFrom, trialsTo, stabilityOf, startRest, startFrom, othersIn, judge}
 use Rattle.zeros.specs.Same.{_≈_}
 use Rattle.zeros.proofs.Congruence.{≈refl, same, add-≈, sub-≈, mul-≈, div-≈, lt-≈, le-≈}
 use Rattle.zeros.specs.Below.{_⊑_}
@@ -98,7 +99,10 @@ unfolding presentCount
 same-present keep n x x' hx = strike-active keep n (λ (a b : ℕ). a ≡ b) (at x) (at x') hx _ _ 0 0 refl (λ k l q a b h. ap suc h)
 
 module _ (keep : ℕ → Bool) (n : ℕ) (small : n ≤ 8) (E E' : List Float → Out Activity) (hE : (x x' : List Float) → Fractions keep n (at x) (at x') → Acc (SameActivity keep n) (E x) (E' x'))
-    (threshold : Float) (x x' : List Float) (hx : Fractions keep n (at x) (at x')) where
+    (o : ActivityOptions) (x x' : List Float) (hx : Fractions keep n (at x) (at x')) where
+  abbrev threshold : Float
+  threshold = o .«tm_threshold»
+
   -- ---- one trial
   module _ (lw lw' : List Float) (hl : (i : ℕ) → i < n → T (keep i) → at lw i ≈ at lw' (cnt keep i)) where
     same-total : totalOf x lw n ≡ totalOf x' lw' (cnt keep n)
@@ -141,7 +145,7 @@ module _ (keep : ℕ → Bool) (n : ℕ) (small : n ≤ 8) (E E' : List Float �
   strike-trial : (d d' : List Float) → ((i : ℕ) → i < n → T (keep i) → at d i ≈ at d' (cnt keep i)) → (j : ℕ) → j < n → T (keep j) → (left done : ℕ) (lw lw' : List Float)
       → ((i : ℕ) → i < n → T (keep i) → at lw i ≈ at lw' (cnt keep i))
       → Acc (SameTrial keep n) (trialFrom E threshold n x d j left done lw) (trialFrom E' threshold (cnt keep n) x' d' (cnt keep j) left done lw')
-  unfolding trialFrom trialWith
+  unfolding trialFrom judge trialWith
   strike-trial d d' hd j lj qj zero done lw lw' hl = acc-no _
   strike-trial d d' hd j lj qj (suc left) done lw lw' hl =
       acc-bind (SameActivity keep n) _ _ _ _ (hE _ _ (same-composition lw lw' hl)) (λ a a' ha.
@@ -156,17 +160,20 @@ module _ (keep : ℕ → Bool) (n : ℕ) (small : n ≤ 8) (E E' : List Float �
       (λ c. strike-trial d d' hd j lj qj left (suc done) _ _ (same-next (a .lnGamma) (a' .lnGamma) d d' (ha .lnGamma) hd)))))
 
   same-start : (j : ℕ) → j < n → T (keep j) → (i : ℕ) → i < n → T (keep i) → at (startOf x n j) i ≈ at (startOf x' (cnt keep n) (cnt keep j)) (cnt keep i)
-  unfolding startOf
+  unfolding startFrom othersIn
   same-start j lj qj =
       vec-kept keep n _≈_ _ _ small
-      (λ i l q. pick-≈ _ _ (cnt-eqb keep i j q qj) (≈refl _) (same (ap (λ (c : ℕ). lnOf (# 0x3f50624dd2f1a9fc ⊘ ofInt binary64 (pos (c - 1)))) (same-present keep n x x' hx))))
+      (λ i l q. pick-≈ _ _ (cnt-eqb keep i j q qj) (≈refl _) (same (ap (λ (c : ℕ). lnOf (startRest ⊘ ofInt binary64 (pos (c - 1)))) (same-present keep n x x' hx))))
 
   same-tangent : (lg lg' : List Float) → ((i : ℕ) → i < n → T (keep i) → at lg i ≈ at lg' (cnt keep i)) → (i : ℕ) → i < n → T (keep i) → at (tangent x lg n) i ≈ at (tangent x' lg' (cnt keep n)) (cnt keep i)
   unfolding tangent
   same-tangent lg lg' hg = vec-kept keep n _≈_ _ _ small (λ i l q. pick-≈ _ _ (lt-≈ (≈refl 0f) (hx .fraction i l q)) (add-≈ (same (ln-≈ _ _ (hx .fraction i l q))) (hg i l q)) (≈refl 0f))
 
   -- ---- the trials of all solvents
-  module _ (d d' : List Float) (hd : (i : ℕ) → i < n → T (keep i) → at d i ≈ at d' (cnt keep i)) (limit : ℕ) where
+  module _ (d d' : List Float) (hd : (i : ℕ) → i < n → T (keep i) → at d i ≈ at d' (cnt keep i)) where
+    abbrev limit : ℕ
+    limit = o .«max_iterations»
+
     -- what a solvent adds
     abbrev turn : (E : List Float → Out Activity) (n : ℕ) (x d : List Float) (k : ℕ) → Trials → Out Trials
     turn E n x d k s = choose (lt 0f (at x k)) (bind (trialFrom E threshold n x d k limit 0 (startOf x n k)) (λ r. ok (withTrial threshold s r))) (ok s)
@@ -182,22 +189,22 @@ module _ (keep : ℕ → Bool) (n : ℕ) (small : n ≤ 8) (E E' : List Float �
     turn-struck k l q s s' hs =
         subst (λ (c : Bool). Acc (Running keep n (suc k)) (choose c (bind (trialFrom E threshold n x d k limit 0 (startOf x n k)) (λ r. ok (withTrial threshold s r))) (ok s)) (ok s')) (sym (gone-not-pos (hx .absent k l q))) (acc-ok (no-more keep n k s s' hs))
 
-    strike-trials : (k : ℕ) → k ≤ n → Acc (Running keep n k) (trialsTo E threshold n x d limit k) (trialsTo E' threshold (cnt keep n) x' d' limit (cnt keep k))
+    strike-trials : (k : ℕ) → k ≤ n → Acc (Running keep n k) (trialsTo E n o x d k) (trialsTo E' (cnt keep n) o x' d' (cnt keep k))
     unfolding trialsTo cnt
     strike-trials zero h = acc-ok (none-running keep n)
     strike-trials (suc k) h = go (keep k) (turn-kept k h) (turn-struck k h) (strike-trials k (omega arith))
       where
         go : (b : Bool) → (T b → (s s' : Trials) → Running keep n k s s' → Acc (Running keep n (suc k)) (turn E n x d k s) (turn E' (cnt keep n) x' d' (cnt keep k) s'))
             → (T (not b) → (s s' : Trials) → Running keep n k s s' → Acc (Running keep n (suc k)) (turn E n x d k s) (ok s'))
-            → Acc (Running keep n k) (trialsTo E threshold n x d limit k) (trialsTo E' threshold (cnt keep n) x' d' limit (cnt keep k))
-            → Acc (Running keep n (suc k)) (bind (trialsTo E threshold n x d limit k) (turn E n x d k)) (trialsTo E' threshold (cnt keep n) x' d' limit (tick b (cnt keep k)))
+            → Acc (Running keep n k) (trialsTo E n o x d k) (trialsTo E' (cnt keep n) o x' d' (cnt keep k))
+            → Acc (Running keep n (suc k)) (bind (trialsTo E n o x d k) (turn E n x d k)) (trialsTo E' (cnt keep n) o x' d' (tick b (cnt keep k)))
         go true f g ih = acc-bind (Running keep n k) _ _ _ _ ih (f tt)
-        go false f g ih = subst (λ (o : Out Trials). Acc (Running keep n (suc k)) (bind (trialsTo E threshold n x d limit k) (turn E n x d k)) o) (bind-ok (trialsTo E' threshold (cnt keep n) x' d' limit (cnt keep k))) (acc-bind (Running keep n k) _ _ _ _ ih (g tt))
+        go false f g ih = subst (λ (r : Out Trials). Acc (Running keep n (suc k)) (bind (trialsTo E n o x d k) (turn E n x d k)) r) (bind-ok (trialsTo E' (cnt keep n) o x' d' (cnt keep k))) (acc-bind (Running keep n k) _ _ _ _ ih (g tt))
 
   -- `liquid_stability`
-  pub strike-stability : (limit : ℕ) → Acc (SameTrials keep n) (stabilityOf E threshold n x limit) (stabilityOf E' threshold (cnt keep n) x' limit)
+  pub strike-stability : Acc (SameTrials keep n) (stabilityOf E n o x) (stabilityOf E' (cnt keep n) o x')
   unfolding stabilityOf
-  strike-stability limit =
+  strike-stability =
       acc-bind (SameActivity keep n) _ _ _ _ (hE x x' hx) (λ a a' ha.
       acc-if _ _ _ _ _ _ (ap (λ (c : ℕ). ltb c 2) (same-present keep n x x' hx)) (λ b. acc-ok (none-same keep n)) (λ b.
-      acc-weaken (Running keep n n) _ _ (strike-trials (tangent x (a .lnGamma) n) (tangent x' (a' .lnGamma) (cnt keep n)) (same-tangent (a .lnGamma) (a' .lnGamma) (ha .lnGamma)) limit n (le-refl n)) (λ s s' h. h .same-trials)))
+      acc-weaken (Running keep n n) _ _ (strike-trials (tangent x (a .lnGamma) n) (tangent x' (a' .lnGamma) (cnt keep n)) (same-tangent (a .lnGamma) (a' .lnGamma) (ha .lnGamma)) n (le-refl n)) (λ s s' h. h .same-trials)))

@@ -3,27 +3,23 @@ use mathlib.Core.Path.{_≡_}
 use Prim.Native.Nat.{ℕ, _<_}
 use mathlib.Core.Bool.{Bool, not}
 use lib.Dec.{T}
-use lib.Ieee.{Float, binary64, fits}
+use lib.Ieee.{Float, binary64}
 use lib.Ieee.Fits.{mul-fits, div-fits}
 use Rattle.floats.specs.Arithmetic.{0f}
 use Rattle.jet.specs.declared.Jet.{Jet}
 use Rattle.jet.specs.Jets.{subJ, mulJ, scaleJ, divJ}
-use Rattle.nrtl.specs.Columns.{colS, colC, ratio, termJ, lnFrom, gibbsFrom, lnGammaOf, reducedOf}
+use Rattle.nrtl.specs.Columns.{colS, colC, ratio, termJ, lnFrom, gibbsFrom, lnGammaJ, reducedJ}
 use Rattle.zeros.specs.Same.{_≈_}
 use Rattle.zeros.specs.Below.{_⊑_}
 use Rattle.zeros.proofs.Below.{⊑-of}
 use Rattle.striking.specs.Places.{cnt}
-use Rattle.striking.proofs.Jets.{_⊑J_, _⊑D_, J-same, J-of-D, J-sub, J-scale, J-mul, J-div, J-gone-scale, J-gone-div, J-gone-mul, FitsJ, sumJ-fits-v, strike-fromJ, strike-sumJ}
+use Rattle.striking.proofs.Jets.{_⊑J_, _⊑D_, J-same, J-of-D, J-sub, J-scale, J-mul, J-div, J-gone-scale, J-gone-div, J-gone-mul, FitsJ, strike-fromJ, strike-sumJ}
 
 abbrev pub Matrix : Type 0
 Matrix = ℕ → ℕ → Jet
 
 abbrev term : Matrix → Matrix → (ℕ → Float) → ℕ → ℕ → ℕ → Jet
 term tau g x n i j = termJ (tau i j) (g i j) (colS g x n j) (ratio tau g x n j) (x j)
-
-pub ln-fits : (tau g : Matrix) (x : ℕ → Float) (n i : ℕ) → T (fits binary64 (lnGammaOf tau g x n i .v))
-unfolding lnFrom divJ
-ln-fits tau g x n i = sumJ-fits-v (ratio tau g x n i) (term tau g x n i) n (div-fits binary64 _ _)
 
 -- the longer problem and the shorter one
 pub record Struck (keep : ℕ → Bool) (n : ℕ) (tau g : Matrix) (x : ℕ → Float) (tau' g' : Matrix) (x' : ℕ → Float) : Type 0 where
@@ -56,7 +52,7 @@ module _ (keep : ℕ → Bool) (n : ℕ) (tau g : Matrix) (x : ℕ → Float) (t
   unfolding divJ
   ratio-fits i = record { v = div-fits binary64 _ _; d = div-fits binary64 _ _; dd = div-fits binary64 _ _ }
 
-  pub strike-ge : reducedOf tau g x n ⊑J reducedOf tau' g' x' (cnt keep n)
+  pub strike-ge : reducedJ tau g x n ⊑J reducedJ tau' g' x' (cnt keep n)
   unfolding gibbsFrom scaleJ
   strike-ge =
       J-of-D (strike-sumJ keep (λ i. scaleJ (ratio tau g x n i) (x i)) (λ i. scaleJ (ratio tau' g' x' (cnt keep n) i) (x' i)) n
@@ -64,7 +60,7 @@ module _ (keep : ℕ → Bool) (n : ℕ) (tau g : Matrix) (x : ℕ → Float) (t
       (λ k p q. J-gone-scale (ratio tau g x n k) (x k) (h .absent k p q))
       (λ k. mul-fits binary64 (ratio tau g x n k .v) (x k)) (λ k. mul-fits binary64 (ratio tau' g' x' (cnt keep n) k .v) (x' k)))
 
-  pub strike-ln : (i : ℕ) → i < n → T (keep i) → lnGammaOf tau g x n i ⊑J lnGammaOf tau' g' x' (cnt keep n) (cnt keep i)
+  pub strike-ln : (i : ℕ) → i < n → T (keep i) → lnGammaJ tau g x n i ⊑J lnGammaJ tau' g' x' (cnt keep n) (cnt keep i)
   unfolding lnFrom termJ
   strike-ln i l t =
       strike-fromJ keep (term tau g x n i) (term tau' g' x' (cnt keep n) (cnt keep i)) n

@@ -1,17 +1,15 @@
--- The calculations of every task but dew temperature, struck, for a longer and a shorter book that have the data of the kept solvents in common. A feed is related
--- where its kept fractions are those of the shorter feed as they stand and its absent ones are zeros. Assumes nothing.
-use mathlib.Core.Path.{_≡_}
+-- The calculations of every task but dew temperature, struck, for two mixtures that are the same for the solvents kept. A feed is the same where its kept
+-- fractions are those of the shorter feed as they stand and its absent ones are zeros. Assumes nothing.
+use mathlib.Core.Path.{_≡_, refl}
 use Prim.Native.Nat.{ℕ, _≤_, _<_}
 use mathlib.Core.Bool.{Bool, not}
 use mathlib.Core.List.{List}
 use lib.Dec.{T}
 use lib.Ieee.{Float, binary64, fits, ofBits}
 use Rattle.floats.specs.Vector.{at}
-use Rattle.nrtl.specs.State.{excessOf}
-use Rattle.thermo_models.specs.Model.{Model, Liquids}
-use Rattle.thermo_models.specs.Domain.{pureLiquidsOf, temperatureInDomain}
-use Rattle.thermo_models.specs.Activity.{activityOf}
-use Rattle.thermo_models.specs.Validity.{validityOf}
+use Rattle.thermo_types.specs.declared.ActivityOptions.{ActivityOptions}
+use Rattle.thermo_models.specs.Activity.{activityIn, excessOf}
+use Rattle.thermo_models.specs.Mixture.{Mixture, activity, mixtureOf}
 use Rattle.rachford_rice.specs.Rachford.{constrained, negative}
 use Rattle.saturation.specs.Saturation.{bubblePressure, dewPressurePoint}
 use Rattle.saturation_temperature.specs.Boiling.{bubbleTemperature}
@@ -25,7 +23,7 @@ use Rattle.striking.specs.Accepted.{Acc}
 use Rattle.striking.specs.Related.{Fractions, SameExcess}
 use Rattle.striking.specs.Results.{SameActivity, SamePures, SameSolution, SameRice, SameSaturation, SameTrials, SameFlash}
 use Rattle.striking.specs.Books.{KeptSolvents, KeptPairs}
-use Rattle.striking.proofs.Excess.{strike-excess}
+use Rattle.striking.proofs.Acc.{acc-bind, acc-ok}
 use Rattle.striking.proofs.Rice.{strike-negative, strike-constrained}
 use Rattle.striking.proofs.Saturation.{strike-bubblePressure, strike-dewPressure}
 use Rattle.striking.proofs.Stability.{strike-stability}
@@ -33,74 +31,78 @@ use Rattle.striking.proofs.Boiling.{strike-bubbleTemperature}
 use Rattle.striking.proofs.Flash.{strike-flash}
 use Rattle.striking.proofs.Liquids.{strike-domain, strike-pureLiquids}
 use Rattle.striking.proofs.Validity.{strike-validity}
-use Rattle.striking.proofs.Parameters.{tauTable, alphaTable, strike-params, strike-activityOf}
+use Rattle.striking.proofs.Nrtl.{strike-excessOf}
 
-pub feed-fractions : (keep : ℕ → Bool) (n : ℕ) (z z' : ℕ → Float) → ((i : ℕ) → i < n → T (keep i) → z i ≡ z' (cnt keep i)) → ((i : ℕ) → i < n → T (not (keep i)) → Zero (z i))
-    → ((i : ℕ) → T (fits binary64 (z i))) → ((i : ℕ) → T (fits binary64 (z' i))) → Fractions keep n z z'
+-- ---- feeds
+pub record SameFeed (keep : ℕ → Bool) (n : ℕ) (x x' : List Float) : Type 0 where
+  pub fractions : (i : ℕ) → i < n → T (keep i) → at x i ≡ at x' (cnt keep i)
+  pub absent : (i : ℕ) → i < n → T (not (keep i)) → Zero (at x i)
+  pub fit : (i : ℕ) → T (fits binary64 (at x i))
+  pub fit' : (i : ℕ) → T (fits binary64 (at x' i))
+
+pub feed-fractions : (keep : ℕ → Bool) (n : ℕ) {x x' : List Float} → SameFeed keep n x x' → Fractions keep n (at x) (at x')
 unfolding ofBits
-feed-fractions keep n z z' kept absent fit fit' = record { absent = λ i l q. gone (absent i l q); fraction = λ i l q. same (kept i l q); fit = fit; fit' = fit' }
+feed-fractions keep n s = record { absent = λ i l q. gone (s .absent i l q); fraction = λ i l q. same (s .fractions i l q); fit = s .fit; fit' = s .fit' }
 
-module _ (keep : ℕ → Bool) (n : ℕ) (small : n ≤ 8) (book book' : List ℕ) (hs : KeptSolvents keep n book book') (hp : KeptPairs keep n book book')
-    (z z' : List Float) (ez : (i : ℕ) → i < n → T (keep i) → at z i ≡ at z' (cnt keep i)) (absent : (i : ℕ) → i < n → T (not (keep i)) → Zero (at z i))
-    (fit : (i : ℕ) → T (fits binary64 (at z i))) (fit' : (i : ℕ) → T (fits binary64 (at z' i))) where
-  abbrev E : Model
-  E = activityOf (tauTable book n) (alphaTable book n) n
+-- ---- mixtures
+pub record SameMixture (keep : ℕ → Bool) (n : ℕ) (m m' : Mixture) : Type 0 where
+  pub count : m .n ≡ n
+  pub count' : m' .n ≡ cnt keep n
+  pub excess : (t : Float) (x x' : List Float) → Fractions keep n (at x) (at x') → Acc (SameExcess keep n) (m .excess t x) (m' .excess t x')
+  pub liquids : (t : Float) → Acc (SamePures keep n) (m .liquids t) (m' .liquids t)
+  pub domain : (t : Float) → T (m .domain t) → T (m' .domain t)
+  pub validity : (t : Float) (x x' : List Float) → SameFeed keep n x x' → m .validity t x ≡ m' .validity t x'
 
-  abbrev E' : Model
-  E' = activityOf (tauTable book' (cnt keep n)) (alphaTable book' (cnt keep n)) (cnt keep n)
+-- of a longer and a shorter book
+pub strike-mixture : (keep : ℕ → Bool) (n : ℕ) → n ≤ 8 → (book book' : List ℕ) → KeptSolvents keep n book book' → KeptPairs keep n book book'
+    → SameMixture keep n (mixtureOf book n) (mixtureOf book' (cnt keep n))
+unfolding excessOf
+strike-mixture keep n small book book' hs hp = record {
+  count = refl;
+  count' = refl;
+  excess = strike-excessOf keep n small book book' hp;
+  liquids = strike-pureLiquids keep n small book book' hs;
+  domain = strike-domain keep n book book' hs;
+  validity = λ t x x' s. strike-validity keep n book book' hp t x x' (λ i l q. same (s .fractions i l q)) (s .absent);
+}
 
-  abbrev L : Liquids
-  L = pureLiquidsOf book n
+module _ (keep : ℕ → Bool) (n : ℕ) (small : n ≤ 8) (m m' : Mixture) (hm : SameMixture keep n m m') where
+  -- ln γ and slopes of the excess states
+  pub strike-activity : (t : Float) (x x' : List Float) → Fractions keep n (at x) (at x') → Acc (SameActivity keep n) (activity m t x) (activity m' t x')
+  unfolding activityIn
+  strike-activity t x x' hx = acc-bind (SameExcess keep n) _ _ _ _ (hm .excess t x x' hx) (λ e e' h. acc-ok (record { lnGamma = h .lnGamma; slopes = h .slopes }))
 
-  abbrev L' : Liquids
-  L' = pureLiquidsOf book' (cnt keep n)
+  module _ (z z' : List Float) (s : SameFeed keep n z z') where
+    hz : Fractions keep n (at z) (at z')
+    hz = feed-fractions keep n s
 
-  hz : Fractions keep n (at z) (at z')
-  hz = feed-fractions keep n (at z) (at z') ez absent fit fit'
+    -- task 2
+    pub task2 : (t : Float) → Acc (SameSaturation keep n) (bubblePressure (activity m) (m .liquids) (m .n) t z) (bubblePressure (activity m') (m' .liquids) (m' .n) t z')
+    task2 t = rw (hm .count, hm .count') (strike-bubblePressure keep n small (activity m) (activity m') strike-activity (m .liquids) (m' .liquids) (hm .liquids) t z z' hz)
 
-  hE : (t : Float) (x x' : List Float) → Fractions keep n (at x) (at x') → Acc (SameActivity keep n) (E t x) (E' t x')
-  hE = strike-activityOf keep n small book book' hp
+    -- task 3
+    pub task3 : (o : ActivityOptions) (t : Float) → Acc (SameSaturation keep n) (dewPressurePoint (activity m) (m .liquids) (m .n) o t z) (dewPressurePoint (activity m') (m' .liquids) (m' .n) o t z')
+    task3 o t = rw (hm .count, hm .count') (strike-dewPressure keep n small (activity m) (activity m') strike-activity (m .liquids) (m' .liquids) (hm .liquids) o t z z' hz)
 
-  hL : (t : Float) → Acc (SamePures keep n) (L t) (L' t)
-  hL = strike-pureLiquids keep n small book book' hs
+    -- task 4
+    pub task4 : (o : ActivityOptions) (p : Float) → Acc (SameSaturation keep n) (bubbleTemperature (activity m) (m .liquids) (m .n) o p z) (bubbleTemperature (activity m') (m' .liquids) (m' .n) o p z')
+    task4 o p = rw (hm .count, hm .count') (strike-bubbleTemperature keep n small (activity m) (activity m') strike-activity (m .liquids) (m' .liquids) (hm .liquids) z z' hz (s .fractions) o p)
 
-  -- task 1
-  pub task1 : (t : Float) → Acc (SameExcess keep n) (excessOf (tauTable book n) (alphaTable book n) n t (at z)) (excessOf (tauTable book' (cnt keep n)) (alphaTable book' (cnt keep n)) (cnt keep n) t (at z'))
-  task1 t = strike-excess keep n small (tauTable book n) (alphaTable book n) (tauTable book' (cnt keep n)) (alphaTable book' (cnt keep n)) (strike-params keep n small book book' hp) t (at z) (at z') hz
+    -- task 6
+    pub task6 : (o : ActivityOptions) (t : Float) → Acc (SameTrials keep n) (stabilityOf (activity m t) (m .n) o z) (stabilityOf (activity m' t) (m' .n) o z')
+    task6 o t = rw (hm .count, hm .count') (strike-stability keep n small (activity m t) (activity m' t) (strike-activity t) o z z' hz)
 
-  pub task1-validity : (t : Float) → validityOf book n t z ≡ validityOf book' (cnt keep n) t z'
-  task1-validity t = strike-validity keep n book book' hp t z z' (λ i l q. same (ez i l q)) absent
+    -- task 7
+    pub task7 : (o : ActivityOptions) (t p : Float)
+        → Acc (SameFlash keep n) (tpFlash (activity m) (m .liquids) (m .domain) (m .n) o t z p) (tpFlash (activity m') (m' .liquids) (m' .domain) (m' .n) o t z' p)
+    task7 o t p =
+        rw (hm .count, hm .count')
+        (strike-flash keep n small (activity m) (activity m') strike-activity (m .liquids) (m' .liquids) (hm .liquids) (m .domain) (m' .domain) (hm .domain) o t z z' hz (s .fractions) p)
 
-  -- task 2
-  pub task2 : (t : Float) → Acc (SameSaturation keep n) (bubblePressure E L n t z) (bubblePressure E' L' (cnt keep n) t z')
-  task2 t = strike-bubblePressure keep n small E E' hE L L' hL t z z' hz
+    -- tasks 8 and 9, with K values k and k'
+    module _ (k k' : List Float) (ek : (i : ℕ) → i < n → T (keep i) → at k i ≡ at k' (cnt keep i)) (limit : ℕ) where
+      pub task8 : Acc (SameRice keep n) (constrained (at z) (at k) (m .n) limit) (constrained (at z') (at k') (m' .n) limit)
+      task8 = rw (hm .count, hm .count') (strike-constrained keep n small (at z) (at z') (at k) (at k') hz (s .fractions) ek limit)
 
-  -- task 3
-  pub task3 : (t tolerance : Float) (limit : ℕ) → Acc (SameSaturation keep n) (dewPressurePoint E L n t z tolerance limit) (dewPressurePoint E' L' (cnt keep n) t z' tolerance limit)
-  task3 t tolerance limit = strike-dewPressure keep n small E E' hE L L' hL t z z' hz tolerance limit
-
-  -- task 4
-  pub task4 : (p tolerance : Float) (limit : ℕ) (lo hi : Float) → Acc (SameSaturation keep n) (bubbleTemperature E L n p z tolerance limit lo hi) (bubbleTemperature E' L' (cnt keep n) p z' tolerance limit lo hi)
-  task4 p tolerance limit lo hi = strike-bubbleTemperature keep n small E E' hE L L' hL z z' hz ez p tolerance limit lo hi
-
-  -- task 6
-  pub task6 : (t threshold : Float) (limit : ℕ) → Acc (SameTrials keep n) (stabilityOf (E t) threshold n z limit) (stabilityOf (E' t) threshold (cnt keep n) z' limit)
-  task6 t threshold limit = strike-stability keep n small (E t) (E' t) (hE t) threshold z z' hz limit
-
-  -- task 7
-  pub task7 : (threshold tolerance : Float) (limit : ℕ) (t p : Float)
-      → Acc (SameFlash keep n) (tpFlash E L (temperatureInDomain book n) n threshold tolerance limit t z p) (tpFlash E' L' (temperatureInDomain book' (cnt keep n)) (cnt keep n) threshold tolerance limit t z' p)
-  task7 threshold tolerance limit t p =
-      strike-flash keep n small E E' hE L L' hL (temperatureInDomain book n) (temperatureInDomain book' (cnt keep n)) (strike-domain keep n book book' hs) threshold tolerance limit t z z' hz ez p
-
--- tasks 8 and 9 read no book
-module _ (keep : ℕ → Bool) (n : ℕ) (small : n ≤ 8)
-    (z z' k k' : ℕ → Float) (ez : (i : ℕ) → i < n → T (keep i) → z i ≡ z' (cnt keep i)) (ek : (i : ℕ) → i < n → T (keep i) → k i ≡ k' (cnt keep i)) (absent : (i : ℕ) → i < n → T (not (keep i)) → Zero (z i))
-    (fit : (i : ℕ) → T (fits binary64 (z i))) (fit' : (i : ℕ) → T (fits binary64 (z' i))) where
-  -- task 8
-  pub task8 : (limit : ℕ) → Acc (SameRice keep n) (constrained z k n limit) (constrained z' k' (cnt keep n) limit)
-  task8 limit = strike-constrained keep n small z z' k k' (feed-fractions keep n z z' ez absent fit fit') ez ek limit
-
-  -- task 9
-  pub task9 : (limit : ℕ) → Acc (SameSolution keep n) (negative z k n limit) (negative z' k' (cnt keep n) limit)
-  task9 limit = strike-negative keep n small z z' k k' (feed-fractions keep n z z' ez absent fit fit') ez ek limit
+      pub task9 : Acc (SameSolution keep n) (negative (at z) (at k) (m .n) limit) (negative (at z') (at k') (m' .n) limit)
+      task9 = rw (hm .count, hm .count') (strike-negative keep n small (at z) (at z') (at k) (at k') hz (s .fractions) ek limit)

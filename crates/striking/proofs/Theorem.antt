@@ -12,24 +12,28 @@ use lib.Dec.{leb}
 use Rattle.floats.specs.Outcome.{Out, ok, no, bind, need}
 use Rattle.floats.proofs.Outcomes.{need-yes, bind-yes}
 use Rattle.blocks.specs.Words.{word}
-use Rattle.book.specs.Book.{bookOf}
+use Rattle.blocks.specs.declared.Rule.{Rule}
+use Rattle.book.specs.Book.{bookOf, ruleOf}
+use Rattle.book.specs.declared.Head.{Head}
 use Rattle.book.proofs.Accepted as open-book
 use Rattle.question.specs.Asked.{questionOf}
 use Rattle.question.specs.declared.Question.{Question}
-use Rattle.replies.specs.Blocks.{answerBytes}
+use Rattle.thermo_models.specs.Mixture.{mixtureOf}
+use Rattle.replies.specs.Blocks.{answerBytes, answerRoom}
 use Rattle.sheet.specs.Tasks.{taskOf}
-use Rattle.sheet.specs.Sheet.{sheetOf, numberOf, written}
+use Rattle.sheet.specs.Sheet.{answerTo, roomy, sheetFrom, sheetOf, numberOf, written}
 use Rattle.refusals.proofs.Theorem.{zero-is-answer}
 use Rattle.striking.specs.Places.{cnt}
 use Rattle.striking.specs.Accepted.{Acc}
-use Rattle.striking.specs.Books.{ShorterBook}
+use Rattle.striking.specs.Books.{ShorterBook, shorterHead}
 use Rattle.striking.specs.Words.{SameWord}
 use Rattle.striking.specs.Questions.{keptIn, ShorterQuestion, solvents, Shorter}
 use Rattle.striking.specs.Sheets.{SameEntries, SameHead, SameTrialBlock, SameSheet}
 use Rattle.striking.specs.Theorem.{Accepted, Demand3, Calls, Meet, EqualAnswer, EqualTrial, EqualSheet, SameDrum, Demand3-4}
 use Rattle.striking.proofs.Acc.{acc-ok, acc-no, acc-bind, acc-passed, accepted}
-use Rattle.striking.proofs.Books.{shorter-solvents, shorter-pairs, strike-book}
+use Rattle.striking.proofs.Books.{shorter-solvents, shorter-pairs, strike-book, rule-same}
 use Rattle.striking.proofs.Questions.{absent-zero, withFeed, SameQuestion, strike-question}
+use Rattle.striking.proofs.Tasks.{strike-mixture}
 use Rattle.striking.proofs.Answers.{SameAnswer, strike-task}
 use Rattle.striking.proofs.Sheets.{sheet-same}
 
@@ -37,57 +41,60 @@ use Rattle.striking.proofs.Sheets.{sheet-same}
 Alike : (ℕ → Bool) → ℕ → List ℕ → List ℕ → Type 0
 Alike keep n bs bs' = (r r' : List ℕ) → SameSheet keep n (bs ++ r) (bs' ++ r')
 
--- the rest of a call once the book has n solvents and the question is read
-abbrev rest : List ℕ → ℕ → Question → Out (List ℕ)
-rest book n q = bind (taskOf book n q) (λ a. ok (answerBytes (q .task) a))
-
-module _ (book question book' question' : List ℕ) (n : ℕ) (opened : bookOf book ≡ ok n) (hb : ShorterBook (keptIn question) n book book') (hq : ShorterQuestion (keptIn question) n question question')
-    (other : word question 1 ≢ 5) (room' : ℕ) (enough : 4608 ≤ room') where
+module _ (book question book' question' : List ℕ) (h : Head) (opened : bookOf book ≡ ok h) (hb : ShorterBook (keptIn question) (h .n) book book')
+    (hq : ShorterQuestion (ruleOf book') (keptIn question) (h .n) question question') (other : word question 1 ≢ 5) (room' : ℕ) (enough : answerRoom ≤ room') where
   abbrev keep : ℕ → Bool
   keep = keptIn question
+
+  abbrev n : ℕ
+  n = h .n
 
   few : n ≤ 8
   few = open-book.accepted book opened .few
 
-  opened' : (q' : Question) → 0 < cnt keep n → questionOf question' (cnt keep n) ≡ ok q' → sheetOf book' question' room' ≡ rest book' (cnt keep n) q'
-  unfolding sheetOf
-  opened' q' some e =
-      bind-yes _ (strike-book (keptIn question) n book book' hb some opened) ∙ need-yes 10 _ (le-leb 4608 room' enough) ∙ bind-yes _ e
+  -- the shorter call, once its question is read
+  opened' : (q' : Question) → 0 < cnt keep n → questionOf (ruleOf book') question' (cnt keep n) ≡ ok q' → sheetOf book' question' room' ≡ answerTo book' (cnt keep n) q'
+  unfolding sheetOf sheetFrom roomy shorterHead
+  opened' q' some e = bind-yes _ (strike-book keep h book book' hb some opened) ∙ need-yes 10 _ (le-leb answerRoom room' enough) ∙ bind-yes _ e
 
-  answers : (q q' : Question) → SameQuestion keep n q q' → q .task ≡ word question 1 → Acc (Alike keep n) (rest book n q) (rest book' (cnt keep n) q')
-  unfolding Alike withFeed
+  answers : (q q' : Question) → SameQuestion keep n q q' → q .task ≡ word question 1 → Acc (Alike keep n) (answerTo book n q) (answerTo book' (cnt keep n) q')
+  unfolding answerTo Alike withFeed
   answers q q' s e =
-      acc-bind (SameAnswer keep n) (taskOf book n q) (taskOf book' (cnt keep n) q') _ _
-      (strike-task keep n few book book' (shorter-solvents keep n book book' hb) (shorter-pairs keep n book book' hb) q q' s (λ z. other (sym e ∙ z))) (λ a a' t.
-      acc-ok (λ r r'. subst (λ (k : ℕ). SameSheet keep n (answerBytes (q .task) a ++ r) (answerBytes k a' ++ r')) (same-task q q' s) (sheet-same keep n few (q .task) a a' t r r')))
+      acc-bind (SameAnswer keep n) (taskOf (mixtureOf book n) q) (taskOf (mixtureOf book' (cnt keep n)) q') _ _
+      (strike-task keep n few _ _ (strike-mixture keep n few book book' (shorter-solvents keep n book book' hb) (shorter-pairs keep n book book' hb)) q q' s (λ z. other (sym e ∙ z))) (λ a a' t.
+      acc-ok (λ r r'. rw (← rule-same keep n book book' hb, ← same-task) (sheet-same keep n few (ruleOf book) (q .task) a a' t r r')))
     where
-      same-task : (q q' : Question) → SameQuestion keep n q q' → q .task ≡ q' .task
-      same-task q q' s = sym (ap (λ (x : Question). x .task) (s .rest))
+      same-task : q .task ≡ q' .task
+      same-task = sym (ap (λ (x : Question). x .task) (s .rest))
 
-  asked : Acc (Alike keep n) (bind (questionOf question n) (rest book n)) (sheetOf book' question' room')
+  asked : Acc (Alike keep n) (bind (questionOf (ruleOf book) question n) (answerTo book n)) (sheetOf book' question' room')
   unfolding bind
-  asked = go (questionOf question n) (strike-question (keptIn question) n few question question' hq (λ i l t. absent-zero question i t))
+  asked =
+      go (questionOf (ruleOf book) question n)
+      (subst (λ (rule : Rule). Acc (λ (a b : Question). SameQuestion keep n a b × (0 < cnt keep n) × (a .task ≡ word question 1)) (questionOf rule question n) (questionOf (ruleOf book') question' (cnt keep n)))
+      (sym (rule-same keep n book book' hb)) (strike-question keep n few (ruleOf book') question question' hq (λ i l t. absent-zero question i t)))
     where
-      go : (o : Out Question) → Acc (λ (a b : Question). SameQuestion keep n a b × (0 < cnt keep n) × (a .task ≡ word question 1)) o (questionOf question' (cnt keep n)) → Acc (Alike keep n) (bind o (rest book n)) (sheetOf book' question' room')
+      go : (o : Out Question) → Acc (λ (a b : Question). SameQuestion keep n a b × (0 < cnt keep n) × (a .task ≡ word question 1)) o (questionOf (ruleOf book') question' (cnt keep n))
+          → Acc (Alike keep n) (bind o (answerTo book n)) (sheetOf book' question' room')
       go (no r) h = acc-no _
       go (ok q) h =
           let p = accepted h in
-          subst (λ (o : Out (List ℕ)). Acc (Alike keep n) (rest book n q) o) (sym (opened' (p .0) (p .2 .1) (p .1))) (answers q (p .0) (p .2 .0) (p .2 .2))
+          subst (λ (o : Out (List ℕ)). Acc (Alike keep n) (answerTo book n q) o) (sym (opened' (p .0) (p .2 .1) (p .1))) (answers q (p .0) (p .2 .0) (p .2 .2))
 
 -- the whole call, for any two answer slices
-strike-sheet : (book question book' question' : List ℕ) → Shorter book question book' question' → word question 1 ≢ 5 → (room room' : ℕ) → 4608 ≤ room'
+strike-sheet : (book question book' question' : List ℕ) → Shorter book question book' question' → word question 1 ≢ 5 → (room room' : ℕ) → answerRoom ≤ room'
     → Acc (Alike (keptIn question) (solvents book)) (sheetOf book question room) (sheetOf book' question' room')
-unfolding sheetOf bind
+unfolding sheetOf sheetFrom roomy bind
 strike-sheet book question book' question' h other room room' enough = go (bookOf book) refl
   where
-    go : (o : Out ℕ) → bookOf book ≡ o
-        → Acc (Alike (keptIn question) (solvents book)) (bind o (λ n. need (leb 4608 room) 10 (bind (questionOf question n) (rest book n)))) (sheetOf book' question' room')
+    go : (o : Out Head) → bookOf book ≡ o → Acc (Alike (keptIn question) (solvents book)) (bind o (λ g. sheetFrom book (g .n) question room)) (sheetOf book' question' room')
     go (no r) e = acc-no _
-    go (ok n) e =
-        let c : solvents book ≡ n = open-book.accepted book e .count in
-        subst (λ (m : ℕ). Acc (Alike (keptIn question) m) (need (leb 4608 room) 10 (bind (questionOf question n) (rest book n))) (sheetOf book' question' room')) (sym c)
-        (acc-passed (leb 4608 room) 10 _ _
-        (asked book question book' question' n e (subst (λ (m : ℕ). ShorterBook (keptIn question) m book book') c (h .of-book)) (subst (λ (m : ℕ). ShorterQuestion (keptIn question) m question question') c (h .of-question)) other room' enough))
+    go (ok g) e =
+        let c : solvents book ≡ g .n = open-book.accepted book e .count in
+        subst (λ (m : ℕ). Acc (Alike (keptIn question) m) (sheetFrom book (g .n) question room) (sheetOf book' question' room')) (sym c)
+        (acc-passed (leb answerRoom room) 10 _ _
+        (asked book question book' question' g e (subst (λ (m : ℕ). ShorterBook (keptIn question) m book book') c (h .of-book))
+        (subst (λ (m : ℕ). ShorterQuestion (ruleOf book') (keptIn question) m question question') c (h .of-question)) other room' enough))
 
 -- what was written to a slice stands before what stood there
 accepted-is : {A : Type 0} (o : Out A) → Accepted o → (a : A) × (o ≡ ok a)
@@ -102,7 +109,7 @@ striking book question book' question' h other old old' enough took =
     let q = accepted (subst (λ (o : Out (List ℕ)). Acc (Alike (keptIn question) (solvents book)) o (sheetOf book' question' (length old'))) (p .1) (strike-sheet book question book' question' h other (length old) (length old') enough)) in
     rw (p .1, q .1) (tt, q .2 (drop (length (p .0)) old) (drop (length (q .0)) old'))
 
--- 0 means an answer, since every refusal has a number of 1 to 30
+-- 0 means an answer, since every refusal has a number
 pub striking-calls : Calls
 unfolding Accepted numberOf
 striking-calls book question book' question' h other old new old' new' r' enough a b =
@@ -162,11 +169,11 @@ module _ (keep : ℕ → Bool) (n : ℕ) (keep' : ℕ → Bool) (n' : ℕ) where
 
 -- an answer slice that passes question 10
 room : List ℕ
-room = replicate 4608 0
+room = replicate answerRoom 0
 
-enough : 4608 ≤ length room
+enough : answerRoom ≤ length room
 unfolding room
-enough = rw (length-replicate {A = ℕ} 4608 0) (le-refl 4608)
+enough = rw (length-replicate {A = ℕ} answerRoom 0) (le-refl answerRoom)
 
 pub same-drum : SameDrum
 same-drum book question book' question' short ask h g other old old' took took' =
@@ -175,7 +182,7 @@ same-drum book question book' question' short ask h g other old old' took took' 
     (striking book question short ask h other old room enough took .1)
     (striking book' question' short ask g (λ z. other (task ∙ z)) old' room enough took' .1)
 
--- demand 3 as document 01 words it for bubble temperature: its premise isn't used
+-- demand 3 as the scope words it for bubble temperature: its premise isn't used
 pub striking-4 : Demand3-4
 striking-4 tried book question book' question' h four premise =
     striking book question book' question' h (λ (z : word question 1 ≡ 5). let e : 4 ≡ 5 = sym four ∙ z in omega arith)

@@ -1,8 +1,8 @@
 -- Validity and the inferred word are struck: only pairs of two solvents present are looked at, and their blocks are those of the shorter book. Assumes nothing.
-use mathlib.Core.Path.{_≡_, refl, ap, _∙_}
-use Prim.Native.Nat.{ℕ, _≤_, _<_}
+use mathlib.Core.Path.{_≡_, refl, sym, ap, _∙_}
+use Prim.Native.Nat.{ℕ, _+_, _-_, _≤_, _<_}
 use native.Mathlib.Omega.{arith}
-use mathlib.Core.Bool.{Bool, true, false, not, _&&_}
+use mathlib.Core.Bool.{Bool, true, false, not, cond, _&&_}
 use mathlib.Core.List.{List}
 use lib.Dec.{T, ltb, ltb→lt}
 use lib.Ieee.{Float, le, eq, lt, ofBits}
@@ -10,6 +10,7 @@ use Rattle.floats.specs.Arithmetic.{0f}
 use Rattle.floats.specs.Fold.{foldTo}
 use Rattle.floats.specs.Vector.{at}
 use Rattle.records.specs.Records.{regressionOf}
+use Rattle.thermo_models.proofs.Pairs.{row-all}
 use Rattle.thermo_models.specs.Validity.{unseen, noted, visited, rowSeen, allSeen, statusOf, validityOf}
 use Rattle.zeros.specs.Same.{_≈_}
 use Rattle.zeros.proofs.Congruence.{≈refl, le-≈}
@@ -38,38 +39,42 @@ zero-le : (x : Float) → Zero x → le x 0f ≡ true
 unfolding ofBits
 zero-le x z = le-≈ (zero-≈ x 0f z tt) (≈refl 0f) ∙ (unfold le lt eq in refl)
 
-and-off : (a b c : Bool) → c ≡ true → (a && (b && not c)) ≡ false
-and-off true true c e = ap not e
-and-off true false c e = refl
-and-off false b c e = refl
+cond-same : {A : Type 0} (b : Bool) {x y : A} → x ≡ y → cond b x y ≡ y
+cond-same true e = e
+cond-same false e = refl
 
-and-off' : (a b c : Bool) → b ≡ true → (a && (not b && c)) ≡ false
-and-off' true b c e = ap (λ (d : Bool). not d && c) e
-and-off' false b c e = refl
+and-off : (b c : Bool) → c ≡ true → (b && not c) ≡ false
+and-off true c e = ap not e
+and-off false c e = refl
 
-and-first : (a b : Bool) → T (a && b) → T a
-and-first true b t = tt
-and-first false b t = t
+and-off' : (b c : Bool) → b ≡ true → (not b && c) ≡ false
+and-off' b c e = ap (λ (d : Bool). not d && c) e
 
 module _ (keep : ℕ → Bool) (n : ℕ) (book book' : List ℕ) (hb : KeptPairs keep n book book') (t : Float) (x x' : List Float)
     (kept : (k : ℕ) → k < n → T (keep k) → at x k ≈ at x' (cnt keep k)) (struck : (k : ℕ) → k < n → T (not (keep k)) → Zero (at x k)) where
-  same-row : (i : ℕ) → i < n → T (keep i) → (s : _) → rowSeen book n t x i s ≡ rowSeen book' (cnt keep n) t x' (cnt keep i) s
-  unfolding rowSeen visited
-  same-row i li qi s =
-      same-fold keep (visited book n t x i) (visited book' (cnt keep n) t x' (cnt keep i)) s n
-      (λ j lj qj a. cond-when _ _ _ _ _ _
-      (cong2 (λ c d. c && d) (cnt-ltb keep i j qi qj) (cong2 (λ c d. not c && not d) (le-≈ (kept i li qi) (≈refl 0f)) (le-≈ (kept j lj qj) (≈refl 0f))))
-      (λ u. ap (λ r. noted r t a) (same-regression _ _ (hb .pair i j (ltb→lt i j (and-first (ltb i j) _ u)) lj qi qj)))
-      (λ u. refl))
-      (λ j lj qj a. cond-off _ _ a (and-off (ltb i j) (not (le (at x i) 0f)) (le (at x j) 0f) (zero-le (at x j) (struck j lj qj))))
+  same-visit : (i j : ℕ) → i < n → T (keep i) → j < n → T (keep j) → i < j → (s : _) → visited book n t x i j s ≡ visited book' (cnt keep n) t x' (cnt keep i) (cnt keep j) s
+  unfolding visited
+  same-visit i j li qi lj qj o s =
+      cond-when _ _ _ _ _ _ (cong2 (λ c d. not c && not d) (le-≈ (kept i li qi) (≈refl 0f)) (le-≈ (kept j lj qj) (≈refl 0f)))
+      (λ u. ap (λ r. noted r t s) (same-regression _ _ (hb .pair i j o lj qi qj)))
+      (λ u. refl)
 
-  no-row : (i : ℕ) → i < n → T (not (keep i)) → (s : _) → rowSeen book n t x i s ≡ s
+  same-row : (i : ℕ) → i < n → T (keep i) → (s : _) → rowSeen book n t x i n s ≡ rowSeen book' (cnt keep n) t x' (cnt keep i) (cnt keep n) s
+  unfolding visited
+  same-row i li qi s =
+      row-all book n t x i s n
+      ∙ same-fold keep _ (λ j a. cond (ltb (cnt keep i) j) (visited book' (cnt keep n) t x' (cnt keep i) j a) a) s n
+      (λ j lj qj a. cond-when _ _ _ _ _ _ (cnt-ltb keep i j qi qj) (λ u. same-visit i j li qi lj qj (ltb→lt i j u) a) (λ u. refl))
+      (λ j lj qj a. cond-same (ltb i j) (cond-off _ _ a (and-off (not (le (at x i) 0f)) (le (at x j) 0f) (zero-le (at x j) (struck j lj qj)))))
+      ∙ sym (row-all book' (cnt keep n) t x' (cnt keep i) s (cnt keep n))
+
+  no-row : (i : ℕ) → i < n → T (not (keep i)) → (s : _) → rowSeen book n t x i n s ≡ s
   unfolding rowSeen visited
-  no-row i li qi s = foldTo-id (visited book n t x i) s n (λ j a lj. cond-off _ _ a (and-off' (ltb i j) (le (at x i) 0f) (not (le (at x j) 0f)) (zero-le (at x i) (struck i li qi))))
+  no-row i li qi s = foldTo-id (λ k. visited book n t x i (i + 1 + k)) s (n - (i + 1)) (λ k a l. cond-off _ _ a (and-off' (le (at x i) 0f) (not (le (at x (i + 1 + k)) 0f)) (zero-le (at x i) (struck i li qi))))
 
   same-seen : allSeen book n t x ≡ allSeen book' (cnt keep n) t x'
   unfolding allSeen
-  same-seen = same-fold keep (rowSeen book n t x) (rowSeen book' (cnt keep n) t x') unseen n same-row no-row
+  same-seen = same-fold keep (λ i. rowSeen book n t x i n) (λ i. rowSeen book' (cnt keep n) t x' i (cnt keep n)) unseen n same-row no-row
 
   -- `validity`
   pub strike-validity : validityOf book n t x ≡ validityOf book' (cnt keep n) t x'

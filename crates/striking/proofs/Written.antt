@@ -10,9 +10,10 @@ use borrow.Author.Tests.{eq-eqb}
 use lib.ListN.{length, take, drop, length-append, length-take, List·getD-eq-default}
 use lib.Seq.{getD-take, getD-drop, take-at, drop-at}
 use lib.Dec.{T, ltb, ltb→lt, nltb→le}
-use Rattle.blocks.specs.Words.{byte, wordFrom, word, block, checkSum, checkRight}
+use Rattle.blocks.specs.Words.{byte, wordFrom, word, block, sumBy, checkRight}
+use Rattle.blocks.specs.declared.Rule.{Rule}
 use Rattle.blocks.specs.Bytes.{bytes, rowTo, blockBytes}
-use Rattle.blocks.proofs.Laws.{length-block-bytes, block-word, block-check}
+use Rattle.blocks.proofs.Laws.{length-block-bytes, block-word, block-check, sum-same}
 use Rattle.book.specs.Places.{words}
 use Rattle.striking.specs.Build.{Bytes}
 use Rattle.striking.proofs.Books.{so}
@@ -22,7 +23,7 @@ pub record Small (w : ℕ → ℕ) : Type 0 where
   pub fits : (k : ℕ) → w k < 2 ^ 64
 
 pub word-small : (s : List ℕ) → Bytes s → Small (word s)
-unfolding word wordFrom
+unfolding word
 word-small s h = record {
   fits = λ k. let b = h .small in omega (arith, b (8 * k), b (8 * k + 1), b (8 * k + 2), b (8 * k + 3), b (8 * k + 4), b (8 * k + 5), b (8 * k + 6), b (8 * k + 7));
 }
@@ -70,29 +71,25 @@ in-row f (suc n) k l = elim (eq-or-lt-of-le l) [
 ]
 
 -- ---- a block as it was written
-sum-same : (w v : ℕ → ℕ) (n : ℕ) → ((k : ℕ) → k < n → w k ≡ v k) → checkSum w n ≡ checkSum v n
-unfolding checkSum
-sum-same w v zero e = refl
-sum-same w v (suc n) e = rw (sum-same w v n (λ k l. e k (omega arith)), e n (omega arith))
-
-pub block-is : (w : ℕ → ℕ) (s : List ℕ) (b : ℕ) → Stands s (512 * b) (blockBytes w) → block s b ≡ blockBytes w
+pub block-is : (rule : Rule) (w : ℕ → ℕ) (s : List ℕ) (b : ℕ) → Stands s (512 * b) (blockBytes rule w) → block s b ≡ blockBytes rule w
 unfolding block
-block-is w s b at = rw (at .split, drop-at (at .front) (blockBytes w ++ at .rest) (512 * b) (at .long), take-at (blockBytes w) (at .rest) 512 (length-block-bytes w))
+block-is rule w s b at =
+    rw (at .split, drop-at (at .front) (blockBytes rule w ++ at .rest) (512 * b) (at .long), take-at (blockBytes rule w) (at .rest) 512 (length-block-bytes rule w))
 
-module _ (w : ℕ → ℕ) (h : Small w) where
-  pub written-word : (k : ℕ) → k < 63 → word (blockBytes w) k ≡ w k
-  written-word k l = rw append-nil at (block-word w k [] l (h .fits k))
+module _ (rule : Rule) (w : ℕ → ℕ) (h : Small w) where
+  pub written-word : (k : ℕ) → k < 63 → word (blockBytes rule w) k ≡ w k
+  written-word k l = rw append-nil at (block-word rule w k [] l (h .fits k))
 
-  pub written-check : T (checkRight (word (blockBytes w)))
+  pub written-check : T (checkRight rule (word (blockBytes rule w)))
   unfolding checkRight
-  written-check = so (eq-eqb _ _ (sum-same (word (blockBytes w)) w 63 written-word ∙ sym (rw append-nil at (block-check w []))))
+  written-check = so (eq-eqb _ _ (sum-same rule (word (blockBytes rule w)) w written-word ∙ sym (rw append-nil at (block-check rule w []))))
 
-  module _ (s : List ℕ) (b : ℕ) (at : Stands s (512 * b) (blockBytes w)) where
+  module _ (s : List ℕ) (b : ℕ) (at : Stands s (512 * b) (blockBytes rule w)) where
     pub read-word : (k : ℕ) → k < 63 → words s b k ≡ w k
-    read-word k l = rw (block-is w s b at) (written-word k l)
+    read-word k l = rw (block-is rule w s b at) (written-word k l)
 
-    pub read-check : T (checkRight (words s b))
-    read-check = rw (block-is w s b at) written-check
+    pub read-check : T (checkRight rule (words s b))
+    read-check = rw (block-is rule w s b at) written-check
 
 -- ---- what is written is bytes
 none-bytes : Bytes []
@@ -120,6 +117,6 @@ word-bytes w =
     cons-bytes _ _ (omega arith) (cons-bytes _ _ (omega arith) (cons-bytes _ _ (omega arith) (cons-bytes _ _ (omega arith)
     (cons-bytes _ _ (omega arith) (cons-bytes _ _ (omega arith) (cons-bytes _ _ (omega arith) (cons-bytes _ _ (omega arith) none-bytes)))))))
 
-pub block-bytes : (w : ℕ → ℕ) → Bytes (blockBytes w)
+pub block-bytes : (rule : Rule) (w : ℕ → ℕ) → Bytes (blockBytes rule w)
 unfolding blockBytes
-block-bytes w = append-bytes _ _ (row-bytes (λ k. bytes (w k)) 63 (λ k. word-bytes (w k))) (word-bytes (checkSum w 63))
+block-bytes rule w = append-bytes _ _ (row-bytes (λ k. bytes (w k)) 63 (λ k. word-bytes (w k))) (word-bytes (sumBy rule w))

@@ -1,4 +1,4 @@
--- The shorter book (document 01, "The shorter sheet"), and what of it the calculations read: the data of the solvents kept, and of the pairs of two of them.
+-- The shorter book (docs/FORMAT.md, "The shorter sheet"), and what of it the calculations read: the data of the solvents kept, and of the pairs of two of them.
 -- Assumes nothing.
 use Prim.Native.Nat.{ℕ, _+_, _*_, _≤_, _<_}
 use mathlib.Core.Path.{_≡_}
@@ -10,6 +10,8 @@ use lib.Dec.{T}
 use Rattle.floats.specs.Fold.{allTo}
 use Rattle.blocks.specs.Words.{checkRight}
 use Rattle.book.specs.Places.{words, blockCount, pairPlace}
+use Rattle.book.specs.Book.{ruleOf}
+use Rattle.book.specs.declared.Head.{Head}
 use Rattle.striking.specs.Places.{cnt}
 
 -- words 3 to 44 of a solvent's block: its two correlations
@@ -24,7 +26,7 @@ pub record KeptPairs (keep : ℕ → Bool) (n : ℕ) (book book' : List ℕ) : T
 -- are places among the kept; all other words stand; checks are right
 pub record ShorterBook (keep : ℕ → Bool) (n : ℕ) (s s' : List ℕ) : Type 0 where
   pub size : length s' ≡ 512 * blockCount (cnt keep n)
-  pub checks : T (allTo (λ b. checkRight (words s' b)) (blockCount (cnt keep n)))
+  pub checks : T (allTo (λ b. checkRight (ruleOf s') (words s' b)) (blockCount (cnt keep n)))
   pub head : (k : ℕ) → k < 63 → k ≢ 2 → words s 0 k ≡ words s' 0 k
   pub count : words s' 0 2 ≡ cnt keep n
   pub solvent : (i : ℕ) → i < n → T (keep i) → (k : ℕ) → k < 63 → k ≢ 1 → words s (i + 1) k ≡ words s' (cnt keep i + 1) k
@@ -32,3 +34,7 @@ pub record ShorterBook (keep : ℕ → Bool) (n : ℕ) (s s' : List ℕ) : Type 
   pub pair : (i j : ℕ) → i < j → j < n → T (keep i) → T (keep j) → (k : ℕ) → k < 63 → k ≢ 1 → k ≢ 2 → words s (pairPlace n i j) k ≡ words s' (pairPlace (cnt keep n) (cnt keep i) (cnt keep j)) k
   pub pair-i : (i j : ℕ) → i < j → j < n → T (keep i) → T (keep j) → words s' (pairPlace (cnt keep n) (cnt keep i) (cnt keep j)) 1 ≡ cnt keep i
   pub pair-j : (i j : ℕ) → i < j → j < n → T (keep i) → T (keep j) → words s' (pairPlace (cnt keep n) (cnt keep i) (cnt keep j)) 2 ≡ cnt keep j
+
+-- what its block 0 says: the count of kept solvents, all else as it was
+unfoldable pub shorterHead : (ℕ → Bool) → Head → Head
+shorterHead keep h = record { n = cnt keep (h .n); version = h .version }

@@ -1,12 +1,15 @@
--- The shorter book and question, made (document 01, "The shorter sheet"). Assumes nothing.
+-- The shorter book and question, made (docs/FORMAT.md, "The shorter sheet"). Assumes nothing.
 use Prim.Native.Nat.{ℕ, zero, suc, _+_, _-_, _<_}
 use mathlib.Core.Bool.{Bool, cond, _&&_}
 use mathlib.Core.List.{List, _++_}
 use lib.Dec.{eqb, leb, ltb}
 use Rattle.blocks.specs.Words.{byte, word}
 use Rattle.blocks.specs.Bytes.{rowTo, blockBytes}
+use Rattle.blocks.specs.declared.Rule.{Rule}
 use Rattle.book.specs.Places.{words, pairPlace}
+use Rattle.book.specs.Book.{ruleOf}
 use Rattle.striking.specs.Places.{cnt}
+use Rattle.striking.specs.Questions.{keptIn, solvents}
 
 -- the elements are bytes, as those of every slice of u8 are
 pub record Bytes (s : List ℕ) : Type 0 where
@@ -33,15 +36,22 @@ pairWords keep n book i j = change 1 i (change 2 j (words book (pairPlace n (kep
 
 -- the pairs (i, i + 1), (i, i + 2) and on
 unfoldable pub pairRow : (ℕ → Bool) → ℕ → List ℕ → ℕ → List ℕ
-pairRow keep n book i = rowTo (λ d. blockBytes (pairWords keep n book i (i + 1 + d))) (cnt keep n - i - 1)
+pairRow keep n book i = rowTo (λ d. blockBytes (ruleOf book) (pairWords keep n book i (i + 1 + d))) (cnt keep n - i - 1)
 
 unfoldable pub shorterBook : (ℕ → Bool) → ℕ → List ℕ → List ℕ
-shorterBook keep n book = blockBytes (headWords keep n book) ++ rowTo (λ k. blockBytes (solventWords keep n book k)) (cnt keep n) ++ rowTo (pairRow keep n book) (cnt keep n)
+shorterBook keep n book = blockBytes (ruleOf book) (headWords keep n book) ++ rowTo (λ k. blockBytes (ruleOf book) (solventWords keep n book k)) (cnt keep n) ++ rowTo (pairRow keep n book) (cnt keep n)
 
 -- words w, but of the eight from f on the kept ones first, then 0
 unfoldable pub moveUp : (ℕ → Bool) → ℕ → ℕ → (ℕ → ℕ) → ℕ → ℕ
 moveUp keep n f w k = cond (leb f k && ltb k (f + 8)) (cond (ltb (k - f) (cnt keep n)) (w (f + keptAt keep n (k - f))) 0) (w k)
 
 -- fractions from word 4 on, K from word 19 on
-unfoldable pub shorterQuestion : (ℕ → Bool) → ℕ → List ℕ → List ℕ
-shorterQuestion keep n question = blockBytes (moveUp keep n 4 (moveUp keep n 19 (word question)))
+unfoldable pub shorterQuestion : Rule → (ℕ → Bool) → ℕ → List ℕ → List ℕ
+shorterQuestion rule keep n question = blockBytes rule (moveUp keep n 4 (moveUp keep n 19 (word question)))
+
+-- of a book and a question
+abbrev pub shorterOf : List ℕ → List ℕ → List ℕ
+shorterOf book question = shorterBook (keptIn question) (solvents book) book
+
+abbrev pub shorterAsk : List ℕ → List ℕ → List ℕ
+shorterAsk book question = shorterQuestion (ruleOf book) (keptIn question) (solvents book) question

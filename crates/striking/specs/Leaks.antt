@@ -11,6 +11,7 @@ use Rattle.floats.specs.Fold.{foldTo, sumTo}
 use Rattle.floats.specs.Vector.{at, vec}
 use Rattle.floats.specs.Outcome.{Out, ok, no, bind, need, choose}
 use Rattle.numerics.specs.Numerics.{expOf}
+use Rattle.thermo_types.specs.declared.ActivityOptions.{ActivityOptions}
 use Rattle.thermo_models.specs.Model.{Activity}
 use Rattle.rachford_rice.specs.Rachford.{Solution, validate, iterate}
 use Rattle.saturation.specs.Saturation.{Bubble}
@@ -62,20 +63,20 @@ module _ (E : List Float → Out Activity) (ps : List Float) (n : ℕ) (p : Floa
       (leakySplit tolerance left (suc done) (turn .activity .lnGamma)))
 
 -- ---- 4. a trial numbered by its place among the solvents present
-module _ (E : List Float → Out Activity) (threshold : Float) (n : ℕ) where
+module _ (E : List Float → Out Activity) (n : ℕ) (o : ActivityOptions) (x : List Float) where
   -- `trialsTo` of Stability.antt, which has the solvent's index k in place of the count of trials before it
-  unfoldable pub leakyTrials : List Float → List Float → ℕ → ℕ → Out Trials
-  leakyTrials x d limit zero = ok noTrials
-  leakyTrials x d limit (suc k) =
-      bind (leakyTrials x d limit k) (λ s.
+  unfoldable pub leakyTrials : List Float → ℕ → Out Trials
+  leakyTrials d zero = ok noTrials
+  leakyTrials d (suc k) =
+      bind (leakyTrials d k) (λ s.
       choose (lt 0f (at x k))
-      (bind (trialFrom E threshold n x d (s .count) limit 0 (startOf x n k)) (λ r. ok (withTrial threshold s r)))
+      (bind (trialFrom E (o .«tm_threshold») n x d (s .count) (o .«max_iterations») 0 (startOf x n k)) (λ r. ok (withTrial (o .«tm_threshold») s r)))
       (ok s))
 
   -- `stabilityOf` over it
-  unfoldable pub leakyStability : List Float → ℕ → Out Trials
-  leakyStability x limit =
+  unfoldable pub leakyStability : Out Trials
+  leakyStability =
       bind (E x) (λ a.
       choose (ltb (presentCount x n) 2)
       (ok noTrials)
-      (leakyTrials x (tangent x (a .lnGamma) n) limit n))
+      (leakyTrials (tangent x (a .lnGamma) n) n))

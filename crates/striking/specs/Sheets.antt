@@ -1,4 +1,4 @@
--- Which words of two answer slices are equal (document 01, "The shorter sheet"): s of the longer call, s' of the shorter. Block 0 is the answer, blocks 1 and on are the
+-- Which words of two answer slices are equal (docs/FORMAT.md, "The shorter sheet"): s of the longer call, s' of the shorter. Block 0 is the answer, blocks 1 and on are the
 -- trials, as many as word 12 of the answer says. Assumes nothing.
 use Prim.Native.Nat.{ℕ, _+_, _≤_, _<_}
 use mathlib.Core.Path.{_≡_}

@@ -7,13 +7,14 @@ use mathlib.Core.List.{List}
 use lib.ListN.{length}
 use lib.Dec.{T}
 use lib.Ieee.{Float, isNan}
-use Rattle.floats.specs.Vector.{at, vec}
+use Rattle.floats.specs.Vector.{at}
 use Rattle.floats.specs.Outcome.{Out, ok, no}
 use Rattle.blocks.specs.Words.{word}
 use Rattle.book.specs.Places.{words}
 use Rattle.thermo_models.specs.Model.{Activity}
-use Rattle.question.specs.Asked.{fraction}
-use Rattle.sheet.specs.Tasks.{modelOf}
+use Rattle.question.specs.Asked.{feedOf}
+use Rattle.thermo_models.specs.Mixture.{activity, mixtureOf}
+use Rattle.replies.specs.Blocks.{answerRoom}
 use Rattle.sheet.specs.Sheet.{sheetOf, written, Answers}
 use Rattle.striking.specs.Places.{cnt}
 use Rattle.striking.specs.Words.{SameWord}
@@ -33,14 +34,14 @@ after book question old = written (sheetOf book question (length old)) old
 abbrev pub Demand3 : Type 0
 Demand3 =
     (book question book' question' : List ℕ) → Shorter book question book' question' → word question 1 ≢ 5
-    → (old old' : List ℕ) → 4608 ≤ length old' → Accepted (sheetOf book question (length old))
+    → (old old' : List ℕ) → answerRoom ≤ length old' → Accepted (sheetOf book question (length old))
     → Accepted (sheetOf book' question' (length old')) × SameSheet (keptIn question) (solvents book) (after book question old) (after book' question' old')
 
 -- the same of two calls of the entry point, by its contract: it gives 0 and leaves the slice `new`, and then it gives r' and leaves `new'`
 abbrev pub Calls : Type 0
 Calls =
     (book question book' question' : List ℕ) → Shorter book question book' question' → word question 1 ≢ 5
-    → (old new old' new' : List ℕ) (r' : ℕ) → 4608 ≤ length old' → Answers (sheetOf book question (length old)) 0 old new → Answers (sheetOf book' question' (length old')) r' old' new'
+    → (old new old' new' : List ℕ) (r' : ℕ) → answerRoom ≤ length old' → Answers (sheetOf book question (length old)) 0 old new → Answers (sheetOf book' question' (length old')) r' old' new'
     → (r' ≡ 0) × SameSheet (keptIn question) (solvents book) new new'
 
 -- ---- two books that strike down to the same shorter one
@@ -78,18 +79,15 @@ SameDrum =
     → (old old' : List ℕ) → Accepted (sheetOf book question (length old)) → Accepted (sheetOf book' question' (length old'))
     → EqualSheet (keptIn question) (solvents book) (keptIn question') (solvents book') (after book question old) (after book' question' old')
 
--- ---- document 01's premise for bubble temperature (4), for the temperatures that `tried` names: no slope of a kept solvent's ln γ is a NaN, unless it is one with
+-- ---- the scope's premise for bubble temperature (4), for the temperatures that `tried` names: no slope of a kept solvent's ln γ is a NaN, unless it is one with
 -- the shorter book too. `striking` holds without it; `Demand3-4` is the worded form, for any `tried`
-abbrev pub feed : List ℕ → ℕ → List Float
-feed question n = vec (fraction (word question)) n
-
 pub record NoNewNan (tried : Float → Type 0) (book question book' question' : List ℕ) : Type 0 where
-  pub slope : (t : Float) → tried t → (a a' : Activity) → modelOf book (solvents book) t (feed question (solvents book)) ≡ ok a
-      → modelOf book' (solvents book') t (feed question' (solvents book')) ≡ ok a'
+  pub slope : (t : Float) → tried t → (a a' : Activity) → activity (mixtureOf book (solvents book)) t (feedOf question (solvents book)) ≡ ok a
+      → activity (mixtureOf book' (solvents book')) t (feedOf question' (solvents book')) ≡ ok a'
       → (i : ℕ) → i < solvents book → T (keptIn question i) → T (isNan (at (a .slopes) i)) → T (isNan (at (a' .slopes) (cnt (keptIn question) i)))
 
 abbrev pub Demand3-4 : Type 1
 Demand3-4 =
     (tried : Float → Type 0) (book question book' question' : List ℕ) → Shorter book question book' question' → word question 1 ≡ 4 → NoNewNan tried book question book' question'
-    → (old old' : List ℕ) → 4608 ≤ length old' → Accepted (sheetOf book question (length old))
+    → (old old' : List ℕ) → answerRoom ≤ length old' → Accepted (sheetOf book question (length old))
     → Accepted (sheetOf book' question' (length old')) × SameSheet (keptIn question) (solvents book) (after book question old) (after book' question' old')

@@ -1,17 +1,19 @@
 -- What a caller of `activity` and `pure_liquids` learns from the verdict, and what the owner of a table learns from `tables`. Assumes nothing.
 use Prim.Native.Nat.{ℕ}
-use mathlib.Core.Path.{_≡_, refl, fun-ext}
+use mathlib.Core.Path.{_≡_, refl, ap, fun-ext}
 use mathlib.Core.List.{List}
 use native.Mathlib.Omega.{arith}
 use lib.ListN.{length, replicate, length-replicate}
 use lib.Ieee.{Float}
 use Rattle.floats.specs.Arithmetic.{0f}
 use Rattle.floats.specs.Outcome.{Out, ok, no}
+use Rattle.thermo_types.specs.declared.Temperature.{Temperature}
 use Rattle.thermo_types.specs.declared.Verdict.{Verdict}
 use Rattle.thermo_types.specs.declared.Verdict.the-variants.{Passed, Refused}
 use Rattle.thermo_types.specs.Verdicts.{verdictOf}
+use Rattle.thermo_models.specs.declared.Tabled.{Tabled}
 use Rattle.thermo_models.specs.Model.{Activity, Pures, ActivityIs, PuresAre, lnGammaOf, slopesOf, pressuresOf, pressureSlopesOf}
-use Rattle.thermo_models.specs.Activity.{activityOn, activityOf, Tabled}
+use Rattle.thermo_models.specs.Activity.{activityIn, excessOn, activityOn, excessOf, activityOf, tabledOf, Stands}
 
 module _ {v : Verdict} where
   -- of any outcome
@@ -45,11 +47,23 @@ module _ {v : Verdict} where
     pub pures-refused : (o : Out Pures) {r : ℕ} → PuresAre o v ps dps → v ≡ Refused r → o ≡ no r
     pures-refused o h q = verdict-refused o (h .verdict) q
 
--- on a table that `tables` made, the activity is that of the parameters
-module _ {tau alpha : List Float} {n : ℕ} {t : Float} {v : Verdict} {new : List Float} where
-  pub tabled-is : {old : List Float} → Tabled tau alpha n t v old new → length old ≡ 512 → activityOn new v n t ≡ activityOf tau alpha n t
-  tabled-is h l = fun-ext (h .agrees l)
+-- on a table that `tables` made, excess state and activity are those of the parameters
+module _ {P : List Float} {n : ℕ} {t : Temperature} {r : Tabled} {new : List Float} where
+  pub stands-excess : {old : List Float} → Stands P n t r old new → length old ≡ 512 → excessOn new r ≡ excessOf P n (t .0)
+  stands-excess h l = fun-ext (h .agrees l)
+
+  pub stands-is : {old : List Float} → Stands P n t r old new → length old ≡ 512 → activityOn new r ≡ activityOf P n (t .0)
+  unfolding activityOn activityOf
+  stands-is h l = fun-ext (λ x. ap activityIn (h .agrees l x))
 
   -- the owner's `[0.0; 512]`
-  pub tabled-fresh : Tabled tau alpha n t v (replicate 512 0f) new → activityOn new v n t ≡ activityOf tau alpha n t
-  tabled-fresh h = tabled-is h (length-replicate 512 0f)
+  pub excess-fresh : Stands P n t r (replicate 512 0f) new → excessOn new r ≡ excessOf P n (t .0)
+  excess-fresh h = stands-excess h (length-replicate 512 0f)
+
+  pub stands-fresh : Stands P n t r (replicate 512 0f) new → activityOn new r ≡ activityOf P n (t .0)
+  stands-fresh h = stands-is h (length-replicate 512 0f)
+
+  -- the count beside it
+  pub stands-count : {old : List Float} → Stands P n t r old new → r .n ≡ n
+  unfolding tabledOf
+  stands-count h = ap (λ (s : Tabled). s .n) (h .said)

@@ -1,5 +1,6 @@
--- Laws of thermo_models: `Answers` is for callers. Assumes nothing.
+-- Laws of thermo_models. Assumes nothing.
 pub mod Answers
 pub mod Pures
-pub mod Tabled
-pub mod Intervals
+mod Stands
+pub mod Pairs
+pub mod Unread

@@ -22,7 +22,8 @@ use Rattle.thermo_models.specs.Model.{Pures, PuresAre, pressuresOf, pres
 use Rattle.thermo_models.specs.Domain.{vaporRecord, temperatureInDomain, puresTo, pureLiquidsOf}
 
 -- ---- a vapor pressure, from what the code has of it
-vapor-passed : (o : Out Vapor) {v : VaporPressure} → v ≡ vaporAnswer o → v .verdict ≡ Passed → (a : Vapor) × (o ≡ ok a) × (v .pressure ≡ a .pressure) × (v .«d_ln_pressure_dt» ≡ a .slope)
+vapor-passed : (o : Out Vapor) {v : VaporPressure} → v ≡ vaporAnswer o → v .verdict ≡ Passed
+    → (a : Vapor) × (o ≡ ok a) × (v .pressure ≡ a .pressure) × (v .«d_ln_pressure_dt» ≡ a .slope)
 unfolding vaporAnswer
 vapor-passed (ok a) e p = (a, refl, rw e, rw e)
 vapor-passed (no r) e p = let z : _≡_ {A = ℕ} 0 1 = cc (ap (λ (v : VaporPressure). v .verdict) e) in absurd (omega arith)
@@ -87,6 +88,7 @@ pub pures-outside : (book : List ℕ) (n : ℕ) (t : Float) → temperatureInDom
 unfolding pureLiquidsOf
 pures-outside book n t e = pures-none (need-no 22 (puresTo book t n) e)
 
-pub pures-inside : (book : List ℕ) (n : ℕ) (t : Float) {v : Verdict} {ps dps : List Float} → temperatureInDomain book n t ≡ true → PuresAre (puresTo book t n) v ps dps → PuresAre (pureLiquidsOf book n t) v ps dps
+pub pures-inside : (book : List ℕ) (n : ℕ) (t : Float) {v : Verdict} {ps dps : List Float} → temperatureInDomain book n t ≡ true
+    → PuresAre (puresTo book t n) v ps dps → PuresAre (pureLiquidsOf book n t) v ps dps
 unfolding pureLiquidsOf
 pures-inside book n t e h = rw (need-yes 22 (puresTo book t n) e) h

@@ -4,10 +4,10 @@ use mathlib.Core.Bool.{Bool, _&&_}
 use mathlib.Core.List.{List}
 use lib.ListN.{set}
 use lib.Ieee.{Float}
-use Rattle.floats.specs.Arithmetic.{#}
 use Rattle.floats.specs.Fold.{allTo}
 use Rattle.floats.specs.Vector.{zeros8}
 use Rattle.floats.specs.Outcome.{Out, ok, bind, need}
+use Rattle.thermo_types.specs.Quantities.{lowestKelvin, highestKelvin}
 use Rattle.book.specs.Places.{words}
 use Rattle.records.specs.declared.Ancillary.{Ancillary}
 use Rattle.records.specs.declared.Range.{Range}
@@ -29,9 +29,9 @@ densityRange book i = rangeOf (words book (i + 1)) 24
 unfoldable pub solventCovers : List ℕ → Float → ℕ → Bool
 solventCovers book t i = inRange (vaporRange book i .0) (vaporRange book i .1) t && inRange (densityRange book i .0) (densityRange book i .1) t
 
--- `check_temperature`: 273.16 to 450 K, and both ranges of every solvent, absent ones too
+-- `check_temperature`: the model's temperatures, and both ranges of every solvent, absent ones too
 unfoldable pub temperatureInDomain : List ℕ → ℕ → Float → Bool
-temperatureInDomain book n t = inRange (# 0x4071128f5c28f5c3) (# 0x407c200000000000) t && allTo (solventCovers book t) n
+temperatureInDomain book n t = inRange lowestKelvin highestKelvin t && allTo (solventCovers book t) n
 
 -- the vapor pressures and slopes of the solvents below k, in index order
 unfoldable pub puresTo : List ℕ → Float → ℕ → Out Pures

@@ -3,3 +3,4 @@ pub mod Model
 pub mod Domain
 pub mod Activity
 pub mod Validity
+pub mod Mixture

@@ -20,9 +20,9 @@ pub record Pures : Type 0 where
   pub pressure : List Float
   pub slope : List Float
 
--- activity of T and x
-abbrev pub Model : Type 0
-Model = Float → List Float → Out Activity
+-- the activity at T of x
+abbrev pub Activities : Type 0
+Activities = Float → List Float → Out Activity
 
 -- the pure liquids at T
 abbrev pub Liquids : Type 0
@@ -56,5 +56,11 @@ pub record PuresAre (o : Out Pures) (v : Verdict) (ps dps : List Float) : Type 0
   pub slopes : dps ≡ pressureSlopesOf o
 
 -- ACTIVITY_PRESSURE_RANGE_PA: 100 to 500000 Pa
+abbrev pub lowestPascal : Float
+lowestPascal = # 0x4059000000000000
+
+abbrev pub highestPascal : Float
+highestPascal = # 0x411e848000000000
+
 unfoldable pub pressureInDomain : Float → Bool
-pressureInDomain p = le (# 0x4059000000000000) p && le p (# 0x411e848000000000)
+pressureInDomain p = le lowestPascal p && le p highestPascal

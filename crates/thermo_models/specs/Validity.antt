@@ -1,8 +1,7 @@
 -- Whether T lies in the regression intervals of the pairs present (nrtl.rs, `validity`). Assumes nothing.
-use Prim.Native.Nat.{ℕ}
+use Prim.Native.Nat.{ℕ, _+_, _-_}
 use mathlib.Core.Bool.{true, false, not, cond, _&&_, _||_}
 use mathlib.Core.List.{List}
-use lib.Dec.{ltb}
 use lib.Ieee.{Float, le}
 use Rattle.floats.specs.Arithmetic.{0f}
 use Rattle.floats.specs.Fold.{foldTo}
@@ -27,17 +26,23 @@ unseen = record { active = false; missing = false; extrapolated = false; inferre
 -- a pair present is noted: without an interval it is missing; with one, T may lie outside it, and it may be inferred
 unfoldable pub noted : Regression → Float → Seen → Seen
 noted None t s = record { active = true; missing = true; extrapolated = s .extrapolated; inferred = s .inferred }
-noted (Interval lo hi f) t s = record { active = true; missing = s .missing; extrapolated = s .extrapolated || not (inRange lo hi t); inferred = s .inferred || f }
+noted (Interval lo hi f) t s = record {
+  active = true;
+  missing = s .missing;
+  extrapolated = s .extrapolated || not (inRange lo hi t);
+  inferred = s .inferred || f;
+}
 
--- the pair (i, j) counts where i < j and neither fraction is ≤ 0
+-- the pair (i, j) counts where neither fraction is ≤ 0
 unfoldable pub visited : List ℕ → ℕ → Float → List Float → ℕ → ℕ → Seen → Seen
-visited book n t x i j s = cond (ltb i j && (not (le (at x i) 0f) && not (le (at x j) 0f))) (noted (intervalOf book n i j) t s) s
+visited book n t x i j s = cond (not (le (at x i) 0f) && not (le (at x j) 0f)) (noted (intervalOf book n i j) t s) s
 
-unfoldable pub rowSeen : List ℕ → ℕ → Float → List Float → ℕ → Seen → Seen
-rowSeen book n t x i s = foldTo (visited book n t x i) s n
+-- the pairs (i, j), j from i + 1 to m - 1
+unfoldable pub rowSeen : List ℕ → ℕ → Float → List Float → ℕ → ℕ → Seen → Seen
+rowSeen book n t x i m s = foldTo (λ k. visited book n t x i (i + 1 + k)) s (m - (i + 1))
 
 unfoldable pub allSeen : List ℕ → ℕ → Float → List Float → Seen
-allSeen book n t x = foldTo (rowSeen book n t x) unseen n
+allSeen book n t x = foldTo (λ i. rowSeen book n t x i n) unseen n
 
 -- extrapolated if any pair is; else unassessed if a pair has no interval or no pair is present; else within
 unfoldable pub statusOf : Seen → ValidityStatus

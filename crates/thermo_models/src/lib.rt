@@ -1,13 +1,18 @@
-// What the solvers ask of the models: the domain, the pure liquids, activity from the tables of a temperature, and validity (models/activity.rs, nrtl.rs).
+// What the solvers ask of the models: the domain, the pure liquids, excess state and activity from the tables of a
+// temperature, and validity (models/activity.rs, nrtl.rs).
 ghost use mathlib.Core.Path.{_≡_};
 ghost use Prim.Native.Nat.{_≤_, _<_};
 ghost use Rattle.floats.specs.Fold.{allTo};
 ghost use Rattle.floats.specs.Vector.{places};
+ghost use Rattle.excess.specs.Answers.{Gives};
 ghost use Rattle.thermo_models.specs.Model.{ActivityIs, PuresAre, pressureInDomain};
 ghost use Rattle.thermo_models.specs.Domain.{solventCovers, temperatureInDomain, puresTo, pureLiquidsOf};
-ghost use Rattle.thermo_models.specs.Activity.{activityOn, Tabled};
+ghost use Rattle.thermo_models.specs.Activity.{excessOn, activityOn, Stands};
 ghost use Rattle.thermo_models.specs.Validity.{noted, visited, rowSeen, allSeen, statusOf, validityOf};
+use excess::Energies;
 use records::Regression;
+use thermo_types::HIGHEST_KELVIN;
+use thermo_types::LOWEST_KELVIN;
 use thermo_types::Temperature;
 use thermo_types::Verdict;
 
@@ -34,19 +39,23 @@ fn all_cover(book: &[u8], t: f64, n: usize) -> bool
     true
 }
 
-// 273.16 to 450 K and the two ranges of every solvent, absent ones too.
+// The model's temperatures and the two ranges of every solvent, absent ones too.
 pub fn check_temperature(book: &[u8], n: usize, t: Temperature) -> bool
     ensures { λ r. ⌜ r ≡ temperatureInDomain (now (book .entry)) (places n) (t .0) ⌝ }
 {
     let v = t.value();
-    liquid::in_range(273.16, 450.0, v) & all_cover(book, v, floats::places(n))
+    liquid::in_range(LOWEST_KELVIN, HIGHEST_KELVIN, v) & all_cover(book, v, floats::places(n))
 }
 
-// 100 to 500000 Pa.
+// ACTIVITY_PRESSURE_RANGE_PA.
+const LOWEST_PASCAL: f64 = 100.0;
+
+const HIGHEST_PASCAL: f64 = 500000.0;
+
 pub fn check_pressure(p: f64) -> bool
     ensures { λ r. ⌜ r ≡ pressureInDomain p ⌝ }
 {
-    (100.0 <= p) & (p <= 500000.0)
+    (LOWEST_PASCAL <= p) & (p <= HIGHEST_PASCAL)
 }
 
 // ---- the pure liquids at a temperature
@@ -95,34 +104,61 @@ pub fn pure_liquids(
     fill_pures(book, floats::places(n), t, ps, dps)
 }
 
-// ---- activity
+// ---- excess state and activity
 
-// The tables of τ and G at t, worked out once per temperature; "24" is carried in the verdict.
-pub fn tables(
-    tau: &[f64; 256],
-    alpha: &[f64; 128],
-    n: usize,
-    t: Temperature,
-    table: &mut [f64; 512],
-) -> Verdict
-    ensures { λ r. ⌜ Tabled (now (tau .entry)) (now (alpha .entry)) (places n) (t .0) r (now (table .entry)) (now (table .exit)) ⌝ }
-{
-    nrtl_tables::tables(tau, alpha, n, t, table)
+pub enum Model {
+    Nrtl,
 }
 
-// ln γ and slopes of x at t, from its tables: 13, 15, 16, 18, 24, 25.
+// What a table stands for: the model, whether its parameters passed, n solvents, T.
+pub struct Tabled {
+    pub model: Model,
+    pub alphas: Verdict,
+    pub n: usize,
+    pub t: Temperature,
+}
+
+// The tables of the parameters at t, worked out once per temperature; "24" is carried in `alphas`.
+pub fn tables(parameters: &[f64; 384], n: usize, t: Temperature, table: &mut [f64; 512]) -> Tabled
+    ensures { λ r. ⌜ Stands (now (parameters .entry)) (places n) t r (now (table .entry)) (now (table .exit)) ⌝ }
+{
+    let alphas = nrtl_tables::tables(parameters, n, t, table);
+    Tabled {
+        model: Model::Nrtl,
+        alphas: alphas,
+        n: floats::places(n),
+        t: t,
+    }
+}
+
+// ln γ, slopes and energies of x, from a table and what it stands for: 13, 15, 16, 18, 24, 25.
+pub fn excess(
+    table: &[f64; 512],
+    s: Tabled,
+    x: &[f64; 8],
+    lg: &mut [f64; 8],
+    sl: &mut [f64; 8],
+) -> Energies
+    ensures { λ r. ⌜ Gives (excessOn (now (table .entry)) s (now (x .entry))) r (now (lg .exit)) (now (sl .exit)) ⌝ }
+{
+    let model = s.model;
+    let alphas = s.alphas;
+    match model {
+        Model::Nrtl => nrtl::excess(table, alphas, s.n, s.t, x, lg, sl),
+    }
+}
+
+// ln γ and slopes alone.
 pub fn activity(
     table: &[f64; 512],
-    alphas: Verdict,
-    n: usize,
-    t: Temperature,
+    s: Tabled,
     x: &[f64; 8],
     lg: &mut [f64; 8],
     sl: &mut [f64; 8],
 ) -> Verdict
-    ensures { λ r. ⌜ ActivityIs (activityOn (now (table .entry)) alphas (places n) (t .0) (now (x .entry))) r (now (lg .exit)) (now (sl .exit)) ⌝ }
+    ensures { λ r. ⌜ ActivityIs (activityOn (now (table .entry)) s (now (x .entry))) r (now (lg .exit)) (now (sl .exit)) ⌝ }
 {
-    nrtl::excess(table, alphas, n, t, x, lg, sl).verdict
+    excess(table, s, x, lg, sl).verdict
 }
 
 // ---- validity
@@ -170,7 +206,7 @@ fn visit(book: &[u8], n: usize, t: f64, x: &[f64; 8], i: usize, j: usize, s: See
     requires { ⌜ (n ≤ 8) × (i < n) × (j < n) ⌝ }
     ensures { λ r. ⌜ r ≡ visited (now (book .entry)) n t (now (x .entry)) i j s ⌝ }
 {
-    if (i < j) & (!(x[i] <= 0.0) & !(x[j] <= 0.0)) {
+    if !(x[i] <= 0.0) & !(x[j] <= 0.0) {
         let pair = records::pair_record(book, n, i, j);
         let interval = pair.regression;
         note(interval, t, s)
@@ -181,10 +217,10 @@ fn visit(book: &[u8], n: usize, t: f64, x: &[f64; 8], i: usize, j: usize, s: See
 
 fn see_row(book: &[u8], n: usize, t: f64, x: &[f64; 8], i: usize, seen: Seen) -> Seen
     requires { ⌜ (n ≤ 8) × (i < n) ⌝ }
-    ensures { λ r. ⌜ r ≡ rowSeen (now (book .entry)) n t (now (x .entry)) i seen ⌝ }
+    ensures { λ r. ⌜ r ≡ rowSeen (now (book .entry)) n t (now (x .entry)) i n seen ⌝ }
 {
     let mut s = seen;
-    for j in 0..n {
+    for j in i + 1..n {
         s = visit(book, n, t, x, i, j, s);
     }
     s

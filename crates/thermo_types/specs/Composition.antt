@@ -10,19 +10,26 @@ use Rattle.floats.specs.Vector.{vec}
 use Rattle.floats.specs.Outcome.{Out, need}
 
 -- COMPOSITION_SUM_TOLERANCE, 1e-10
-abbrev pub tolerance : Float
-tolerance = # 0x3ddb7cdfd9d7bdbb
+abbrev pub sumTolerance : Float
+sumTolerance = # 0x3ddb7cdfd9d7bdbb
+
+-- ---- tests of the first n entries
+abbrev pub allFinite : (ℕ → Float) → ℕ → Bool
+allFinite x n = allTo (λ i. isFinite (x i)) n
+
+abbrev pub noneNegative : (ℕ → Float) → ℕ → Bool
+noneNegative x n = allTo (λ i. not (lt (x i) 0f)) n
+
+abbrev pub allPositive : (ℕ → Float) → ℕ → Bool
+allPositive x n = allTo (λ i. lt 0f (x i)) n
 
 -- the sum is 1 within the tolerance
 unfoldable pub sumsToOne : (ℕ → Float) → ℕ → Bool
-sumsToOne x n = not (lt tolerance (absOf (sumTo x n ⊖ 1f)))
+sumsToOne x n = not (lt sumTolerance (absOf (sumTo x n ⊖ 1f)))
 
 -- the first n entries are finite (15), not negative (16), and sum to 1 (18): then go on
 unfoldable pub withFractions : {A : Type 0} → (ℕ → Float) → ℕ → Out A → Out A
-withFractions x n next =
-    need (allTo (λ i. isFinite (x i)) n) 15
-    (need (allTo (λ i. not (lt (x i) 0f)) n) 16
-    (need (sumsToOne x n) 18 next))
+withFractions x n next = need (allFinite x n) 15 (need (noneNegative x n) 16 (need (sumsToOne x n) 18 next))
 
 -- each of the first n entries over their sum, +0 past them
 unfoldable pub normalizeOf : (ℕ → Float) → ℕ → List Float

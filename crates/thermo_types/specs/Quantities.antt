@@ -1,7 +1,7 @@
 -- `Temperature::new` and `Pressure::new`: finite and positive (13, 14). Assumes nothing.
 use Prim.Native.Nat.{ℕ}
 use lib.Ieee.{Float, lt}
-use Rattle.floats.specs.Arithmetic.{0f}
+use Rattle.floats.specs.Arithmetic.{#, 0f}
 use Rattle.floats.specs.Small.{isFinite}
 use Rattle.floats.specs.Outcome.{Out, ok, no, need}
 use Rattle.thermo_types.specs.declared.Temperature.{Temperature}
@@ -22,6 +22,13 @@ kelvin v = record { 0 = v }
 -- pascals
 abbrev pub pascal : Float → Pressure
 pascal v = record { 0 = v }
+
+-- ACTIVITY_TEMPERATURE_RANGE_K: 273.16 to 450 K
+abbrev pub lowestKelvin : Float
+lowestKelvin = # 0x4071128f5c28f5c3
+
+abbrev pub highestKelvin : Float
+highestKelvin = # 0x407c200000000000
 
 -- as the code answers
 unfoldable pub newTemperature : Out Float → NewTemperature

@@ -1,16 +1,12 @@
 // Typed quantities and mole fractions (thermo-types). Each function equals its definition in specs/.
 ghost use mathlib.Core.Path.{_≡_};
 ghost use Prim.Native.Nat.{_≤_};
-ghost use lib.Ieee.{lt};
-ghost use mathlib.Core.Bool.{not};
-ghost use Rattle.floats.specs.Arithmetic.{0f};
-ghost use Rattle.floats.specs.Small.{isFinite};
-ghost use Rattle.floats.specs.Fold.{sumTo, allTo};
+ghost use Rattle.floats.specs.Fold.{sumTo};
 ghost use Rattle.floats.specs.Vector.{at, places};
 ghost use Rattle.floats.specs.Outcome.{ok};
 ghost use Rattle.thermo_types.specs.Verdicts.{verdictOf};
 ghost use Rattle.thermo_types.specs.Quantities.{positiveOf, newTemperature, newPressure};
-ghost use Rattle.thermo_types.specs.Composition.{withFractions, sumsToOne, normalizeOf};
+ghost use Rattle.thermo_types.specs.Composition.{allFinite, noneNegative, allPositive, sumsToOne, withFractions, normalizeOf};
 
 // Passed, or refused with the number of the question that was answered no.
 pub enum Verdict {
@@ -33,6 +29,24 @@ pub enum NewPressure {
     Valid(Pressure),
     No(u64),
 }
+
+// What the solvers iterate with: limits, the tolerance of ln fugacities, the threshold of tm below which a liquid is unstable, the bracket in K.
+pub struct ActivityOptions {
+    pub max_iterations: u64,
+    pub tolerance: f64,
+    pub max_temperature_iterations: u64,
+    pub tm_threshold: f64,
+    pub minimum_temperature_k: f64,
+    pub maximum_temperature_k: f64,
+}
+
+// ACTIVITY_TEMPERATURE_RANGE_K, in K.
+pub const LOWEST_KELVIN: f64 = 273.16;
+
+pub const HIGHEST_KELVIN: f64 = 450.0;
+
+// COMPOSITION_SUM_TOLERANCE.
+const SUM_TOLERANCE: f64 = 1e-10;
 
 impl Temperature {
     pub fn new(v: f64) -> NewTemperature
@@ -76,12 +90,15 @@ impl Pressure {
     }
 }
 
-fn all_finite(x: &[f64; 8], n: usize) -> bool
-    requires { ⌜ n ≤ 8 ⌝ }
-    ensures { λ r. ⌜ r ≡ allTo (λ i. isFinite (at (now (x .entry)) i)) n ⌝ }
+// ---- tests of the first n entries
+
+// Neither infinite nor a NaN.
+pub fn all_finite(x: &[f64; 8], n: usize) -> bool
+    ensures { λ r. ⌜ r ≡ allFinite (at (now (x .entry))) (places n) ⌝ }
 {
+    let m = floats::places(n);
     let mut i = 0;
-    while i < n {
+    while i < m {
         if !floats::is_finite(x[i]) {
             return false;
         }
@@ -90,13 +107,29 @@ fn all_finite(x: &[f64; 8], n: usize) -> bool
     true
 }
 
-fn none_negative(x: &[f64; 8], n: usize) -> bool
-    requires { ⌜ n ≤ 8 ⌝ }
-    ensures { λ r. ⌜ r ≡ allTo (λ i. not (lt (at (now (x .entry)) i) 0f)) n ⌝ }
+// -0.0 is not negative, and a NaN passes here.
+pub fn none_negative(x: &[f64; 8], n: usize) -> bool
+    ensures { λ r. ⌜ r ≡ noneNegative (at (now (x .entry))) (places n) ⌝ }
 {
+    let m = floats::places(n);
     let mut i = 0;
-    while i < n {
+    while i < m {
         if x[i] < 0.0 {
+            return false;
+        }
+        i += 1;
+    }
+    true
+}
+
+// A NaN is not positive.
+pub fn all_positive(x: &[f64; 8], n: usize) -> bool
+    ensures { λ r. ⌜ r ≡ allPositive (at (now (x .entry))) (places n) ⌝ }
+{
+    let m = floats::places(n);
+    let mut i = 0;
+    while i < m {
+        if !(0.0 < x[i]) {
             return false;
         }
         i += 1;
@@ -122,16 +155,16 @@ pub fn sum(x: &[f64; 8], n: usize) -> f64
     total(x, floats::places(n))
 }
 
-fn sums_to_one(x: &[f64; 8], n: usize) -> bool
-    requires { ⌜ n ≤ 8 ⌝ }
-    ensures { λ r. ⌜ r ≡ sumsToOne (at (now (x .entry))) n ⌝ }
+// |sum - 1| within the tolerance.
+pub fn sums_to_one(x: &[f64; 8], n: usize) -> bool
+    ensures { λ r. ⌜ r ≡ sumsToOne (at (now (x .entry))) (places n) ⌝ }
 {
-    !(floats::abs(total(x, n) - 1.0) > 1e-10)
+    !(floats::abs(sum(x, n) - 1.0) > SUM_TOLERANCE)
 }
 
-fn check_fractions(x: &[f64; 8], n: usize) -> Verdict
-    requires { ⌜ n ≤ 8 ⌝ }
-    ensures { λ r. ⌜ r ≡ verdictOf (withFractions (at (now (x .entry))) n (ok n)) ⌝ }
+// The first n mole fractions are finite (15), not negative (16) and sum to 1 within 1e-10 (18).
+pub fn with_fractions(x: &[f64; 8], n: usize) -> Verdict
+    ensures { λ r. ⌜ r ≡ verdictOf (withFractions (at (now (x .entry))) (places n) (ok (places n))) ⌝ }
 {
     if !all_finite(x, n) {
         return Verdict::Refused(15);
@@ -143,13 +176,6 @@ fn check_fractions(x: &[f64; 8], n: usize) -> Verdict
         return Verdict::Refused(18);
     }
     Verdict::Passed
-}
-
-// The first n mole fractions are finite (15), not negative (16) and sum to 1 within 1e-10 (18).
-pub fn with_fractions(x: &[f64; 8], n: usize) -> Verdict
-    ensures { λ r. ⌜ r ≡ verdictOf (withFractions (at (now (x .entry))) (places n) (ok (places n))) ⌝ }
-{
-    check_fractions(x, floats::places(n))
 }
 
 fn shares(x: &[f64; 8], n: usize) -> [f64; 8]

@@ -1,4 +1,3 @@
 -- Laws that callers of tp_flash cite, and those of its own proofs. Assumes nothing.
-pub mod Answers
 pub mod Counts
 mod Laws

@@ -1,5 +1,5 @@
--- The two-phase split at T and p: successive substitution of K_i = γ_i p_i^sat / p into Rachford-Rice, in the order of activity.rs, over an activity model E at T.
--- z is the feed, ps the vapor pressures, n the count of solvents. Assumes nothing.
+-- The two-phase split at T and p: successive substitution of K_i = γ_i p_i^sat / p into Rachford-Rice, in the order of activity.rs,
+-- over an activity model E at T. z is the feed, ps the vapor pressures, n the count of solvents. Assumes nothing.
 use Prim.Native.Nat.{ℕ, zero, suc}
 use mathlib.Core.Bool.{cond}
 use mathlib.Core.List.{List}
@@ -27,7 +27,8 @@ pub record Split : Type 0 where
 abbrev pub riceLimit : ℕ
 riceLimit = 200
 
--- K_i = exp(ln γ_i + ln p_i^sat - ln p) at positive z_i. Rachford-Rice is put the positive entries alone: at the others z is 0, and 1 stands for K, which no sum reads
+-- K_i = exp(ln γ_i + ln p_i^sat - ln p) at positive z_i. Rachford-Rice is put the positive entries alone: at the others z is 0, and 1 stands for K,
+-- which no sum reads
 unfoldable pub kValues : List Float → List Float → Float → List Float → ℕ → List Float
 kValues z ps p lg n = vec (λ i. cond (lt 0f (at z i)) (expOf (at lg i ⊕ lnOf (at ps i) ⊖ lnOf p)) 1f) n
 

@@ -1,21 +1,23 @@
-// Isothermal-isobaric gamma-phi flash (activity.rs): at most one liquid. Compositions are arrays of eight, of which the first n are read.
+// Isothermal-isobaric gamma-phi flash (activity.rs): at most one liquid. Compositions are arrays of eight, of which
+// the first n are read.
 ghost use mathlib.Core.Path.{_≡_};
 ghost use mathlib.Core.Bool.{cond};
 ghost use lib.Ieee.{lt};
 ghost use Rattle.floats.specs.Arithmetic.{_⊕_, _⊖_, 0f, 1f};
 ghost use Rattle.floats.specs.Small.{maxOf, absOf};
-ghost use Rattle.floats.specs.Vector.{at, places};
-ghost use Rattle.floats.specs.Outcome.{no};
+ghost use Rattle.floats.specs.Vector.{places};
+ghost use Rattle.floats.specs.Outcome.{ok, no};
 ghost use Rattle.numerics.specs.Numerics.{expOf, lnOf};
 ghost use Rattle.thermo_models.specs.Activity.{activityOn, activityOf};
 ghost use Rattle.thermo_models.specs.Domain.{pureLiquidsOf, temperatureInDomain};
-ghost use Rattle.liquid_stability.specs.Stability.{noTrial, stabilityAnswer};
 ghost use Rattle.tp_flash.specs.Split.{kValues, phaseOf, splitGap, balanceOf, turnAt, splitTurn, splitFrom};
-ghost use Rattle.tp_flash.specs.Answers.{noSplit, splitPoint, splitAnswer, noTurn, turnAnswer, splitIn, stopsAt, andFractions, phasesWith, dewPressureAnswer};
-ghost use Rattle.tp_flash.specs.Tp.{inside, nearEdge, stableLiquid, asLiquid, asVapor, asBoth, boundaryOf, fromSplit, splitFeed, betweenOf, dewOf, fromDew, phasesOf, tpFlash, flashAnswer};
+ghost use Rattle.tp_flash.specs.Answers.{splitAnswer, splitIn, splitTurnAnswer, fractionIn, stopsAt, trialsIn, dewPressureAnswer};
+ghost use Rattle.tp_flash.specs.Tp.{inside, nearEdge, dewOf, asVapor, bothPhases, asLiquid, asBoth, boundaryOf, fromSplit, splitFeed, betweenOf, fromDew, phasesOf, tpFlash, phasesWith, flashAnswer};
 use liquid_stability::LiquidStability;
 use liquid_stability::LiquidStabilityTrial;
 use rachford_rice::RachfordRiceOutcome;
+use thermo_models::Tabled;
+use thermo_types::ActivityOptions;
 use thermo_types::Pressure;
 use thermo_types::Temperature;
 use thermo_types::Verdict;
@@ -44,13 +46,6 @@ pub struct ActivityTpFlash {
     pub trials: [LiquidStabilityTrial; 8],
 }
 
-// Of ActivityOptions: tm_threshold, tolerance, max_iterations.
-struct FlashOptions {
-    threshold: f64,
-    tolerance: f64,
-    max_iterations: u64,
-}
-
 // Bubble and dew pressure of the feed, Pa.
 struct Saturated {
     bubble: f64,
@@ -60,9 +55,9 @@ struct Saturated {
 // A7-GAMMA-PHI is bit 0, A7-SPLIT-AT-SATURATION-BOUNDARY bit 1, A7-LIQUID-TPD-FINITE-TRIALS bit 2.
 const GAMMA_PHI: u64 = 1;
 
-const AT_BOUNDARY: u64 = 3;
+const AT_BOUNDARY: u64 = 1 + 2;
 
-const FINITE_TRIALS: u64 = 5;
+const FINITE_TRIALS: u64 = 1 + 4;
 
 // ---- the split at T and p
 
@@ -172,12 +167,12 @@ fn balance(beta: f64, x: &[f64; 8], y: &[f64; 8], z: &[f64; 8], n: usize) -> f64
     r
 }
 
-fn no_split(verdict: Verdict) -> SplitPoint
-    ensures { λ r. ⌜ r ≡ noSplit verdict ⌝ }
+fn no_split(number: u64) -> SplitPoint
+    ensures { λ r. ⌜ r ≡ splitAnswer (no number) ⌝ }
 {
     let z = [0.0; 8];
     SplitPoint {
-        verdict: verdict,
+        verdict: Verdict::Refused(number),
         vapor_fraction: 0.0,
         liquid: z,
         vapor: z,
@@ -186,10 +181,10 @@ fn no_split(verdict: Verdict) -> SplitPoint
     }
 }
 
-fn no_turn(verdict: Verdict) -> SplitTurn
-    ensures { λ r. ⌜ r ≡ noTurn verdict ⌝ }
+fn no_split_turn(number: u64) -> SplitTurn
+    ensures { λ r. ⌜ r ≡ splitTurnAnswer (no number) ⌝ }
 {
-    let point = no_split(verdict);
+    let point = no_split(number);
     let z = [0.0; 8];
     SplitTurn {
         point: point,
@@ -197,88 +192,82 @@ fn no_turn(verdict: Verdict) -> SplitTurn
     }
 }
 
-fn split_point(beta: f64, x: &[f64; 8], y: &[f64; 8], residual: f64, iteration: u64) -> SplitPoint
-    ensures { λ r. ⌜ r ≡ splitPoint beta (now (x .entry)) (now (y .entry)) residual iteration ⌝ }
-{
-    let liquid = *x;
-    let vapor = *y;
-    SplitPoint {
-        verdict: Verdict::Passed,
-        vapor_fraction: beta,
-        liquid: liquid,
-        vapor: vapor,
-        residual: residual,
-        iterations: iteration,
-    }
-}
-
 // The phases x and y of a solution of Rachford-Rice: ln γ at x, and the gap (25).
 fn turn_at(
     table: &[f64; 512],
-    alphas: Verdict,
-    n: usize,
-    t: Temperature,
+    at: Tabled,
     z: &[f64; 8],
     p: Pressure,
     ps: &[f64; 8],
     beta: f64,
-    x: &[f64; 8],
-    y: &[f64; 8],
+    x: [f64; 8],
+    y: [f64; 8],
     iteration: u64,
 ) -> SplitTurn
-    ensures { λ r. ⌜ r ≡ turnAnswer (turnAt (activityOn (now (table .entry)) alphas (places n) (t .0)) (now (ps .entry)) (places n) (p .0) (now (z .entry)) beta (now (x .entry)) (now (y .entry)) iteration) ⌝ }
+    ensures { λ r. ⌜ r ≡ splitTurnAnswer (turnAt (activityOn (now (table .entry)) at) (now (ps .entry)) (places (at .n)) (p .0) (now (z .entry)) beta x y iteration) ⌝ }
 {
     let mut lg = [0.0; 8];
     let mut sl = [0.0; 8];
-    let verdict = thermo_models::activity(table, alphas, n, t, x, &mut lg, &mut sl);
-    match verdict {
-        Verdict::Refused(number) => no_turn(Verdict::Refused(number)),
-        Verdict::Passed => {
-            let residual = split_gap(z, &lg, ps, p, x, y, n);
-            if !floats::is_finite(residual) {
-                return no_turn(Verdict::Refused(25));
-            }
-            let point = split_point(beta, x, y, residual, iteration);
-            SplitTurn {
-                point: point,
-                lg: lg,
-            }
-        }
+    let verdict = thermo_models::activity(table, at, &x, &mut lg, &mut sl);
+    if let Verdict::Refused(number) = verdict {
+        return no_split_turn(number);
+    }
+    let residual = split_gap(z, &lg, ps, p, &x, &y, at.n);
+    if !floats::is_finite(residual) {
+        return no_split_turn(25);
+    }
+    let point = SplitPoint {
+        verdict: Verdict::Passed,
+        vapor_fraction: beta,
+        liquid: x,
+        vapor: y,
+        residual: residual,
+        iterations: iteration,
+    };
+    SplitTurn {
+        point: point,
+        lg: lg,
     }
 }
 
 // RACHFORD_RICE_MAX_ITERATIONS, whatever the options say.
 const RACHFORD_RICE_MAX_ITERATIONS: u64 = 200;
 
+fn vapor_fraction(outcome: RachfordRiceOutcome) -> f64
+    ensures { λ r. ⌜ r ≡ fractionIn outcome ⌝ }
+{
+    match outcome {
+        RachfordRiceOutcome::LiquidOnly => 0.0,
+        RachfordRiceOutcome::VaporOnly => 1.0,
+        RachfordRiceOutcome::TwoPhase(beta, _, _) => beta,
+    }
+}
+
 // One turn from ln γ.
 fn split_turn(
     table: &[f64; 512],
-    alphas: Verdict,
-    n: usize,
-    t: Temperature,
+    at: Tabled,
     z: &[f64; 8],
     p: Pressure,
     ps: &[f64; 8],
     lg: &[f64; 8],
     iteration: u64,
 ) -> SplitTurn
-    ensures { λ r. ⌜ r ≡ turnAnswer (splitTurn (activityOn (now (table .entry)) alphas (places n) (t .0)) (now (ps .entry)) (places n) (p .0) (now (z .entry)) (now (lg .entry)) iteration) ⌝ }
+    ensures { λ r. ⌜ r ≡ splitTurnAnswer (splitTurn (activityOn (now (table .entry)) at) (now (ps .entry)) (places (at .n)) (p .0) (now (z .entry)) (now (lg .entry)) iteration) ⌝ }
 {
-    let k = k_values(z, ps, p, lg, n);
-    let rr = rachford_rice::rachford_rice_negative(z, &k, n, RACHFORD_RICE_MAX_ITERATIONS);
+    let k = k_values(z, ps, p, lg, at.n);
+    let rr = rachford_rice::rachford_rice_negative(z, &k, at.n, RACHFORD_RICE_MAX_ITERATIONS);
     let verdict = rr.verdict;
-    let outcome = rr.outcome;
-    match outcome {
-        RachfordRiceOutcome::TwoPhase(beta, _, _) => {
-            let liquid = rr.liquid;
-            let vapor = rr.vapor;
-            let x = phase_of(z, &liquid, n);
-            let y = phase_of(z, &vapor, n);
-            turn_at(table, alphas, n, t, z, p, ps, beta, &x, &y, iteration)
-        }
-        RachfordRiceOutcome::LiquidOnly => no_turn(verdict),
-        RachfordRiceOutcome::VaporOnly => no_turn(verdict),
+    if let Verdict::Refused(number) = verdict {
+        return no_split_turn(number);
     }
+    let outcome = rr.outcome;
+    let beta = vapor_fraction(outcome);
+    let liquid = rr.liquid;
+    let vapor = rr.vapor;
+    let x = phase_of(z, &liquid, at.n);
+    let y = phase_of(z, &vapor, at.n);
+    turn_at(table, at, z, p, ps, beta, x, y, iteration)
 }
 
 // The iteration ends at a refusal, or where the gap is within the tolerance.
@@ -294,61 +283,48 @@ fn stops_at(verdict: Verdict, residual: f64, tolerance: f64) -> bool
 // Successive substitution from ln γ of the feed, `start`; 27 where the turns are used up.
 fn split_from(
     table: &[f64; 512],
-    alphas: Verdict,
-    n: usize,
-    t: Temperature,
+    at: Tabled,
+    o: ActivityOptions,
     z: &[f64; 8],
     p: Pressure,
     ps: &[f64; 8],
     start: &[f64; 8],
-    tolerance: f64,
-    max_iterations: u64,
 ) -> SplitPoint
-    ensures { λ r. ⌜ r ≡ splitAnswer (splitFrom (activityOn (now (table .entry)) alphas (places n) (t .0)) (now (ps .entry)) (places n) (p .0) (now (z .entry)) tolerance «max_iterations» 0 (now (start .entry))) ⌝ }
+    ensures { λ r. ⌜ r ≡ splitAnswer (splitFrom (activityOn (now (table .entry)) at) (now (ps .entry)) (places (at .n)) (p .0) (now (z .entry)) (o .tolerance) (o .«max_iterations») 0 (now (start .entry))) ⌝ }
 {
     let mut lg = *start;
-    for iteration in 1..=max_iterations {
-        let turn = split_turn(table, alphas, n, t, z, p, ps, &lg, iteration);
+    let mut done = 0;
+    while done < o.max_iterations {
+        let turn = split_turn(table, at, z, p, ps, &lg, done + 1);
         let point = turn.point;
         let verdict = point.verdict;
-        if stops_at(verdict, point.residual, tolerance) {
+        if stops_at(verdict, point.residual, o.tolerance) {
             return point;
         }
         let next = turn.lg;
         lg = next;
+        done += 1;
     }
-    no_split(Verdict::Refused(27))
+    no_split(27)
 }
 
 // ---- the phases of the feed
 
-fn no_trial() -> LiquidStabilityTrial
-    ensures { λ r. ⌜ r ≡ noTrial ⌝ }
-{
-    let z = [0.0; 8];
-    LiquidStabilityTrial {
-        component: 0,
-        distance: 0.0,
-        composition: z,
-        iterations: 0,
-        trivial: false,
-    }
-}
-
-// Phases with neither compositions nor trials yet.
+// Neither compositions nor trials yet.
 fn phases_with(
+    verdict: Verdict,
     phases: FlashPhases,
     saturated: Saturated,
     vapor_fraction: f64,
     notes: u64,
 ) -> ActivityTpFlash
-    ensures { λ r. ⌜ r ≡ phasesWith phases saturated «vapor_fraction» notes ⌝ }
+    ensures { λ r. ⌜ r ≡ phasesWith verdict phases saturated «vapor_fraction» notes ⌝ }
 {
     let z = [0.0; 8];
-    let trial = no_trial();
+    let trial = liquid_stability::no_trial();
     let trials = [trial; 8];
     ActivityTpFlash {
-        verdict: Verdict::Passed,
+        verdict: verdict,
         phases: phases,
         bubble: saturated.bubble,
         dew: saturated.dew,
@@ -368,48 +344,11 @@ fn phases_with(
 fn no_flash(number: u64) -> ActivityTpFlash
     ensures { λ r. ⌜ r ≡ flashAnswer (no number) ⌝ }
 {
-    let z = [0.0; 8];
-    let trial = no_trial();
-    let trials = [trial; 8];
-    ActivityTpFlash {
-        verdict: Verdict::Refused(number),
-        phases: FlashPhases::Liquid,
+    let none = Saturated {
         bubble: 0.0,
         dew: 0.0,
-        iterations: 0,
-        residual: 0.0,
-        balance: 0.0,
-        vapor_fraction: 0.0,
-        notes: 0,
-        liquid: z,
-        vapor: z,
-        tested: false,
-        count: 0,
-        trials: trials,
-    }
-}
-
-// A verdict, then that of x as mole fractions.
-fn and_fractions(verdict: Verdict, x: &[f64; 8], n: usize) -> Verdict
-    ensures { λ r. ⌜ r ≡ andFractions verdict (now (x .entry)) (places n) ⌝ }
-{
-    match verdict {
-        Verdict::Refused(number) => Verdict::Refused(number),
-        Verdict::Passed => thermo_types::with_fractions(x, n),
-    }
-}
-
-fn no_stability(number: u64) -> LiquidStability
-    ensures { λ r. ⌜ r ≡ stabilityAnswer (no number) ⌝ }
-{
-    let trial = no_trial();
-    let trials = [trial; 8];
-    LiquidStability {
-        verdict: Verdict::Refused(number),
-        stable: false,
-        count: 0,
-        trials: trials,
-    }
+    };
+    phases_with(Verdict::Refused(number), FlashPhases::Liquid, none, 0.0, 0)
 }
 
 // The feed as one vapor: its fractions.
@@ -417,111 +356,109 @@ fn as_vapor(n: usize, z: &[f64; 8], saturated: Saturated, notes: u64) -> Activit
     ensures { λ r. ⌜ r ≡ flashAnswer (asVapor (places n) (now (z .entry)) (saturated .bubble) (saturated .dew) notes) ⌝ }
 {
     let verdict = thermo_types::with_fractions(z, n);
-    match verdict {
-        Verdict::Refused(number) => no_flash(number),
-        Verdict::Passed => {
-            let mut flash = phases_with(FlashPhases::Vapor, saturated, 1.0, notes);
-            let feed = *z;
-            flash.vapor = feed;
-            flash
-        }
+    if let Verdict::Refused(number) = verdict {
+        return no_flash(number);
     }
-}
-
-// The trials of the liquid x: 29 where they find a split.
-fn require_stable_liquid(
-    table: &[f64; 512],
-    alphas: Verdict,
-    n: usize,
-    t: Temperature,
-    options: FlashOptions,
-    x: &[f64; 8],
-) -> LiquidStability
-    ensures { λ r. ⌜ r ≡ stabilityAnswer (stableLiquid (activityOn (now (table .entry)) alphas (places n) (t .0)) (places n) (options .threshold) (options .«max_iterations») (now (x .entry))) ⌝ }
-{
-    let s = liquid_stability::liquid_stability(
-        table,
-        alphas,
-        n,
-        t,
-        x,
-        options.threshold,
-        options.max_iterations,
-    );
-    let verdict = s.verdict;
-    match verdict {
-        Verdict::Refused(_) => s,
-        Verdict::Passed => { if s.stable { s } else { no_stability(29) } }
-    }
+    let mut flash = phases_with(Verdict::Passed, FlashPhases::Vapor, saturated, 1.0, notes);
+    let feed = *z;
+    flash.vapor = feed;
+    flash
 }
 
 // The feed as one liquid: its trials (29), then its fractions.
 fn as_liquid(
     table: &[f64; 512],
-    alphas: Verdict,
-    n: usize,
-    t: Temperature,
-    options: FlashOptions,
+    at: Tabled,
+    o: ActivityOptions,
     z: &[f64; 8],
     saturated: Saturated,
     notes: u64,
 ) -> ActivityTpFlash
-    ensures { λ r. ⌜ r ≡ flashAnswer (asLiquid (activityOn (now (table .entry)) alphas (places n) (t .0)) (places n) (options .threshold) (options .«max_iterations») (now (z .entry)) (saturated .bubble) (saturated .dew) notes) ⌝ }
+    ensures { λ r. ⌜ r ≡ flashAnswer (asLiquid (activityOn (now (table .entry)) at) (places (at .n)) o (now (z .entry)) (saturated .bubble) (saturated .dew) notes) ⌝ }
 {
-    let stability = require_stable_liquid(table, alphas, n, t, options, z);
+    let stability = liquid_stability::liquid_stability(table, at, o, z);
     let tested = stability.verdict;
-    let verdict = and_fractions(tested, z, n);
-    match verdict {
-        Verdict::Refused(number) => no_flash(number),
-        Verdict::Passed => {
-            let mut flash = phases_with(FlashPhases::Liquid, saturated, 0.0, notes);
-            let feed = *z;
-            flash.liquid = feed;
-            flash.tested = true;
-            flash.count = stability.count;
-            let trials = stability.trials;
-            flash.trials = trials;
-            flash
-        }
+    if let Verdict::Refused(number) = tested {
+        return no_flash(number);
     }
+    if !stability.stable {
+        return no_flash(29);
+    }
+    let verdict = thermo_types::with_fractions(z, at.n);
+    if let Verdict::Refused(number) = verdict {
+        return no_flash(number);
+    }
+    let mut flash = phases_with(Verdict::Passed, FlashPhases::Liquid, saturated, 0.0, notes);
+    let feed = *z;
+    flash.liquid = feed;
+    flash.tested = true;
+    flash.count = stability.count;
+    let trials = stability.trials;
+    flash.trials = trials;
+    flash
+}
+
+fn both_phases(
+    saturated: Saturated,
+    split: SplitPoint,
+    balance: f64,
+    stability: LiquidStability,
+) -> ActivityTpFlash
+    ensures { λ r. ⌜ r ≡ flashAnswer (ok (bothPhases (saturated .bubble) (saturated .dew) (splitIn split) balance (trialsIn stability))) ⌝ }
+{
+    let beta = split.vapor_fraction;
+    let mut flash = phases_with(
+        Verdict::Passed,
+        FlashPhases::Both,
+        saturated,
+        beta,
+        FINITE_TRIALS,
+    );
+    flash.iterations = split.iterations;
+    flash.residual = split.residual;
+    flash.balance = balance;
+    let x = split.liquid;
+    flash.liquid = x;
+    let y = split.vapor;
+    flash.vapor = y;
+    flash.tested = true;
+    flash.count = stability.count;
+    let trials = stability.trials;
+    flash.trials = trials;
+    flash
 }
 
 // Both phases: the trials of the liquid (29), then the fractions of the vapor and of the liquid.
 fn as_both(
     table: &[f64; 512],
-    alphas: Verdict,
-    n: usize,
-    t: Temperature,
-    options: FlashOptions,
+    at: Tabled,
+    o: ActivityOptions,
     z: &[f64; 8],
     saturated: Saturated,
     split: SplitPoint,
 ) -> ActivityTpFlash
-    ensures { λ r. ⌜ r ≡ flashAnswer (asBoth (activityOn (now (table .entry)) alphas (places n) (t .0)) (places n) (options .threshold) (options .«max_iterations») (now (z .entry)) (saturated .bubble) (saturated .dew) (splitIn split)) ⌝ }
+    ensures { λ r. ⌜ r ≡ flashAnswer (asBoth (activityOn (now (table .entry)) at) (places (at .n)) o (now (z .entry)) (saturated .bubble) (saturated .dew) (splitIn split)) ⌝ }
 {
     let x = split.liquid;
     let y = split.vapor;
-    let beta = split.vapor_fraction;
-    let stability = require_stable_liquid(table, alphas, n, t, options, &x);
+    let stability = liquid_stability::liquid_stability(table, at, o, &x);
     let tested = stability.verdict;
-    let passed = and_fractions(tested, &y, n);
-    let verdict = and_fractions(passed, &x, n);
-    match verdict {
-        Verdict::Refused(number) => no_flash(number),
-        Verdict::Passed => {
-            let mut flash = phases_with(FlashPhases::Both, saturated, beta, FINITE_TRIALS);
-            flash.iterations = split.iterations;
-            flash.residual = split.residual;
-            flash.balance = balance(beta, &x, &y, z, n);
-            flash.liquid = x;
-            flash.vapor = y;
-            flash.tested = true;
-            flash.count = stability.count;
-            let trials = stability.trials;
-            flash.trials = trials;
-            flash
-        }
+    if let Verdict::Refused(number) = tested {
+        return no_flash(number);
     }
+    if !stability.stable {
+        return no_flash(29);
+    }
+    let vapor = thermo_types::with_fractions(&y, at.n);
+    if let Verdict::Refused(number) = vapor {
+        return no_flash(number);
+    }
+    let liquid = thermo_types::with_fractions(&x, at.n);
+    if let Verdict::Refused(number) = liquid {
+        return no_flash(number);
+    }
+    let error = balance(split.vapor_fraction, &x, &y, z, at.n);
+    both_phases(saturated, split, error, stability)
 }
 
 // A vapor fraction inside (0, 1).
@@ -531,53 +468,51 @@ fn inside(beta: f64) -> bool
     (beta > 0.0) & (beta < 1.0)
 }
 
-// |min(β, 1 - β)| within SATURATION_BETA_ROUNDOFF, 1e-10.
+const SATURATION_BETA_ROUNDOFF: f64 = 1e-10;
+
+// At 0 or at 1 but for rounding.
 fn near_edge(beta: f64) -> bool
     ensures { λ r. ⌜ r ≡ nearEdge beta ⌝ }
 {
-    floats::abs(floats::min(beta, 1.0 - beta)) <= 1e-10
+    floats::abs(floats::min(beta, 1.0 - beta)) <= SATURATION_BETA_ROUNDOFF
 }
 
 // The saturated single phase of a split at a boundary.
 fn at_boundary(
     table: &[f64; 512],
-    alphas: Verdict,
-    n: usize,
-    t: Temperature,
-    options: FlashOptions,
+    at: Tabled,
+    o: ActivityOptions,
     z: &[f64; 8],
     saturated: Saturated,
     beta: f64,
 ) -> ActivityTpFlash
-    ensures { λ r. ⌜ r ≡ flashAnswer (boundaryOf (activityOn (now (table .entry)) alphas (places n) (t .0)) (places n) (options .threshold) (options .«max_iterations») (now (z .entry)) (saturated .bubble) (saturated .dew) beta) ⌝ }
+    ensures { λ r. ⌜ r ≡ flashAnswer (boundaryOf (activityOn (now (table .entry)) at) (places (at .n)) o (now (z .entry)) (saturated .bubble) (saturated .dew) beta) ⌝ }
 {
     if beta >= 1.0 {
-        as_vapor(n, z, saturated, AT_BOUNDARY)
+        as_vapor(at.n, z, saturated, AT_BOUNDARY)
     } else {
-        as_liquid(table, alphas, n, t, options, z, saturated, AT_BOUNDARY)
+        as_liquid(table, at, o, z, saturated, AT_BOUNDARY)
     }
 }
 
 // A converged split: both phases, or the saturated single phase at a boundary; else 30.
 fn from_split(
     table: &[f64; 512],
-    alphas: Verdict,
-    n: usize,
-    t: Temperature,
-    options: FlashOptions,
+    at: Tabled,
+    o: ActivityOptions,
     z: &[f64; 8],
     saturated: Saturated,
     split: SplitPoint,
 ) -> ActivityTpFlash
-    ensures { λ r. ⌜ r ≡ flashAnswer (fromSplit (activityOn (now (table .entry)) alphas (places n) (t .0)) (places n) (options .threshold) (options .«max_iterations») (now (z .entry)) (saturated .bubble) (saturated .dew) (splitIn split)) ⌝ }
+    ensures { λ r. ⌜ r ≡ flashAnswer (fromSplit (activityOn (now (table .entry)) at) (places (at .n)) o (now (z .entry)) (saturated .bubble) (saturated .dew) (splitIn split)) ⌝ }
 {
     let beta = split.vapor_fraction;
     let within = inside(beta);
     if !within & near_edge(beta) {
-        return at_boundary(table, alphas, n, t, options, z, saturated, beta);
+        return at_boundary(table, at, o, z, saturated, beta);
     }
     if within {
-        as_both(table, alphas, n, t, options, z, saturated, split)
+        as_both(table, at, o, z, saturated, split)
     } else {
         no_flash(30)
     }
@@ -586,30 +521,26 @@ fn from_split(
 // Between dew and bubble: the split from ln γ of the feed.
 fn split_feed(
     table: &[f64; 512],
-    alphas: Verdict,
-    n: usize,
-    t: Temperature,
-    options: FlashOptions,
+    at: Tabled,
+    o: ActivityOptions,
     z: &[f64; 8],
     p: Pressure,
     ps: &[f64; 8],
     saturated: Saturated,
 ) -> ActivityTpFlash
-    ensures { λ r. ⌜ r ≡ flashAnswer (splitFeed (activityOn (now (table .entry)) alphas (places n) (t .0)) (places n) (options .threshold) (options .tolerance) (options .«max_iterations») (now (z .entry)) (p .0) (now (ps .entry)) (saturated .bubble) (saturated .dew)) ⌝ }
+    ensures { λ r. ⌜ r ≡ flashAnswer (splitFeed (activityOn (now (table .entry)) at) (places (at .n)) o (now (z .entry)) (p .0) (now (ps .entry)) (saturated .bubble) (saturated .dew)) ⌝ }
 {
     let mut lg = [0.0; 8];
     let mut sl = [0.0; 8];
-    let feed = thermo_models::activity(table, alphas, n, t, z, &mut lg, &mut sl);
+    let feed = thermo_models::activity(table, at, z, &mut lg, &mut sl);
     match feed {
         Verdict::Refused(number) => no_flash(number),
         Verdict::Passed => {
-            let tolerance = options.tolerance;
-            let limit = options.max_iterations;
-            let split = split_from(table, alphas, n, t, z, p, ps, &lg, tolerance, limit);
+            let split = split_from(table, at, o, z, p, ps, &lg);
             let verdict = split.verdict;
             match verdict {
                 Verdict::Refused(number) => no_flash(number),
-                Verdict::Passed => from_split(table, alphas, n, t, options, z, saturated, split),
+                Verdict::Passed => from_split(table, at, o, z, saturated, split),
             }
         }
     }
@@ -618,27 +549,25 @@ fn split_feed(
 // p ≥ bubble is liquid, then p ≤ dew is vapor, else the split.
 fn between(
     table: &[f64; 512],
-    alphas: Verdict,
-    n: usize,
-    t: Temperature,
-    options: FlashOptions,
+    at: Tabled,
+    o: ActivityOptions,
     z: &[f64; 8],
     p: Pressure,
     ps: &[f64; 8],
     saturated: Saturated,
 ) -> ActivityTpFlash
-    ensures { λ r. ⌜ r ≡ flashAnswer (betweenOf (activityOn (now (table .entry)) alphas (places n) (t .0)) (places n) (options .threshold) (options .tolerance) (options .«max_iterations») (now (z .entry)) (p .0) (now (ps .entry)) (saturated .bubble) (saturated .dew)) ⌝ }
+    ensures { λ r. ⌜ r ≡ flashAnswer (betweenOf (activityOn (now (table .entry)) at) (places (at .n)) o (now (z .entry)) (p .0) (now (ps .entry)) (saturated .bubble) (saturated .dew)) ⌝ }
 {
     let pressure = p.value();
     let bubble = saturated.bubble;
     let dew = saturated.dew;
     if pressure >= bubble {
-        return as_liquid(table, alphas, n, t, options, z, saturated, GAMMA_PHI);
+        return as_liquid(table, at, o, z, saturated, GAMMA_PHI);
     }
     if pressure <= dew {
-        return as_vapor(n, z, saturated, GAMMA_PHI);
+        return as_vapor(at.n, z, saturated, GAMMA_PHI);
     }
-    split_feed(table, alphas, n, t, options, z, p, ps, saturated)
+    split_feed(table, at, o, z, p, ps, saturated)
 }
 
 // Of a dew point, or its refusal.
@@ -650,32 +579,21 @@ struct DewPressure {
 // With one solvent present it is the bubble pressure.
 fn dew_pressure(
     table: &[f64; 512],
-    alphas: Verdict,
-    n: usize,
-    t: Temperature,
-    options: FlashOptions,
+    at: Tabled,
+    o: ActivityOptions,
     z: &[f64; 8],
     ps: &[f64; 8],
     bubble: f64,
 ) -> DewPressure
-    ensures { λ r. ⌜ r ≡ dewPressureAnswer (dewOf (activityOn (now (table .entry)) alphas (places n) (t .0)) (places n) (options .tolerance) (options .«max_iterations») (now (z .entry)) (now (ps .entry)) bubble) ⌝ }
+    ensures { λ r. ⌜ r ≡ dewPressureAnswer (dewOf (activityOn (now (table .entry)) at) (places (at .n)) o (now (z .entry)) (now (ps .entry)) bubble) ⌝ }
 {
-    if liquid_stability::present_count(z, n) == 1 {
+    if liquid_stability::present_count(z, at.n) == 1 {
         return DewPressure {
             verdict: Verdict::Passed,
             value: bubble,
         };
     }
-    let d = saturation::dew_at(
-        table,
-        alphas,
-        n,
-        t,
-        z,
-        ps,
-        options.tolerance,
-        options.max_iterations,
-    );
+    let d = saturation::dew_at(table, at, z, ps, o);
     let verdict = d.verdict;
     DewPressure {
         verdict: verdict,
@@ -686,18 +604,16 @@ fn dew_pressure(
 // The dew pressure, then the phases.
 fn from_dew(
     table: &[f64; 512],
-    alphas: Verdict,
-    n: usize,
-    t: Temperature,
-    options: FlashOptions,
+    at: Tabled,
+    o: ActivityOptions,
     z: &[f64; 8],
     p: Pressure,
     ps: &[f64; 8],
     bubble: f64,
 ) -> ActivityTpFlash
-    ensures { λ r. ⌜ r ≡ flashAnswer (fromDew (activityOn (now (table .entry)) alphas (places n) (t .0)) (places n) (options .threshold) (options .tolerance) (options .«max_iterations») (now (z .entry)) (p .0) (now (ps .entry)) bubble) ⌝ }
+    ensures { λ r. ⌜ r ≡ flashAnswer (fromDew (activityOn (now (table .entry)) at) (places (at .n)) o (now (z .entry)) (p .0) (now (ps .entry)) bubble) ⌝ }
 {
-    let d = dew_pressure(table, alphas, n, t, options, z, ps, bubble);
+    let d = dew_pressure(table, at, o, z, ps, bubble);
     let verdict = d.verdict;
     match verdict {
         Verdict::Refused(number) => no_flash(number),
@@ -706,7 +622,7 @@ fn from_dew(
                 bubble: bubble,
                 dew: d.value,
             };
-            between(table, alphas, n, t, options, z, p, ps, saturated)
+            between(table, at, o, z, p, ps, saturated)
         }
     }
 }
@@ -714,62 +630,52 @@ fn from_dew(
 // Bubble and dew both, then the phases.
 fn from_bubble(
     table: &[f64; 512],
-    alphas: Verdict,
-    n: usize,
-    t: Temperature,
-    options: FlashOptions,
+    at: Tabled,
+    o: ActivityOptions,
     z: &[f64; 8],
     p: Pressure,
     ps: &[f64; 8],
 ) -> ActivityTpFlash
-    ensures { λ r. ⌜ r ≡ flashAnswer (phasesOf (activityOn (now (table .entry)) alphas (places n) (t .0)) (places n) (options .threshold) (options .tolerance) (options .«max_iterations») (now (z .entry)) (p .0) (now (ps .entry))) ⌝ }
+    ensures { λ r. ⌜ r ≡ flashAnswer (phasesOf (activityOn (now (table .entry)) at) (places (at .n)) o (now (z .entry)) (p .0) (now (ps .entry))) ⌝ }
 {
-    let b = saturation::bubble_at(table, alphas, n, t, z, ps);
+    let b = saturation::bubble_at(table, at, z, ps);
     let verdict = b.verdict;
     match verdict {
         Verdict::Refused(number) => no_flash(number),
-        Verdict::Passed => from_dew(table, alphas, n, t, options, z, p, ps, b.pressure),
+        Verdict::Passed => from_dew(table, at, o, z, p, ps, b.pressure),
     }
 }
 
 // The tables of the temperature, made once, then the phases.
 fn phases_of(
-    tau: &[f64; 256],
-    alpha: &[f64; 128],
+    parameters: &[f64; 384],
     n: usize,
     t: Temperature,
-    options: FlashOptions,
+    o: ActivityOptions,
     z: &[f64; 8],
     p: Pressure,
     ps: &[f64; 8],
 ) -> ActivityTpFlash
-    ensures { λ r. ⌜ r ≡ flashAnswer (phasesOf (activityOf (now (tau .entry)) (now (alpha .entry)) (places n) (t .0)) (places n) (options .threshold) (options .tolerance) (options .«max_iterations») (now (z .entry)) (p .0) (now (ps .entry))) ⌝ }
+    ensures { λ r. ⌜ r ≡ flashAnswer (phasesOf (activityOf (now (parameters .entry)) (places n) (t .0)) (places n) o (now (z .entry)) (p .0) (now (ps .entry))) ⌝ }
 {
     let mut table = [0.0; 512];
-    let alphas = thermo_models::tables(tau, alpha, n, t, &mut table);
-    from_bubble(&table, alphas, n, t, options, z, p, ps)
+    let at = thermo_models::tables(parameters, n, t, &mut table);
+    from_bubble(&table, at, o, z, p, ps)
 }
 
-// The flash of the feed z at t and p: 22, 23, 25 and what bubble, dew, split and trials refuse (15 to 18, 24, 25, 27 to 30).
+// The flash of the feed z at t and p: 22, 23, 25 and what bubble, dew, split and trials refuse (15 to 18, 24, 25,
+// 27 to 30).
 pub fn activity_tp_flash(
     book: &[u8],
-    tau: &[f64; 256],
-    alpha: &[f64; 128],
+    parameters: &[f64; 384],
     n: usize,
+    o: ActivityOptions,
     t: Temperature,
-    p: Pressure,
     z: &[f64; 8],
-    threshold: f64,
-    tolerance: f64,
-    max_iterations: u64,
+    p: Pressure,
 ) -> ActivityTpFlash
-    ensures { λ r. ⌜ r ≡ flashAnswer (tpFlash (activityOf (now (tau .entry)) (now (alpha .entry)) (places n)) (pureLiquidsOf (now (book .entry)) (places n)) (temperatureInDomain (now (book .entry)) (places n)) (places n) threshold tolerance «max_iterations» (t .0) (now (z .entry)) (p .0)) ⌝ }
+    ensures { λ r. ⌜ r ≡ flashAnswer (tpFlash (activityOf (now (parameters .entry)) (places n)) (pureLiquidsOf (now (book .entry)) (places n)) (temperatureInDomain (now (book .entry)) (places n)) (places n) o (t .0) (now (z .entry)) (p .0)) ⌝ }
 {
-    let options = FlashOptions {
-        threshold: threshold,
-        tolerance: tolerance,
-        max_iterations: max_iterations,
-    };
     if !thermo_models::check_temperature(book, n, t) {
         return no_flash(22);
     }
@@ -781,6 +687,6 @@ pub fn activity_tp_flash(
     let verdict = thermo_models::pure_liquids(book, n, t, &mut ps, &mut dps);
     match verdict {
         Verdict::Refused(number) => no_flash(number),
-        Verdict::Passed => phases_of(tau, alpha, n, t, options, z, p, &ps),
+        Verdict::Passed => phases_of(parameters, n, t, o, z, p, &ps),
     }
 }

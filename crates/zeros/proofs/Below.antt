@@ -2,18 +2,15 @@
 -- zero is such a value again, whatever the other operand is. Assumes nothing.
 use mathlib.Core.Path.{_≡_}
 use lib.Dec.{T}
-use lib.Ieee.{Float, binary64, neg, add, sub, mul, div, fits}
+use lib.Ieee.{Float, binary64, add, sub, mul, div, fits}
 use lib.Ieee.Scale.{finite}
 use Rattle.zeros.specs.Same.{plus0, _≈_}
 use Rattle.zeros.specs.Below.{Num, _⊑_, _⊑!_}
-use Rattle.zeros.proofs.Congruence.{same, ≈refl, ≈sym, ≈trans, add-≈, neg-≈, sub-≈, mul-≈, div-≈}
-use Rattle.zeros.proofs.Zero.{num-add-l, num-add-r, num-neg, num-sub-l, num-sub-r, num-mul-l, num-mul-r, num-div-l, num-div-r, num-finite, Zero, zero-≈, zero-add≡, zero-sub, zero-mul-l, zero-mul-r, zero-div, zero-of-≈, add-zero≈, Plain, plain-≈}
+use Rattle.zeros.proofs.Congruence.{same, ≈refl, ≈sym, ≈trans, add-≈, sub-≈, mul-≈, div-≈}
+use Rattle.zeros.proofs.Zero.{num-add-l, num-add-r, num-sub-l, num-sub-r, num-mul-l, num-mul-r, num-div-l, num-div-r, num-finite, Zero, zero-≈, zero-add≡, zero-sub, zero-mul-l, zero-mul-r, zero-div, zero-of-≈, add-zero≈, Plain, plain-≈}
 
 pub ⊑-of : {x y : Float} → x ≈ y → x ⊑ y
 ⊑-of p = record { at = λ h. p }
-
-pub ⊑-same : {x y : Float} → x ≡ y → x ⊑ y
-⊑-same p = ⊑-of (same p)
 
 pub ⊑-refl : (x : Float) → x ⊑ x
 ⊑-refl x = ⊑-of (≈refl x)
@@ -34,9 +31,6 @@ pub ⊑-plain : {x y : Float} → T (fits binary64 x) → T (fits binary64 y) �
 -- ---- the congruences
 pub ⊑-add : {x x' y y' : Float} → x ⊑ x' → y ⊑ y' → add binary64 x y ⊑ add binary64 x' y'
 ⊑-add {x} {x'} {y} {y'} p q = record { at = λ h. add-≈ (p .at (num-add-l binary64 x y h)) (q .at (num-add-r binary64 x y h)) }
-
-pub ⊑-neg : {x x' : Float} → x ⊑ x' → neg x ⊑ neg x'
-⊑-neg {x} p = record { at = λ h. neg-≈ (p .at (num-neg x h)) }
 
 pub ⊑-sub : {x x' y y' : Float} → x ⊑ x' → y ⊑ y' → sub binary64 x y ⊑ sub binary64 x' y'
 ⊑-sub {x} {x'} {y} {y'} p q = record { at = λ h. sub-≈ (p .at (num-sub-l binary64 x y h)) (q .at (num-sub-r binary64 x y h)) }

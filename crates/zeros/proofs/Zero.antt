@@ -366,21 +366,6 @@ zero-of-≈ x y r h = canon-zero y (subst Zero (r .is) (zero-canon x h))
 pub solid-≈ : (x y : Float) → (Zero x → ⊥) → x ≈ y → x ≡ y
 solid-≈ x y h r = sym (solid-canon x h) ∙ r .is ∙ solid-canon y (λ z. h (zero-of-≈ y x (≈sym r) z))
 
-pub num-of-≈ : (x y : Float) → x ≈ y → Num x → Num y
-unfolding canon
-num-of-≈ x y r h = back y (subst Num (r .is) (there x h))
-  where
-    there : (x : Float) → Num x → Num (canon x)
-    there nan h = h
-    there (inf s) h = tt
-    there (fin s zero e) h = tt
-    there (fin s (suc m) e) h = tt
-
-    back : (x : Float) → Num (canon x) → Num x
-    back nan h = h
-    back (inf s) h = tt
-    back (fin s m e) h = tt
-
 -- exactly: a value that fits and is not -0 keeps its value, sign and all, when a zero is added
 pub add-zero≡ : (x z : Float) → T (fits binary64 x) → T (fits binary64 z) → Plain x → Zero z → add binary64 x z ≡ x
 add-zero≡ x z p q h k = plain-≈ binary64 (add binary64 x z) x (add-fits binary64 x z) p (plain-add binary64 x z p q h) h (add-zero≈ x z p k)
@@ -397,9 +382,6 @@ finite-add-l f (inf s) (inf t) h = absurd (go (Bool·beq s t) h)
     go false h = h
 finite-add-l f (inf s) (fin t n d) h = h
 finite-add-l f (fin s m e) y h = tt
-
-pub finite-add-r : (f : Format) (x y : Float) → T (finite (add f x y)) → T (finite y)
-finite-add-r f x y h = finite-add-l f y x (subst (λ (z : Float). T (finite z)) (add-comm≡ f x y) h)
 
 pub finite-mul-l : (f : Format) (x y : Float) → T (finite (mul f x y)) → T (finite x)
 unfolding mul

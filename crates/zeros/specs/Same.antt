@@ -1,4 +1,4 @@
--- Floats up to the sign of zero, as document 01 compares them: equal, or +0 and -0. Assumes nothing.
+-- Floats up to the sign of zero, as docs/FORMAT.md compares them: equal, or +0 and -0. Assumes nothing.
 use Prim.Native.Nat.{zero, suc}
 use mathlib.Core.Path.{_≡_}
 use mathlib.Core.Bool.{false}

@@ -31,7 +31,7 @@ loop-less : tie.Need-loop-less Inv-loop μ-loop
 loop-less c = omega arith
 
 loop-again : tie.Need-loop-again Inv-loop μ-loop
-loop-again c = (omega arith, sum-turn _ _ (c .before .before .before .loop .inv .1) (c .before .short-word .ensures) (c .wrapping-add-u64 .ensures))
+loop-again c = (omega arith, search sum-turn)
 
 returns : tie.Need-returns Inv-loop μ-loop
 returns c = let e : c .before .loop .k ≡ 63 = omega arith in rw e at (c .before .loop .inv .1)

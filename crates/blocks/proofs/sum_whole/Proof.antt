@@ -35,7 +35,7 @@ loop-less c = omega arith
 
 loop-again : tie.Need-loop-again Inv-loop μ-loop
 unfolding word
-loop-again c = (omega arith, sum-turn _ _ (c .before .before .before .loop .inv .1) (c .before .word-from .ensures) (c .wrapping-add-u64 .ensures))
+loop-again c = (omega arith, search sum-turn)
 
 returns : tie.Need-returns Inv-loop μ-loop
 returns c = let e : c .before .loop .k ≡ 63 = omega arith in rw e at (c .before .loop .inv .1)

@@ -1,4 +1,4 @@
--- `book::cas_distinct` meets its contract. A scan: the invariant is that every index passed its test; a test that fails makes the whole false. Assumes nothing.
+-- `book::cas_distinct` meets its contract. A scan: so far every index passed its test; one that fails makes the whole false. Assumes nothing.
 use mathlib.Core.Bool.{true}
 use mathlib.Core.Path.{_≡_, refl, sym}
 use Prim.Native.Nat.{_≤_, _-_}

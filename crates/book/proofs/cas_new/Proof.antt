@@ -1,4 +1,4 @@
--- `book::cas_new` meets its contract. A scan: the invariant is that every index passed its test; a test that fails makes the whole false. Assumes nothing.
+-- `book::cas_new` meets its contract. A scan: so far every index passed its test; one that fails makes the whole false. Assumes nothing.
 use mathlib.Core.Bool.{true, not}
 use mathlib.Core.Path.{_≡_, refl, sym}
 use Prim.Native.Nat.{_≤_, _-_, _+_}
@@ -31,7 +31,8 @@ cas-requires-2 c κs = omega arith
 
 returns : tie.Need-returns Inv-loop μ-loop
 unfolding casNew
-returns c = sym (all-fails _ _ _ (c .before .before .loop-test .taken) (same (c .before .cas2 .ensures) (c .before .before .before .before .cas .ensures) (c .if1 .taken)))
+returns c = let turn = c .before .before in
+    sym (all-fails _ _ _ (turn .loop-test .taken) (same (c .before .cas2 .ensures) (turn .before .before .cas .ensures) (c .if1 .taken)))
 
 add-j : tie.Need-add-j Inv-loop μ-loop
 add-j c = omega arith
@@ -40,7 +41,8 @@ loop-less : tie.Need-loop-less Inv-loop μ-loop
 loop-less c = omega arith
 
 loop-again : tie.Need-loop-again Inv-loop μ-loop
-loop-again c = (omega arith, all-turn _ _ (c .before .before .before .loop .inv .1) (other (c .before .cas2 .ensures) (c .before .before .before .before .cas .ensures) (c .if1 .left)))
+loop-again c = let turn = c .before .before .before in
+    (omega arith, all-turn _ _ (turn .loop .inv .1) (other (c .before .cas2 .ensures) (turn .before .cas .ensures) (c .if1 .left)))
 
 returns-2 : tie.Need-returns-2 Inv-loop μ-loop
 unfolding casNew

@@ -1,4 +1,4 @@
--- `book::checks_right` meets its contract. A scan: the invariant is that every index passed its test; a test that fails makes the whole false. Assumes nothing.
+-- `book::checks_right` meets its contract. A scan: so far every index passed its test; one that fails makes the whole false. Assumes nothing.
 use mathlib.Core.Bool.{true}
 use mathlib.Core.Path.{_≡_, refl, sym}
 use Prim.Native.Nat.{_≤_, _-_}
@@ -12,10 +12,10 @@ use Rattle.book.proofs.checks_right.Statement.{statement}
 use Rattle.book.proofs.checks_right.Tie as tie
 
 abbrev Inv-loop : tie.InvT-loop
-Inv-loop book count k₀ k = (k ≤ count) × (allTo (λ i. checkRight (words book i)) k ≡ true)
+Inv-loop rule book count k₀ k = (k ≤ count) × (allTo (λ i. checkRight rule (words book i)) k ≡ true)
 
 abbrev μ-loop : tie.MeasureT-loop
-μ-loop book count k₀ k = count - k
+μ-loop rule book count k₀ k = count - k
 
 loop-holds : tie.Need-loop-holds Inv-loop μ-loop
 unfolding allTo
@@ -28,7 +28,9 @@ check-right-requires : tie.Need-check-right-requires Inv-loop μ-loop
 check-right-requires c κs = search needs
 
 returns : tie.Need-returns Inv-loop μ-loop
-returns c = sym (all-fails _ _ _ (c .before .before .before .loop-test .taken) (was-no (c .if1 .taken) (rw (c .before .before .block .ensures) at (c .before .check-right .ensures))))
+returns c = let block = c .before .before in
+    let seen = rw (block .block .ensures) at (c .before .check-right .ensures) in
+    sym (all-fails _ _ _ (block .before .loop-test .taken) (was-no (c .if1 .taken) seen))
 
 add-k : tie.Need-add-k Inv-loop μ-loop
 add-k c = omega arith
@@ -37,7 +39,9 @@ loop-less : tie.Need-loop-less Inv-loop μ-loop
 loop-less c = omega arith
 
 loop-again : tie.Need-loop-again Inv-loop μ-loop
-loop-again c = (omega arith, all-turn _ _ (c .before .before .before .before .loop .inv .1) (was-yes (c .if1 .left) (rw (c .before .before .block .ensures) at (c .before .check-right .ensures))))
+loop-again c = let block = c .before .before in
+    let seen = rw (block .block .ensures) at (c .before .check-right .ensures) in
+    (omega arith, all-turn _ _ (block .before .before .loop .inv .1) (was-yes (c .if1 .left) seen))
 
 returns-2 : tie.Need-returns-2 Inv-loop μ-loop
 returns-2 c = all-end _ _ _ (c .before .loop .inv .0) (c .loop-test .left) (c .before .loop .inv .1)

@@ -3,7 +3,7 @@ use native.Mathlib.Omega.{arith}
 use borrow.Author.Needs.{needs}
 use Rattle.floats.proofs.Folds.{was-no, was-yes}
 use Rattle.book.proofs.Laws.{head-few, count-no, count-yes, says-no, says-yes}
-use Rattle.book.specs.Book.{headOf}
+use Rattle.book.specs.Book.{headIn, headOf}
 use Rattle.book.proofs.open_head.Statement.{statement}
 use Rattle.book.proofs.open_head.Tie as tie
 
@@ -36,19 +36,25 @@ returns-2 c = let p = c .before .before .before in
     says-yes 3 _ (was-yes (p .if1 .left) (rw b at (p .before .head-right .ensures)))
     (says-no 3 _ (count-no (c .if2 .taken) (c .before .pair-count .ensures .0) (rw b at (c .before .before .word .ensures))))
 
+word-requires-2 : tie.Need-word-requires-2
+word-requires-2 c κs = search needs
+
 open-solvents-requires : tie.Need-open-solvents-requires
-open-solvents-requires c κs = let p = c .before .before .before in
+open-solvents-requires c κs = let q = c .before in
+    let p = q .before .before .before in
     let few = head-few _ (was-yes (p .if1 .left) (p .before .head-right .ensures)) in
-    let e = c .before .pair-count .ensures .0 in (omega (arith, few), omega (arith, e))
+    let e = q .before .pair-count .ensures .0 in (omega (arith, few), omega (arith, e))
 
 returns-3 : tie.Need-returns-3
-unfolding headOf
-returns-3 c = let p = c .before .before .before .before in
+unfolding headOf headIn
+returns-3 c = let q = c .before .before in
+    let p = q .before .before .before in
     let b = p .before .before .whole-block .ensures .0 in
-    let n = rw b at (c .before .before .before .word .ensures) in
+    let n = rw b at (q .before .before .word .ensures) in
+    let v = rw b at (c .before .word2 .ensures) in
     says-yes 3 _ (was-yes (p .if1 .left) (rw b at (p .before .head-right .ensures)))
-    (says-yes 3 _ (count-yes (c .before .if2 .left) (c .before .before .pair-count .ensures .0) n)
-    (rw n at (c .open-solvents .ensures)))
+    (says-yes 3 _ (count-yes (q .if2 .left) (q .before .pair-count .ensures .0) n)
+    (rw (n, v) at (c .open-solvents .ensures)))
 
 pub open-head-spec : {M : Type 1} → statement M
 open-head-spec =
@@ -62,5 +68,6 @@ open-head-spec =
     pair-count-requires
     add-if2-2
     returns-2
+    word-requires-2
     open-solvents-requires
     returns-3)

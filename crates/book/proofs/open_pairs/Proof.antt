@@ -1,5 +1,4 @@
 -- `book::open_pairs` meets its contract. Each return rewrites by the tests that led there: one law for a no, one for a yes. Assumes nothing.
-use mathlib.Core.Path.{refl}
 use borrow.Author.Needs.{needs}
 use Rattle.floats.proofs.Folds.{was-no, was-yes, all-done}
 use Rattle.book.proofs.Laws.{says-no, says-yes}
@@ -25,9 +24,7 @@ pairs-finite-requires c κs = search needs
 
 returns-2 : tie.Need-returns-2
 unfolding pairsOf
-returns-2 c = let p = c .before .before .before in
-    says-yes 7 _ (was-yes (p .if1 .left) (p .before .pairs-right .ensures))
-    (says-no 8 _ (was-no (c .if2 .taken) (all-done _ _ _ (c .before .before .pair-count .ensures .0) (c .before .pairs-finite .ensures))))
+returns-2 c = search (says-yes, says-no, was-yes, was-no, all-done)
 
 add-all-alphas-equal : tie.Need-add-all-alphas-equal
 add-all-alphas-equal c = search needs
@@ -37,20 +34,11 @@ all-alphas-equal-requires c κs = search needs
 
 returns-3 : tie.Need-returns-3
 unfolding pairsOf
-returns-3 c = let p = c .before .before .before .before .before in
-    let n = p .before .before .before .args .n in
-    let e = c .before .before .before .before .pair-count .ensures .0 in
-    says-yes 7 _ (was-yes (p .if1 .left) (p .before .pairs-right .ensures))
-    (says-yes 8 _ (was-yes (c .before .before .if2 .left) (all-done _ _ _ e (c .before .before .before .pairs-finite .ensures)))
-    (says-no 9 _ (was-no (c .if3 .taken) (all-done _ _ _ e (c .before .all-alphas-equal .ensures)))))
+returns-3 c = search (says-yes, says-no, was-yes, was-no, all-done)
 
 returns-4 : tie.Need-returns-4
 unfolding pairsOf openedOf
-returns-4 c = let p = c .before .before .before .before .before in
-    let e = c .before .before .before .before .pair-count .ensures .0 in
-    says-yes 7 _ (was-yes (p .if1 .left) (p .before .pairs-right .ensures))
-    (says-yes 8 _ (was-yes (c .before .before .if2 .left) (all-done _ _ _ e (c .before .before .before .pairs-finite .ensures)))
-    (says-yes 9 _ (was-yes (c .if3 .left) (all-done _ _ _ e (c .before .all-alphas-equal .ensures))) refl))
+returns-4 c = search (says-yes, was-yes, all-done)
 
 pub open-pairs-spec : {M : Type 1} → statement M
 open-pairs-spec =

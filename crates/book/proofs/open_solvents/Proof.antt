@@ -18,32 +18,21 @@ all-records-right-requires c κs = search needs
 
 returns-2 : tie.Need-returns-2
 unfolding solventsOf
-returns-2 c = let p = c .before .before in
-    says-yes 4 _ (was-yes (p .if1 .left) (p .before .solvents-right .ensures))
-    (says-no 5 _ (was-no (c .if2 .taken) (c .before .all-records-right .ensures)))
+returns-2 c = search (says-yes, says-no, was-yes, was-no)
 
 cas-distinct-requires : tie.Need-cas-distinct-requires
 cas-distinct-requires c κs = search needs
 
 returns-3 : tie.Need-returns-3
 unfolding solventsOf
-returns-3 c = let q = c .before .before in
-    let p = q .before .before in
-    says-yes 4 _ (was-yes (p .if1 .left) (p .before .solvents-right .ensures))
-    (says-yes 5 _ (was-yes (q .if2 .left) (q .before .all-records-right .ensures))
-    (says-no 6 _ (was-no (c .if3 .taken) (c .before .cas-distinct .ensures))))
+returns-3 c = search (says-yes, says-no, was-yes, was-no)
 
 open-pairs-requires : tie.Need-open-pairs-requires
 open-pairs-requires c κs = search needs
 
 returns-4 : tie.Need-returns-4
 unfolding solventsOf
-returns-4 c = let o = c .before in
-    let q = o .before .before in
-    let p = q .before .before in
-    says-yes 4 _ (was-yes (p .if1 .left) (p .before .solvents-right .ensures))
-    (says-yes 5 _ (was-yes (q .if2 .left) (q .before .all-records-right .ensures))
-    (says-yes 6 _ (was-yes (o .if3 .left) (o .before .cas-distinct .ensures)) (c .open-pairs .ensures)))
+returns-4 c = search (says-yes, was-yes)
 
 pub open-solvents-spec : {M : Type 1} → statement M
 open-solvents-spec =

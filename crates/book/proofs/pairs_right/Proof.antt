@@ -1,4 +1,4 @@
--- `book::pairs_right` meets its contract. A scan: the invariant is that every index passed its test; a test that fails makes the whole false. Assumes nothing.
+-- `book::pairs_right` meets its contract. A scan: so far every index passed its test; one that fails makes the whole false. Assumes nothing.
 use mathlib.Core.Bool.{true}
 use mathlib.Core.Path.{_≡_, refl, sym}
 use Prim.Native.Nat.{_≤_, _-_, _+_}
@@ -31,13 +31,17 @@ sub-count-2 : tie.Need-sub-count-2 Inv-loop μ-loop
 sub-count-2 c = omega arith
 
 row-right-requires : tie.Need-row-right-requires Inv-loop μ-loop
-row-right-requires c κs = let a = c .before .before .before .args in omega (arith, row-fits (a .n) (c .before .loop .i + 1) (omega arith) (omega arith), row-next (a .n) (c .before .loop .i))
+row-right-requires c κs = let a = c .before .before .before .args in
+    omega (arith, row-fits (a .n) (c .before .loop .i + 1) (omega arith) (omega arith), row-next (a .n) (c .before .loop .i))
 
 returns : tie.Need-returns Inv-loop μ-loop
-returns c = let q = c .before .before .before .loop .inv .2 in sym (all-fails _ _ _ (c .before .before .loop-test .taken) (was-no (c .if1 .taken) (rw q at (c .before .row-right .ensures))))
+returns c = let q = c .before .before .before .loop .inv .2 in
+    sym (all-fails _ _ _ (c .before .before .loop-test .taken) (was-no (c .if1 .taken) (rw q at (c .before .row-right .ensures))))
 
 add-from-2 : tie.Need-add-from-2 Inv-loop μ-loop
-add-from-2 c = let p = c .before .before .before in let a = p .before .before .args in omega (arith, row-fits (a .n) (p .loop .i + 1) (omega arith) (omega arith), row-next (a .n) (p .loop .i))
+add-from-2 c = let p = c .before .before .before in
+    let a = p .before .before .args in
+    omega (arith, row-fits (a .n) (p .loop .i + 1) (omega arith) (omega arith), row-next (a .n) (p .loop .i))
 
 add-i : tie.Need-add-i Inv-loop μ-loop
 add-i c = omega arith
@@ -47,7 +51,8 @@ loop-less c = omega arith
 
 loop-again : tie.Need-loop-again Inv-loop μ-loop
 loop-again c = let p = c .before .before .before in
-    (omega arith, all-turn _ _ (p .loop .inv .1) (was-yes (c .if1 .left) (rw (p .loop .inv .2) at (c .before .row-right .ensures))), rw (row-next, ← p .loop .inv .2))
+    let seen = rw (p .loop .inv .2) at (c .before .row-right .ensures) in
+    (omega arith, all-turn _ _ (p .loop .inv .1) (was-yes (c .if1 .left) seen), rw (row-next, ← p .loop .inv .2))
 
 returns-2 : tie.Need-returns-2 Inv-loop μ-loop
 returns-2 c = all-end _ _ _ (c .before .loop .inv .0) (c .loop-test .left) (c .before .loop .inv .1)

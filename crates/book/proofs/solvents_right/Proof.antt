@@ -1,4 +1,4 @@
--- `book::solvents_right` meets its contract. A scan: the invariant is that every index passed its test; a test that fails makes the whole false. Assumes nothing.
+-- `book::solvents_right` meets its contract. A scan: so far every index passed its test; one that fails makes the whole false. Assumes nothing.
 use mathlib.Core.Bool.{true}
 use mathlib.Core.Path.{_≡_, refl, sym}
 use Prim.Native.Nat.{_≤_, _-_, _+_}
@@ -31,7 +31,9 @@ solvent-right-requires : tie.Need-solvent-right-requires Inv-loop μ-loop
 solvent-right-requires c κs = search needs
 
 returns : tie.Need-returns Inv-loop μ-loop
-returns c = sym (all-fails _ _ _ (c .before .before .before .loop-test .taken) (was-no (c .if1 .taken) (rw (c .before .before .whole-block .ensures .0) at (c .before .solvent-right .ensures))))
+returns c = let block = c .before .before in
+    let seen = rw (block .whole-block .ensures .0) at (c .before .solvent-right .ensures) in
+    sym (all-fails _ _ _ (block .before .loop-test .taken) (was-no (c .if1 .taken) seen))
 
 add-i : tie.Need-add-i Inv-loop μ-loop
 add-i c = omega arith
@@ -40,7 +42,9 @@ loop-less : tie.Need-loop-less Inv-loop μ-loop
 loop-less c = omega arith
 
 loop-again : tie.Need-loop-again Inv-loop μ-loop
-loop-again c = (omega arith, all-turn _ _ (c .before .before .before .before .loop .inv .1) (was-yes (c .if1 .left) (rw (c .before .before .whole-block .ensures .0) at (c .before .solvent-right .ensures))))
+loop-again c = let block = c .before .before in
+    let seen = rw (block .whole-block .ensures .0) at (c .before .solvent-right .ensures) in
+    (omega arith, all-turn _ _ (block .before .before .loop .inv .1) (was-yes (c .if1 .left) seen))
 
 returns-2 : tie.Need-returns-2 Inv-loop μ-loop
 returns-2 c = all-end _ _ _ (c .before .loop .inv .0) (c .loop-test .left) (c .before .loop .inv .1)

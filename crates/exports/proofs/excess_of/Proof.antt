@@ -1,7 +1,8 @@
 -- `exports::excess_of` meets its contract: the temperature's two answers. Assumes nothing.
 use borrow.Author.Needs.{needs}
 use Rattle.floats.proofs.Outcomes.{bind-yes, bind-no}
-use Rattle.exports.proofs.Ways.{temperature-ok, temperature-no, excess-as, excess-none}
+use Rattle.sheet.proofs.Replies.{kelvin-ok, kelvin-no}
+use Rattle.exports.proofs.Ways.{excess-as, excess-none}
 use Rattle.exports.specs.Models.{excessFrom}
 use Rattle.exports.proofs.excess_of.Statement.{statement}
 use Rattle.exports.proofs.excess_of.Tie as tie
@@ -26,12 +27,14 @@ same-length c = search needs
 
 returns : tie.Need-returns
 unfolding excessFrom
-returns c = let m = c .before .before .before .before .before .before .before in
-    excess-as (bind-yes _ (temperature-ok _ (m .before .before .new .ensures) (m .made .given .1))) (rw (c .before .before .before .before .before .eight .ensures) at (c .before .before .excess-in .ensures))
+returns c =
+    let e = c .before .before .before .before .before in
+    let m = e .before .before in
+    excess-as (bind-yes _ (kelvin-ok _ (m .before .before .new .ensures) (m .made .given .1))) (rw (e .eight .ensures) at (c .before .before .excess-in .ensures))
 
 returns-2 : tie.Need-returns-2
 unfolding excessFrom
-returns-2 c = excess-none (bind-no _ (temperature-no _ (c .before .before .before .new .ensures) (c .before .made2 .given .1)))
+returns-2 c = excess-none (bind-no _ (kelvin-no _ (c .before .before .before .new .ensures) (c .before .made2 .given .1)))
 
 pub excess-of-spec : {M : Type 1} → statement M
 excess-of-spec =

@@ -5,10 +5,10 @@ use Rattle.exports.proofs.repeat.Statement.{statement}
 use Rattle.exports.proofs.repeat.Tie as tie
 
 abbrev Inv-loop : tie.InvT-loop
-Inv-loop table alphas n t x count lg₀ sl₀ k₀ lg sl k = k ≤ count
+Inv-loop table s x count lg₀ sl₀ k₀ lg sl k = k ≤ count
 
 abbrev μ-loop : tie.MeasureT-loop
-μ-loop table alphas n t x count lg₀ sl₀ k₀ lg sl k = count - k
+μ-loop table s x count lg₀ sl₀ k₀ lg sl k = count - k
 
 loop-holds : tie.Need-loop-holds Inv-loop μ-loop
 loop-holds c = omega arith

@@ -16,8 +16,10 @@ same-length : tie.Need-same-length
 same-length c = search needs
 
 returns : tie.Need-returns
-returns c = let p = c .before .before .before .before .before .before in
-    rw (← p .before .before .before .before .store-from .ensures, ← p .store-from2 .ensures) (c .before .before .store-energies .ensures)
+returns c =
+    let e = c .before .before in
+    let p = e .before .before .before .before in
+    rw (← p .before .before .before .before .store-from .ensures, ← p .store-from2 .ensures) (e .store-energies .ensures)
 
 pub store-state-spec : {M : Type 1} → statement M
 store-state-spec =

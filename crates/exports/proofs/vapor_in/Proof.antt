@@ -29,8 +29,10 @@ same-length : tie.Need-same-length
 same-length c = search needs
 
 returns-2 : tie.Need-returns-2
-returns-2 c = let p = c .before .before .before .before .before .before in
-    vapor-given _ (vapor-is _ (p .vapor-pressure .ensures) (p .before .vapor-pressure-record .ensures)) (c .before .before .before .before .enum-told .given .1) (c .before .before .store-vapor .ensures)
+returns-2 c =
+    let s = c .before .before in
+    let p = s .before .before .before .before in
+    vapor-given _ (vapor-is _ (p .vapor-pressure .ensures) (p .before .vapor-pressure-record .ensures)) (s .before .before .enum-told .given .1) (s .store-vapor .ensures)
 
 pub vapor-in-spec : {M : Type 1} → statement M
 vapor-in-spec =

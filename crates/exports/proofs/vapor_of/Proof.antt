@@ -1,7 +1,8 @@
 -- `exports::vapor_of` meets its contract: the temperature's two answers. Assumes nothing.
 use borrow.Author.Needs.{needs}
 use Rattle.floats.proofs.Outcomes.{bind-yes, bind-no}
-use Rattle.exports.proofs.Ways.{temperature-ok, temperature-no, vapor-as, vapor-none}
+use Rattle.sheet.proofs.Replies.{kelvin-ok, kelvin-no}
+use Rattle.exports.proofs.Ways.{vapor-as, vapor-none}
 use Rattle.exports.specs.Models.{vaporFrom}
 use Rattle.exports.proofs.vapor_of.Statement.{statement}
 use Rattle.exports.proofs.vapor_of.Tie as tie
@@ -24,11 +25,11 @@ same-length c = search needs
 returns : tie.Need-returns
 unfolding vaporFrom
 returns c = let m = c .before .before .before .before .before in
-    vapor-as (bind-yes _ (temperature-ok _ (m .before .before .new .ensures) (m .made .given .1))) (c .before .before .vapor-in .ensures)
+    vapor-as (bind-yes _ (kelvin-ok _ (m .before .before .new .ensures) (m .made .given .1))) (c .before .before .vapor-in .ensures)
 
 returns-2 : tie.Need-returns-2
 unfolding vaporFrom
-returns-2 c = vapor-none (bind-no _ (temperature-no _ (c .before .before .before .new .ensures) (c .before .made2 .given .1)))
+returns-2 c = vapor-none (bind-no _ (kelvin-no _ (c .before .before .before .new .ensures) (c .before .made2 .given .1)))
 
 pub vapor-of-spec : {M : Type 1} → statement M
 vapor-of-spec =

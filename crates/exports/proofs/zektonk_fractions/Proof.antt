@@ -1,4 +1,4 @@
-use Rattle.exports.specs.Slices.{numberOf, verdictNumber}
+use Rattle.exports.specs.Slices.{outcomeNumber, verdictNumber}
 use Rattle.thermo_types.specs.Verdicts.{verdictOf}
 use Rattle.floats.specs.Outcome.{Out, ok, no}
 use Prim.Native.Nat.{ℕ}
@@ -7,8 +7,8 @@ use borrow.Author.Needs.{needs}
 use Rattle.exports.proofs.zektonk_fractions.Statement.{statement}
 use Rattle.exports.proofs.zektonk_fractions.Tie as tie
 
-number-is : (o : Out ℕ) → verdictNumber (verdictOf o) ≡ numberOf o
-unfolding verdictNumber verdictOf numberOf
+number-is : (o : Out ℕ) → verdictNumber (verdictOf o) ≡ outcomeNumber o
+unfolding verdictNumber verdictOf outcomeNumber
 number-is (ok a) = refl
 number-is (no r) = refl
 

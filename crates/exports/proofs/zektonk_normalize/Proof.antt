@@ -1,11 +1,11 @@
-use Rattle.exports.specs.Slices.{stored}
+use Rattle.exports.specs.Slices.{filledFront}
 use borrow.Author.Tests.{le-leb, lt-leb}
 use borrow.Author.Needs.{needs}
 use Rattle.exports.proofs.zektonk_normalize.Statement.{statement}
 use Rattle.exports.proofs.zektonk_normalize.Tie as tie
 
 returns : tie.Need-returns
-unfolding stored
+unfolding filledFront
 returns c = rw (lt-leb 8 _ (c .if1 .taken))
 
 eight-requires : tie.Need-eight-requires
@@ -21,9 +21,11 @@ same-length : tie.Need-same-length
 same-length c = search needs
 
 returns-2 : tie.Need-returns-2
-unfolding stored
-returns-2 c = let p = c .before .before in
-    rw (le-leb 8 _ (p .before .before .before .before .before .before .before .if1 .left), ← p .before .before .before .before .before .eight .ensures, ← p .before .before .before .normalize .ensures) (p .store .ensures)
+unfolding filledFront
+returns-2 c =
+    let p = c .before .before in
+    let e = p .before .before .before .before .before in
+    rw (le-leb 8 _ (e .before .before .if1 .left), ← e .eight .ensures, ← p .before .before .before .normalize .ensures) (p .store .ensures)
 
 pub zektonk-normalize-spec : {M : Type 1} → statement M
 zektonk-normalize-spec =

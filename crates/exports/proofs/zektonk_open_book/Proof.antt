@@ -10,18 +10,18 @@ use Rattle.exports.proofs.zektonk_open_book.Tie as tie
 open-book-requires : tie.Need-open-book-requires
 open-book-requires c κs = search needs
 
-enum-known-n : tie.Need-enum-known-n
-enum-known-n c = search needs
+enum-known-head : tie.Need-enum-known-head
+enum-known-head c = search needs
 
 add-result : tie.Need-add-result
-add-result c = omega (arith, accepted _ (opened-ok _ (sym (c .before .n .given .1) ∙ c .before .before .before .open-book .ensures)) .few)
+add-result c = omega (arith, accepted _ (opened-ok _ (sym (c .before .head .given .1) ∙ c .before .before .before .open-book .ensures)) .few)
 
 enum-known-r : tie.Need-enum-known-r
 enum-known-r c = search needs
 
 returns : tie.Need-returns
 unfolding bookNumber
-returns c = rw (opened-ok _ (sym (c .before .n .given .1) ∙ c .before .before .before .open-book .ensures))
+returns c = rw (opened-ok _ (sym (c .before .head .given .1) ∙ c .before .before .before .open-book .ensures))
 
 returns-2 : tie.Need-returns-2
 unfolding bookNumber
@@ -29,4 +29,4 @@ returns-2 c = rw (opened-no _ (sym (c .before .r .given .1) ∙ c .before .befor
 
 pub zektonk-open-book-spec : {M : Type 1} → statement M
 zektonk-open-book-spec =
-    tie.close (tie.spec open-book-requires enum-known-n add-result enum-known-r returns returns-2)
+    tie.close (tie.spec open-book-requires enum-known-head add-result enum-known-r returns returns-2)

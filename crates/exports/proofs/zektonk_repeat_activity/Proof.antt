@@ -1,4 +1,4 @@
-use Rattle.exports.proofs.Ways.{temperature-ok, temperature-no}
+use Rattle.sheet.proofs.Replies.{kelvin-ok, kelvin-no}
 use Rattle.exports.specs.Slices.{repeated}
 use borrow.Author.Needs.{needs}
 use Rattle.exports.proofs.zektonk_repeat_activity.Statement.{statement}
@@ -21,11 +21,13 @@ enum-known-made-2 c = search needs
 
 returns : tie.Need-returns
 unfolding repeated
-returns c = rw (temperature-ok _ (c .before .before .before .before .before .before .new .ensures) (c .before .before .before .before .made .given .1)) (c .repeat-from .ensures)
+returns c =
+    let m = c .before .before .before .before in
+    rw (kelvin-ok _ (m .before .before .new .ensures) (m .made .given .1)) (c .repeat-from .ensures)
 
 returns-2 : tie.Need-returns-2
 unfolding repeated
-returns-2 c = rw (temperature-no _ (c .before .before .before .new .ensures) (c .before .made2 .given .1))
+returns-2 c = rw (kelvin-no _ (c .before .before .before .new .ensures) (c .before .made2 .given .1))
 
 pub zektonk-repeat-activity-spec : {M : Type 1} → statement M
 zektonk-repeat-activity-spec =

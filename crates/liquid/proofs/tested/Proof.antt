@@ -1,8 +1,7 @@
-use mathlib.Core.Bool.{_&&_}
-use borrow.Author.Tests.{not-true, not-false}
-use Rattle.liquid.specs.Vapor.{representable, vaporAnswer}
-use Rattle.floats.specs.Outcome.{need}
+-- `liquid::tested` meets its contract. Assumes nothing.
 use borrow.Author.Needs.{needs}
+use Rattle.liquid.specs.Vapor.{vaporAnswer}
+use Rattle.liquid.proofs.Ways.{numbers-no, pressure-no, numbers-yes}
 use Rattle.liquid.proofs.tested.Statement.{statement}
 use Rattle.liquid.proofs.tested.Tie as tie
 
@@ -22,25 +21,20 @@ refused-requires : tie.Need-refused-requires
 refused-requires c κs = search needs
 
 returns : tie.Need-returns
-unfolding representable need
-returns c = let p = c .before .before in
-    let f = not-true (p .before .before .before .is-finite .result && p .before .before .is-finite2 .result && p .before .is-finite3 .result && p .is-finite4 .result) (c .before .if1 .taken) in
-    rw (← p .before .before .before .is-finite .ensures, ← p .before .before .is-finite2 .ensures, ← p .before .is-finite3 .ensures, ← p .is-finite4 .ensures, f) (c .refused .ensures)
+returns c = search numbers-no
 
 refused-requires-2 : tie.Need-refused-requires-2
 refused-requires-2 c κs = search needs
 
 returns-2 : tie.Need-returns-2
-unfolding representable need
-returns-2 c = let p = c .before .before .before in
-    let f = not-false (p .before .before .before .is-finite .result && p .before .before .is-finite2 .result && p .before .is-finite3 .result && p .is-finite4 .result) (c .before .before .if1 .left) in
-    rw (← p .before .before .before .is-finite .ensures, ← p .before .before .is-finite2 .ensures, ← p .before .is-finite3 .ensures, ← p .is-finite4 .ensures, f, c .before .if2 .taken) (c .refused2 .ensures)
+returns-2 c = search pressure-no
 
 returns-3 : tie.Need-returns-3
-unfolding representable need vaporAnswer
+unfolding vaporAnswer
 returns-3 c = let p = c .before .before in
-    let f = not-false (p .before .before .before .is-finite .result && p .before .before .is-finite2 .result && p .before .is-finite3 .result && p .is-finite4 .result) (c .before .if1 .left) in
-    rw (← p .before .before .before .is-finite .ensures, ← p .before .before .is-finite2 .ensures, ← p .before .is-finite3 .ensures, ← p .is-finite4 .ensures, f, c .if2 .left)
+    let q = p .before .before in
+    numbers-yes _ _ _ _ (q .before .is-finite .ensures) (q .is-finite2 .ensures) (p .before .is-finite3 .ensures) (p .is-finite4 .ensures)
+    (c .before .if1 .left) (c .if2 .left)
 
 pub tested-spec : {M : Type 1} → statement M
 tested-spec =

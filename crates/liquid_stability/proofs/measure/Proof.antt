@@ -1,20 +1,24 @@
 -- `liquid_stability::measure` meets its contract. The invariant: the three numbers over the solvents so far. Assumes nothing.
 use Prim.Native.Nat.{_≤_, _-_}
+use mathlib.Core.Path.{_≡_, refl}
 use native.Mathlib.Omega.{arith}
 use borrow.Author.Needs.{needs}
-use Rattle.liquid_stability.specs.Steps.{Measures}
-use Rattle.liquid_stability.proofs.Laws.{measure-turn, measure-done, measure-none}
+use Rattle.floats.specs.Fold.{foldTo}
+use Rattle.floats.proofs.Folds.{fold-done}
+use Rattle.liquid_stability.specs.Stability.{distanceOf, changeOf, apartOf}
+use Rattle.liquid_stability.proofs.Laws.{distance-turn, change-turn, apart-turn}
 use Rattle.liquid_stability.proofs.measure.Statement.{statement}
 use Rattle.liquid_stability.proofs.measure.Tie as tie
 
 abbrev Inv-loop : tie.InvT-loop
-Inv-loop x ln-w big lg d w n m₀ i₀ m i = (i ≤ n) × Measures x ln-w lg d w i m
+Inv-loop x ln-w big lg d w n m₀ i₀ m i = (i ≤ n) × (m .distance ≡ distanceOf x ln-w lg d i) × (m .change ≡ changeOf x ln-w lg d i) × (m .apart ≡ apartOf x w i)
 
 abbrev μ-loop : tie.MeasureT-loop
 μ-loop x ln-w big lg d w n m₀ i₀ m i = n - i
 
 loop-holds : tie.Need-loop-holds Inv-loop μ-loop
-loop-holds c = (omega arith, measure-none _ _ _ _ _)
+unfolding distanceOf changeOf apartOf foldTo
+loop-holds c = (omega arith, refl, refl, refl)
 
 mul-measure-at : tie.Need-mul-measure-at Inv-loop μ-loop
 mul-measure-at c = omega arith
@@ -63,11 +67,20 @@ loop-less c = omega arith
 
 loop-again : tie.Need-loop-again Inv-loop μ-loop
 loop-again c =
-    let a = c .before .before .before .before .before .before .before .before in
-    (omega arith, measure-turn _ _ _ (omega arith) (a .before .pre .1) _ _ _ _ (omega arith) (a .loop .inv .1) (c .measure-at .ensures))
+    let m = c .measure-at .ensures in
+    let read = c .before .before .before .before in
+    let l = read .before .before .before .before in (
+      omega arith,
+      distance-turn _ _ _ (omega arith) (l .before .pre .1) _ _ _ (omega arith) (m .0) (l .loop .inv .1),
+      change-turn _ _ _ _ _ (m .1) (l .loop .inv .2),
+      apart-turn _ _ _ (m .2) (l .loop .inv .3),
+    )
 
 returns : tie.Need-returns Inv-loop μ-loop
-returns c = measure-done _ _ _ _ _ _ _ (omega arith) (c .before .loop .inv .1)
+unfolding distanceOf changeOf apartOf
+returns c =
+    let l = c .before .loop in
+    (fold-done _ _ _ _ (omega arith) (l .inv .1), fold-done _ _ _ _ (omega arith) (l .inv .2), fold-done _ _ _ _ (omega arith) (l .inv .3))
 
 pub measure-spec : {M : Type 1} → statement M
 measure-spec =

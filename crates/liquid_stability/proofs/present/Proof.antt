@@ -36,7 +36,12 @@ loop-less : tie.Need-loop-less Inv-loop μ-loop
 loop-less c = omega arith
 
 loop-again : tie.Need-loop-again Inv-loop μ-loop
-loop-again c = (omega arith, ⊎-elim (λ w. omega arith) (λ w. omega arith) (c .if1 .came), ⊎-elim (λ w. count-present _ _ (c .before .before .before .loop .inv .2) (w .0 .taken) (w .1)) (λ w. count-absent _ _ (c .before .before .before .loop .inv .2) (w .0 .left) (w .1)) (c .if1 .came))
+loop-again c =
+    let l = c .before .before .before .loop in (
+      omega arith,
+      ⊎-elim (λ w. omega arith) (λ w. omega arith) (c .if1 .came),
+      ⊎-elim (λ w. count-present _ _ (l .inv .2) (w .0 .taken) (w .1)) (λ w. count-absent _ _ (l .inv .2) (w .0 .left) (w .1)) (c .if1 .came),
+    )
 
 returns : tie.Need-returns Inv-loop μ-loop
 unfolding presentCount

@@ -7,15 +7,15 @@ use borrow.Author.Needs.{needs}
 use lib.Dec.{eqb}
 use Rattle.floats.proofs.Fills.{fill-turn, fill-done}
 use Rattle.floats.specs.Vector.{fill, vec}
-use Rattle.liquid_stability.specs.Steps.{startFrom}
+use Rattle.liquid_stability.specs.Stability.{startFrom}
 use Rattle.liquid_stability.proofs.start.Statement.{statement}
 use Rattle.liquid_stability.proofs.start.Tie as tie
 
 abbrev Inv-loop : tie.InvT-loop
-Inv-loop others j n a b ln-w₀ i₀ ln-w i = (i ≤ n) × (ln-w ≡ vec (λ k. cond (eqb k j) a b) i)
+Inv-loop others n j a b ln-w₀ i₀ ln-w i = (i ≤ n) × (ln-w ≡ vec (λ k. cond (eqb k j) a b) i)
 
 abbrev μ-loop : tie.MeasureT-loop
-μ-loop others j n a b ln-w₀ i₀ ln-w i = n - i
+μ-loop others n j a b ln-w₀ i₀ ln-w i = n - i
 
 ln-requires : tie.Need-ln-requires Inv-loop μ-loop
 ln-requires c κs = search needs

@@ -14,7 +14,7 @@ without-trials-requires : tie.Need-without-trials-requires
 without-trials-requires c κs = search needs
 
 returns : tie.Need-returns
-returns c = feed-refused _ _ _ _ _ (c .before .before .before .before .ln-gamma .ensures) (c .before .before .v .given .1) (c .without-trials .ensures)
+returns c = search feed-refused
 
 enum-told : tie.Need-enum-told
 enum-told c = search needs
@@ -26,9 +26,7 @@ without-trials-requires-2 : tie.Need-without-trials-requires-2
 without-trials-requires-2 c κs = search needs
 
 returns-2 : tie.Need-returns-2
-returns-2 c =
-    let p = c .before .before in
-    few-present _ _ _ _ _ (p .before .before .before .ln-gamma .ensures) (p .before .enum-told .given .1) (p .present .ensures) (c .before .if1 .taken) (c .without-trials2 .ensures)
+returns-2 c = search few-present
 
 tangent-requires : tie.Need-tangent-requires
 tangent-requires c κs = search needs
@@ -37,15 +35,13 @@ sub-others : tie.Need-sub-others
 sub-others c = search needs
 
 int-to-float-others : tie.Need-int-to-float-others
-int-to-float-others c = others-fit _ _ (c .before .before .before .before .before .before .before .before .before .pre) (c .before .before .before .before .present .ensures)
+int-to-float-others c = search others-fit
 
 trials-requires : tie.Need-trials-requires
-trials-requires c κs = (c .before .before .before .before .before .before .before .before .before .before .pre, others-is _ _ (c .before .before .before .before .before .present .ensures))
+trials-requires c κs = (search needs, search others-is)
 
 returns-3 : tie.Need-returns-3
-returns-3 c =
-    let p = c .before .before .before .before .before .before in
-    tested _ _ _ _ _ (p .before .before .before .ln-gamma .ensures) (p .before .enum-told .given .1) (p .present .ensures) (c .before .before .before .before .before .if1 .left) (c .before .before .before .tangent .ensures) (c .trials .ensures)
+returns-3 c = search tested
 
 pub test-liquid-spec : {M : Type 1} → statement M
 test-liquid-spec =

@@ -1,36 +1,39 @@
 -- `liquid_stability::total` meets its contract. The invariant: the sum over the solvents present so far. Assumes nothing.
 use Prim.Native.Nat.{_≤_, _-_}
-use mathlib.Core.Logic.{⊎-elim}
-use mathlib.Core.Path.{_≡_, refl}
+use borrow.Author.Needs.{needs}
+use mathlib.Core.Path.{refl, _≡_}
 use native.Mathlib.Omega.{arith}
-use Rattle.floats.proofs.Folds.{fold-done}
-use Rattle.floats.specs.Fold.{foldTo}
-use Rattle.liquid_stability.specs.Steps.{presentSum}
-use Rattle.liquid_stability.proofs.Laws.{sum-present, sum-absent}
+use Rattle.floats.proofs.Folds.{fold-turn, fold-done}
+use Rattle.floats.specs.Arithmetic.{0f, _⊕_}
+use Rattle.floats.specs.Fold.{foldTo, active}
+use Rattle.floats.specs.Vector.{at}
 use Rattle.liquid_stability.proofs.total.Statement.{statement}
 use Rattle.liquid_stability.proofs.total.Tie as tie
 
 abbrev Inv-loop : tie.InvT-loop
-Inv-loop x big n s₀ i₀ s i = (i ≤ n) × (s ≡ presentSum x big i)
+Inv-loop x big n s₀ i₀ s i = (i ≤ n) × (s ≡ foldTo (active (at x) (λ k a. a ⊕ at big k)) 0f i)
 
 abbrev μ-loop : tie.MeasureT-loop
 μ-loop x big n s₀ i₀ s i = n - i
 
 loop-holds : tie.Need-loop-holds Inv-loop μ-loop
-unfolding presentSum foldTo
+unfolding foldTo
 loop-holds c = (omega arith, refl)
 
-mul-if1 : tie.Need-mul-if1 Inv-loop μ-loop
-mul-if1 c = omega arith
+mul-add-amount : tie.Need-mul-add-amount Inv-loop μ-loop
+mul-add-amount c = omega arith
 
-element-copy-out-if1 : tie.Need-element-copy-out-if1 Inv-loop μ-loop
-element-copy-out-if1 c = omega arith
+element-copy-out-add-amount : tie.Need-element-copy-out-add-amount Inv-loop μ-loop
+element-copy-out-add-amount c = omega arith
 
-mul-s : tie.Need-mul-s Inv-loop μ-loop
-mul-s c = omega arith
+mul-add-amount-2 : tie.Need-mul-add-amount-2 Inv-loop μ-loop
+mul-add-amount-2 c = omega arith
 
-element-copy-out-s : tie.Need-element-copy-out-s Inv-loop μ-loop
-element-copy-out-s c = omega arith
+element-copy-out-add-amount-2 : tie.Need-element-copy-out-add-amount-2 Inv-loop μ-loop
+element-copy-out-add-amount-2 c = omega arith
+
+add-amount-requires : tie.Need-add-amount-requires Inv-loop μ-loop
+add-amount-requires c κs = search needs
 
 add-i : tie.Need-add-i Inv-loop μ-loop
 add-i c = omega arith
@@ -39,10 +42,9 @@ loop-less : tie.Need-loop-less Inv-loop μ-loop
 loop-less c = omega arith
 
 loop-again : tie.Need-loop-again Inv-loop μ-loop
-loop-again c = (omega arith, ⊎-elim (λ w. sum-present _ _ _ (c .before .before .before .loop .inv .1) (w .0 .taken) (w .2)) (λ w. sum-absent _ _ _ (c .before .before .before .loop .inv .1) (w .0 .left) (w .1)) (c .if1 .came))
+loop-again c = (omega arith, fold-turn _ _ _ (c .add-amount .ensures) (c .before .before .before .before .loop .inv .1))
 
 returns : tie.Need-returns Inv-loop μ-loop
-unfolding presentSum
 returns c = fold-done _ _ _ _ (omega arith) (c .before .loop .inv .1)
 
 pub total-spec : {M : Type 1} → statement M
@@ -52,10 +54,11 @@ total-spec =
     Inv-loop
     μ-loop
     loop-holds
-    mul-if1
-    element-copy-out-if1
-    mul-s
-    element-copy-out-s
+    mul-add-amount
+    element-copy-out-add-amount
+    mul-add-amount-2
+    element-copy-out-add-amount-2
+    add-amount-requires
     add-i
     loop-less
     loop-again

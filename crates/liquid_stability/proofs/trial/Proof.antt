@@ -1,20 +1,21 @@
 -- `liquid_stability::trial` meets its contract. The invariant: what is left to run from here is the whole run. Assumes nothing.
 use Prim.Native.Nat.{_≤_, _-_}
-use mathlib.Core.Path.{_∙_, ap, sym, _≡_}
-use native.Mathlib.Omega.{arith}
 use borrow.Author.Needs.{needs}
+use mathlib.Core.Path.{_≡_}
+use native.Mathlib.Omega.{arith}
+use Rattle.liquid_stability.specs.Stability.{trialFrom, startFrom}
 use Rattle.thermo_models.specs.Activity.{activityOn}
-use Rattle.liquid_stability.specs.Stability.{trialFrom}
-use Rattle.liquid_stability.specs.Steps.{trialAnswer, startFrom}
 use Rattle.liquid_stability.proofs.Laws.{trial-start, trial-out, trial-refused, trial-found, trial-more}
 use Rattle.liquid_stability.proofs.trial.Statement.{statement}
 use Rattle.liquid_stability.proofs.trial.Tie as tie
 
 abbrev Inv-loop : tie.InvT-loop
-Inv-loop table alphas n t threshold x d j others limit ln-w₀ done₀ ln-w done = (done ≤ limit) × (trialFrom (activityOn table alphas n (t .0)) threshold n x d j (limit - done) done ln-w ≡ trialFrom (activityOn table alphas n (t .0)) threshold n x d j limit 0 (startFrom others j n))
+Inv-loop table at n o x d others j ln-w₀ done₀ ln-w done =
+    let run = trialFrom (activityOn table at) (o .«tm_threshold») n x d j in
+    (done ≤ o .«max_iterations») × (run (o .«max_iterations» - done) done ln-w ≡ run (o .«max_iterations») 0 (startFrom others n j))
 
 abbrev μ-loop : tie.MeasureT-loop
-μ-loop table alphas n t threshold x d j others limit ln-w₀ done₀ ln-w done = limit - done
+μ-loop table at n o x d others j ln-w₀ done₀ ln-w done = o .«max_iterations» - done
 
 start-requires : tie.Need-start-requires Inv-loop μ-loop
 start-requires c κs = search needs
@@ -32,10 +33,7 @@ refused-requires : tie.Need-refused-requires Inv-loop μ-loop
 refused-requires c κs = search needs
 
 returns : tie.Need-returns Inv-loop μ-loop
-returns c =
-    let t = c .before .before .before .before in
-    c .refused .ensures
-    ∙ ap trialAnswer (sym (trial-refused _ _ _ _ _ _ _ _ _ (t .before .before .before .loop .inv .1) (t .before .before .loop-test .taken) (t .turn .ensures) (c .before .before .judged .given .1)))
+returns c = search trial-refused
 
 enum-known-judged-2 : tie.Need-enum-known-judged-2 Inv-loop μ-loop
 enum-known-judged-2 c = search needs
@@ -47,10 +45,7 @@ found-requires : tie.Need-found-requires Inv-loop μ-loop
 found-requires c κs = search needs
 
 returns-2 : tie.Need-returns-2 Inv-loop μ-loop
-returns-2 c =
-    let t = c .before .before .before .before .before in
-    c .found .ensures
-    ∙ ap trialAnswer (sym (trial-found _ _ _ _ _ _ _ _ _ (t .before .before .before .loop .inv .1) (t .before .before .loop-test .taken) (t .turn .ensures) (c .before .before .before .judged2 .given .1)))
+returns-2 c = search trial-found
 
 enum-told : tie.Need-enum-told Inv-loop μ-loop
 enum-told c = search needs
@@ -62,15 +57,13 @@ loop-less : tie.Need-loop-less Inv-loop μ-loop
 loop-less c = omega arith
 
 loop-again : tie.Need-loop-again Inv-loop μ-loop
-loop-again c =
-    let t = c .before .before .before in
-    (omega arith, trial-more _ _ _ _ _ _ _ _ _ (t .before .before .before .loop .inv .1) (t .before .before .loop-test .taken) (t .turn .ensures) (c .before .enum-told .given .1))
+loop-again c = (omega arith, search trial-more)
 
 refused-requires-2 : tie.Need-refused-requires-2 Inv-loop μ-loop
-refused-requires-2 c κs = omega arith
+refused-requires-2 c κs = search needs
 
 returns-3 : tie.Need-returns-3 Inv-loop μ-loop
-returns-3 c = c .refused2 .ensures ∙ ap trialAnswer (sym (trial-out _ _ _ _ _ _ _ _ _ (c .before .before .loop .inv .1) (omega arith)))
+returns-3 c = search trial-out
 
 pub trial-spec : {M : Type 1} → statement M
 trial-spec =

@@ -1,26 +1,27 @@
 -- `liquid_stability::trials` meets its contract. The invariant: the trials so far are ok, with this state. Assumes nothing.
 use Prim.Native.Nat.{_≤_, _-_}
+use borrow.Author.Needs.{needs}
 use mathlib.Core.Logic.{⊎-elim}
 use mathlib.Core.Path.{_≡_}
 use native.Mathlib.Omega.{arith}
-use borrow.Author.Needs.{needs}
-use Rattle.thermo_models.specs.Activity.{activityOn}
 use Rattle.liquid_stability.specs.Stability.{trialsTo}
-use Rattle.liquid_stability.proofs.Laws.{stopped, ended, soFar, trials-none, trials-skip, trials-refused, trials-more, trials-done, tried-no, tried-ok}
+use Rattle.thermo_models.specs.Activity.{activityOn}
+use Rattle.liquid_stability.proofs.Laws.{soFar, trials-none, trials-refused, trials-done, trials-skip, trials-more}
 use Rattle.liquid_stability.proofs.trials.Statement.{statement}
 use Rattle.liquid_stability.proofs.trials.Tie as tie
 
 abbrev Inv-loop : tie.InvT-loop
-Inv-loop table alphas n t threshold x d others limit trials₀ count₀ stable₀ j₀ trials count stable j = (j ≤ n) × (count ≤ j) × (trialsTo (activityOn table alphas n (t .0)) threshold n x d limit j ≡ soFar stable count trials)
+Inv-loop table at n o x d others trials₀ count₀ stable₀ j₀ trials count stable j = (j ≤ n) × (count ≤ j)
+    × (trialsTo (activityOn table at) n o x d j ≡ soFar stable count trials)
 
 abbrev μ-loop : tie.MeasureT-loop
-μ-loop table alphas n t threshold x d others limit trials₀ count₀ stable₀ j₀ trials count stable j = n - j
+μ-loop table at n o x d others trials₀ count₀ stable₀ j₀ trials count stable j = n - j
 
 no-trial-requires : tie.Need-no-trial-requires Inv-loop μ-loop
 no-trial-requires c κs = search needs
 
 loop-holds : tie.Need-loop-holds Inv-loop μ-loop
-loop-holds c = (omega arith, omega arith, trials-none _ _ _ _ _ _ (c .no-trial .ensures))
+loop-holds c = (omega arith, omega arith, trials-none _ _ _ _ _ (c .no-trial .ensures))
 
 mul-if1 : tie.Need-mul-if1 Inv-loop μ-loop
 mul-if1 c = omega arith
@@ -38,12 +39,7 @@ without-trials-requires : tie.Need-without-trials-requires Inv-loop μ-loop
 without-trials-requires c κs = search needs
 
 returns : tie.Need-returns Inv-loop μ-loop
-returns c =
-    let a = c .before .before .before .before .before .before .before .before in
-    let t = c .before .before .before .before in
-    stopped _ (c .without-trials .ensures)
-    (trials-refused _ _ _ _ _ _ _ (a .loop .inv .2) (t .before .if1 .taken) (a .before .before .pre .1) (t .before .before .before .loop-test .taken)
-    (tried-no _ (t .trial .ensures) (c .before .before .v .given .1)))
+returns c = search trials-refused
 
 enum-told : tie.Need-enum-told Inv-loop μ-loop
 enum-told c = search needs
@@ -72,14 +68,14 @@ loop-again c =
       omega arith,
       ⊎-elim (λ w. omega arith) (λ w. omega arith) (c .if1 .came),
       ⊎-elim
-          (λ w.
-          trials-more _ _ _ _ _ _ _ (a .loop .inv .2) (w .0 .taken) (a .before .before .pre .1) (tried-ok _ (w .1 .ensures) (w .3 .given .1)) (w .5 .ensures) (w .6) (w .7) (w .8))
-          (λ w. trials-skip _ _ _ _ _ _ _ (a .loop .inv .2) (w .0 .left) (w .1) (w .2) (w .3))
+          (λ w. trials-more _ _ _ _ _ _ (a .loop .inv .2) (w .0 .taken) (a .before .before .pre .1) (w .1 .ensures) (w .3 .given .1) (w .5 .ensures) (w .6)
+          (w .7) (w .8))
+          (λ w. trials-skip _ _ _ _ _ _ (a .loop .inv .2) (w .0 .left) (w .1) (w .2) (w .3))
           (c .if1 .came),
     )
 
 returns-2 : tie.Need-returns-2 Inv-loop μ-loop
-returns-2 c = ended _ (trials-done _ _ _ _ _ _ _ (omega arith) (c .before .loop .inv .2))
+returns-2 c = trials-done _ _ _ _ _ _ (omega arith) (c .before .loop .inv .2)
 
 pub trials-spec : {M : Type 1} → statement M
 trials-spec =

@@ -53,7 +53,8 @@ loop-less c = omega arith
 
 loop-again : tie.Need-loop-again Inv-loop μ-loop
 unfolding colS
-loop-again c = (omega arith, sumJet-turn _ _ _ (c .add .ensures) (rw (c .before .scale .ensures, c .before .before .before .jet-at .ensures)) (c .before .before .before .before .before .loop .inv .1))
+loop-again c = let p = c .before .before .before in
+    (omega arith, sumJet-turn _ _ _ (c .add .ensures) (rw (c .before .scale .ensures, p .jet-at .ensures)) (p .before .before .loop .inv .1))
 
 returns : tie.Need-returns Inv-loop μ-loop
 unfolding colS

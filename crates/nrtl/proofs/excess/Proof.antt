@@ -1,19 +1,42 @@
 -- `nrtl::excess` meets its contract. Assumes nothing.
 use borrow.Author.Needs.{needs}
+use Rattle.nrtl.proofs.Tests.{asked-passed, asked-refused}
 use Rattle.nrtl.proofs.excess.Statement.{statement}
 use Rattle.nrtl.proofs.excess.Tie as tie
+
+with-state-requires : tie.Need-with-state-requires
+with-state-requires c κs = search needs
+
+enum-told : tie.Need-enum-told
+enum-told c = search needs
 
 places-requires : tie.Need-places-requires
 places-requires c κs = search needs
 
-value-requires : tie.Need-value-requires
-value-requires c κs = search needs
+passed-requires : tie.Need-passed-requires
+passed-requires c κs = search needs
 
-tested-requires : tie.Need-tested-requires
-tested-requires c κs = search needs
+enum-known-fractions : tie.Need-enum-known-fractions
+enum-known-fractions c = search needs
+
+refuse-requires : tie.Need-refuse-requires
+refuse-requires c κs = search needs
 
 returns : tie.Need-returns
-returns c = rw (← c .before .before .before .before .places .ensures, ← c .before .before .before .value .ensures) (c .tested .ensures)
+returns c = search asked-passed
+
+returns-2 : tie.Need-returns-2
+returns-2 c = search asked-refused
 
 pub excess-spec : {M : Type 1} → statement M
-excess-spec = tie.close (tie.spec places-requires value-requires tested-requires returns)
+excess-spec =
+    tie.close
+    (tie.spec
+    with-state-requires
+    enum-told
+    places-requires
+    passed-requires
+    enum-known-fractions
+    refuse-requires
+    returns
+    returns-2)

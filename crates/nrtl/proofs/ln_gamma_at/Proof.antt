@@ -6,6 +6,7 @@ use borrow.Author.Needs.{needs}
 use Rattle.floats.specs.Fold.{foldTo}
 use Rattle.floats.specs.Vector.{at}
 use Rattle.jet.proofs.Sums.{sumJet-turn, sumJet-done}
+use Rattle.nrtl_tables.specs.Table.{gPlane, tauPlane}
 use Rattle.nrtl.specs.Columns.{lnFrom}
 use Rattle.nrtl.specs.On.{twos}
 use Rattle.nrtl.specs.Steps.{sIn, rIn}
@@ -13,7 +14,7 @@ use Rattle.nrtl.proofs.ln_gamma_at.Statement.{statement}
 use Rattle.nrtl.proofs.ln_gamma_at.Tie as tie
 
 abbrev Inv-loop : tie.InvT-loop
-Inv-loop table sums x n i l₀ j₀ l j = (j ≤ n) × (l ≡ lnFrom (twos table 384) (twos table 0) (sIn sums) (rIn sums) (at x) j i)
+Inv-loop table sums x n i l₀ j₀ l j = (j ≤ n) × (l ≡ lnFrom (twos table tauPlane) (twos table gPlane) (sIn sums) (rIn sums) (at x) j i)
 
 abbrev μ-loop : tie.MeasureT-loop
 μ-loop table sums x n i l₀ j₀ l j = n - j

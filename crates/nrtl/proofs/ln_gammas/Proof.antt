@@ -6,6 +6,7 @@ use borrow.Author.Needs.{needs}
 use Rattle.floats.specs.Fold.{allTo}
 use Rattle.floats.specs.Vector.{at, fill}
 use Rattle.nrtl.proofs.Turns.{gammas-turn, gammas-done}
+use Rattle.nrtl_tables.specs.Table.{gPlane, tauPlane}
 use Rattle.nrtl.specs.Columns.{lnFrom}
 use Rattle.nrtl.specs.On.{twos}
 use Rattle.nrtl.specs.Steps.{sIn, rIn, GammasTo}
@@ -13,7 +14,8 @@ use Rattle.nrtl.proofs.ln_gammas.Statement.{statement}
 use Rattle.nrtl.proofs.ln_gammas.Tie as tie
 
 abbrev Inv-loop : tie.InvT-loop
-Inv-loop table sums x n ln-gamma₀ slopes₀ finite₀ i₀ ln-gamma slopes finite i = (i ≤ n) × GammasTo (lnFrom (twos table 384) (twos table 0) (sIn sums) (rIn sums) (at x) n) i finite ln-gamma₀ slopes₀ ln-gamma slopes
+Inv-loop table sums x n ln-gamma₀ slopes₀ finite₀ i₀ ln-gamma slopes finite i =
+    (i ≤ n) × GammasTo (lnFrom (twos table tauPlane) (twos table gPlane) (sIn sums) (rIn sums) (at x) n) i finite ln-gamma₀ slopes₀ ln-gamma slopes
 
 abbrev μ-loop : tie.MeasureT-loop
 μ-loop table sums x n ln-gamma₀ slopes₀ finite₀ i₀ ln-gamma slopes finite i = n - i
@@ -50,7 +52,7 @@ loop-less : tie.Need-loop-less Inv-loop μ-loop
 loop-less c = omega arith
 
 loop-again : tie.Need-loop-again Inv-loop μ-loop
-loop-again c = (omega arith, gammas-turn _ _ (c .before .before .ln-gamma-at .ensures) (c .before .is-finite .ensures) (c .is-finite2 .ensures) (c .before .before .before .before .loop .inv .1))
+loop-again c = (omega arith, search gammas-turn)
 
 returns : tie.Need-returns Inv-loop μ-loop
 returns c = gammas-done _ _ _ (omega arith) (c .before .loop .inv .1)

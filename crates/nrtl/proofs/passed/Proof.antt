@@ -1,6 +1,6 @@
 -- `nrtl::passed` meets its contract. Assumes nothing.
 use borrow.Author.Needs.{needs}
-use Rattle.nrtl.proofs.Tests.{gives, passing-yes, passing-no}
+use Rattle.nrtl.proofs.Tests.{alphas-passed, alphas-refused}
 use Rattle.nrtl.proofs.passed.Statement.{statement}
 use Rattle.nrtl.proofs.passed.Tie as tie
 
@@ -17,10 +17,10 @@ refuse-requires : tie.Need-refuse-requires
 refuse-requires c κs = search needs
 
 returns : tie.Need-returns
-returns c = gives (passing-yes _ (c .before .before .before .enum-told .given .1)) (c .state .ensures)
+returns c = search alphas-passed
 
 returns-2 : tie.Need-returns-2
-returns-2 c = gives (passing-no _ (c .before .before .before .before .alphas .given .1)) (c .refuse .ensures)
+returns-2 c = search alphas-refused
 
 pub passed-spec : {M : Type 1} → statement M
 passed-spec =

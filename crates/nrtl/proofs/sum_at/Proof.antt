@@ -72,7 +72,7 @@ add-requires : tie.Need-add-requires
 add-requires c κs = search needs
 
 returns : tie.Need-returns
-returns c = sum-turn _ _ _ _ _ (c .before .before .before .before .before .column .ensures) (c .before .before .before .before .column2 .ensures) (c .before .before .before .div .ensures) (c .before .scale .ensures) (c .add .ensures)
+returns c = search sum-turn
 
 pub sum-at-spec : {M : Type 1} → statement M
 sum-at-spec =

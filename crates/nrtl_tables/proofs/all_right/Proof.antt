@@ -10,10 +10,10 @@ use Rattle.nrtl_tables.proofs.all_right.Statement.{statement}
 use Rattle.nrtl_tables.proofs.all_right.Tie as tie
 
 abbrev Inv-loop : tie.InvT-loop
-Inv-loop alpha b n right₀ i₀ right i = (i ≤ n) × (right ≡ allTo (λ i. allTo (alphaRight alpha b i) n) i)
+Inv-loop parameters b n right₀ i₀ right i = (i ≤ n) × (right ≡ allTo (λ i. allTo (alphaRight parameters b i) n) i)
 
 abbrev μ-loop : tie.MeasureT-loop
-μ-loop alpha b n right₀ i₀ right i = n - i
+μ-loop parameters b n right₀ i₀ right i = n - i
 
 loop-holds : tie.Need-loop-holds Inv-loop μ-loop
 unfolding allTo

@@ -8,6 +8,9 @@ use Rattle.nrtl_tables.proofs.alpha_of.Tie as tie
 mul-constant : tie.Need-mul-constant
 mul-constant c = omega arith
 
+add-constant : tie.Need-add-constant
+add-constant c = omega arith
+
 mul-constant-2 : tie.Need-mul-constant-2
 mul-constant-2 c = omega arith
 
@@ -44,6 +47,7 @@ alpha-of-spec =
     tie.close
     (tie.spec
     mul-constant
+    add-constant
     mul-constant-2
     element-copy-out-constant
     constant-requires

@@ -11,10 +11,10 @@ use Rattle.nrtl_tables.proofs.argument_row.Statement.{statement}
 use Rattle.nrtl_tables.proofs.argument_row.Tie as tie
 
 abbrev Inv-loop : tie.InvT-loop
-Inv-loop tau alpha b n i z₀ j₀ z j = (j ≤ n) × (z ≡ fillFrom (argumentIJ tau alpha b i) (i * 8) j z₀)
+Inv-loop parameters b n i z₀ j₀ z j = (j ≤ n) × (z ≡ fillFrom (argumentIJ parameters b i) (i * 8) j z₀)
 
 abbrev μ-loop : tie.MeasureT-loop
-μ-loop tau alpha b n i z₀ j₀ z j = n - j
+μ-loop parameters b n i z₀ j₀ z j = n - j
 
 loop-holds : tie.Need-loop-holds Inv-loop μ-loop
 unfolding fillFrom

@@ -10,10 +10,10 @@ use Rattle.nrtl_tables.proofs.arguments.Statement.{statement}
 use Rattle.nrtl_tables.proofs.arguments.Tie as tie
 
 abbrev Inv-loop : tie.InvT-loop
-Inv-loop tau alpha b n z₀ i₀ z i = (i ≤ n) × (z ≡ fillRows (argumentIJ tau alpha b) n i z₀)
+Inv-loop parameters b n z₀ i₀ z i = (i ≤ n) × (z ≡ fillRows (argumentIJ parameters b) n i z₀)
 
 abbrev μ-loop : tie.MeasureT-loop
-μ-loop tau alpha b n z₀ i₀ z i = n - i
+μ-loop parameters b n z₀ i₀ z i = n - i
 
 loop-holds : tie.Need-loop-holds Inv-loop μ-loop
 unfolding fillRows

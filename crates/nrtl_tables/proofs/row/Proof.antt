@@ -12,10 +12,10 @@ use Rattle.nrtl_tables.proofs.row.Statement.{statement}
 use Rattle.nrtl_tables.proofs.row.Tie as tie
 
 abbrev Inv-loop : tie.InvT-loop
-Inv-loop tau alpha b w n i table₀ j₀ table j = (j ≤ n) × (table ≡ tableRow (tauIJ tau b i) (gFrom tau alpha b w i) i j table₀)
+Inv-loop parameters b w n i table₀ j₀ table j = (j ≤ n) × (table ≡ tableRow (tauIJ parameters b i) (gFrom parameters b w i) i j table₀)
 
 abbrev μ-loop : tie.MeasureT-loop
-μ-loop tau alpha b w n i table₀ j₀ table j = n - j
+μ-loop parameters b w n i table₀ j₀ table j = n - j
 
 loop-holds : tie.Need-loop-holds Inv-loop μ-loop
 unfolding foldTo

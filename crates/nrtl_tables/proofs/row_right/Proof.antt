@@ -10,10 +10,10 @@ use Rattle.nrtl_tables.proofs.row_right.Statement.{statement}
 use Rattle.nrtl_tables.proofs.row_right.Tie as tie
 
 abbrev Inv-loop : tie.InvT-loop
-Inv-loop alpha b n i right₀ j₀ right j = (j ≤ n) × (right ≡ allTo (alphaRight alpha b i) j)
+Inv-loop parameters b n i right₀ j₀ right j = (j ≤ n) × (right ≡ allTo (alphaRight parameters b i) j)
 
 abbrev μ-loop : tie.MeasureT-loop
-μ-loop alpha b n i right₀ j₀ right j = n - j
+μ-loop parameters b n i right₀ j₀ right j = n - j
 
 loop-holds : tie.Need-loop-holds Inv-loop μ-loop
 unfolding allTo

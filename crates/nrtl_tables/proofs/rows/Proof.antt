@@ -12,10 +12,10 @@ use Rattle.nrtl_tables.proofs.rows.Statement.{statement}
 use Rattle.nrtl_tables.proofs.rows.Tie as tie
 
 abbrev Inv-loop : tie.InvT-loop
-Inv-loop tau alpha b w n table₀ i₀ table i = (i ≤ n) × (table ≡ tableRows (tauIJ tau b) (gFrom tau alpha b w) n i table₀)
+Inv-loop parameters b w n table₀ i₀ table i = (i ≤ n) × (table ≡ tableRows (tauIJ parameters b) (gFrom parameters b w) n i table₀)
 
 abbrev μ-loop : tie.MeasureT-loop
-μ-loop tau alpha b w n table₀ i₀ table i = n - i
+μ-loop parameters b w n table₀ i₀ table i = n - i
 
 loop-holds : tie.Need-loop-holds Inv-loop μ-loop
 unfolding foldTo

@@ -1,7 +1,7 @@
 -- `nrtl_tables::tau_of` meets its contract. Assumes nothing.
 use native.Mathlib.Omega.{arith}
 use borrow.Author.Needs.{needs}
-use Rattle.nrtl_tables.specs.Pair.{tauJ}
+use Rattle.nrtl_tables.proofs.Stores.{tau-made}
 use Rattle.nrtl_tables.proofs.tau_of.Statement.{statement}
 use Rattle.nrtl_tables.proofs.tau_of.Tie as tie
 
@@ -72,8 +72,7 @@ add-requires-3 : tie.Need-add-requires-3
 add-requires-3 c κs = search needs
 
 returns : tie.Need-returns
-unfolding tauJ
-returns c = rw (← c .before .before .before .before .before .before .before .before .before .constant .ensures, ← c .before .before .before .before .before .before .before .scale .ensures, ← c .before .before .before .before .before .before .add .ensures, ← c .before .before .before .before .scale2 .ensures, ← c .before .before .before .add2 .ensures, ← c .before .scale3 .ensures) (c .add3 .ensures)
+returns c = search tau-made
 
 pub tau-of-spec : {M : Type 1} → statement M
 tau-of-spec =

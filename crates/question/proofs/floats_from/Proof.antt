@@ -4,7 +4,7 @@ use mathlib.Core.Path.{_≡_, refl}
 use native.Mathlib.Omega.{arith}
 use borrow.Author.Needs.{needs}
 use lib.ListN.{length, length-set}
-use Rattle.floats.specs.Small.{floatOf}
+use Rattle.floats.specs.Small.{float}
 use Rattle.floats.specs.Vector.{fill, vec}
 use Rattle.floats.proofs.Fills.{fill-turn, fill-done}
 use Rattle.blocks.specs.Words.{word}
@@ -12,10 +12,13 @@ use Rattle.question.proofs.floats_from.Statement.{statement}
 use Rattle.question.proofs.floats_from.Tie as tie
 
 abbrev Inv-loop : tie.InvT-loop
-Inv-loop q from n x₀ i₀ x i = (i ≤ n) × (x ≡ vec (λ k. floatOf (word q (from + k))) i) × (length x ≡ 8)
+Inv-loop q from n m x₀ i₀ x i = (i ≤ m) × (x ≡ vec (λ k. float (word q) (from + k)) i) × (length x ≡ 8)
 
 abbrev μ-loop : tie.MeasureT-loop
-μ-loop q from n x₀ i₀ x i = n - i
+μ-loop q from n m x₀ i₀ x i = m - i
+
+places-requires : tie.Need-places-requires Inv-loop μ-loop
+places-requires c κs = search needs
 
 loop-holds : tie.Need-loop-holds Inv-loop μ-loop
 unfolding fill
@@ -43,7 +46,9 @@ loop-again : tie.Need-loop-again Inv-loop μ-loop
 loop-again c = (omega arith, fill-turn _ _ _ (c .float-at .ensures) (c .before .before .loop .inv .1), simp length-set (c .before .before .loop .inv .2))
 
 returns : tie.Need-returns Inv-loop μ-loop
-returns c = let e : c .before .loop .i ≡ c .before .before .before .args .n = omega arith in fill-done _ _ _ _ e (c .before .loop .inv .1)
+returns c = let m = c .before .before in
+    let e : c .before .loop .i ≡ m .places .result = omega arith in
+    rw (← m .places .ensures) (fill-done _ _ _ _ e (c .before .loop .inv .1))
 
 pub floats-from-spec : {M : Type 1} → statement M
 floats-from-spec =
@@ -51,6 +56,7 @@ floats-from-spec =
     (tie.spec
     Inv-loop
     μ-loop
+    places-requires
     loop-holds
     add-float-at
     float-at-requires

@@ -6,15 +6,12 @@ use Rattle.question.proofs.is_task.Statement.{statement}
 use Rattle.question.proofs.is_task.Tie as tie
 
 returns : tie.Need-returns
-unfolding isTask
 returns c = let k = c .before .before .args .task in rw (inside 1 9 k (omega arith) (omega arith))
 
 returns-2 : tie.Need-returns-2
-unfolding isTask
 returns-2 c = let k = c .before .args .task in rw (below 1 9 k (omega arith))
 
 returns-3 : tie.Need-returns-3
-unfolding isTask
 returns-3 c = let k = c .before .before .args .task in rw (above 1 9 k (omega arith))
 
 pub is-task-spec : {M : Type 1} → statement M

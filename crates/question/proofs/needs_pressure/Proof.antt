@@ -7,19 +7,15 @@ use Rattle.question.proofs.needs_pressure.Statement.{statement}
 use Rattle.question.proofs.needs_pressure.Tie as tie
 
 returns : tie.Need-returns
-unfolding needsPressure
 returns c = let k = c .before .before .args .task in rw (below 4 5 k (omega arith), ne-eqb k 7 (omega arith))
 
 returns-2 : tie.Need-returns-2
-unfolding needsPressure
 returns-2 c = let k = c .before .before .before .args .task in rw (above 4 5 k (omega arith), ne-eqb k 7 (omega arith))
 
 returns-3 : tie.Need-returns-3
-unfolding needsPressure
 returns-3 c = let k = c .before .args .task in rw (above 4 5 k (omega arith), eq-eqb k 7 (omega arith))
 
 returns-4 : tie.Need-returns-4
-unfolding needsPressure
 returns-4 c = let k = c .before .before .before .args .task in rw (inside 4 5 k (omega arith) (omega arith))
 
 pub needs-pressure-spec : {M : Type 1} → statement M

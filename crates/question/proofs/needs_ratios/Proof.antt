@@ -6,15 +6,12 @@ use Rattle.question.proofs.needs_ratios.Statement.{statement}
 use Rattle.question.proofs.needs_ratios.Tie as tie
 
 returns : tie.Need-returns
-unfolding needsRatios
 returns c = let k = c .before .before .args .task in rw (inside 8 9 k (omega arith) (omega arith))
 
 returns-2 : tie.Need-returns-2
-unfolding needsRatios
 returns-2 c = let k = c .before .args .task in rw (below 8 9 k (omega arith))
 
 returns-3 : tie.Need-returns-3
-unfolding needsRatios
 returns-3 c = let k = c .before .before .args .task in rw (above 8 9 k (omega arith))
 
 pub needs-ratios-spec : {M : Type 1} → statement M

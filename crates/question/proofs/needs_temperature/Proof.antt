@@ -6,23 +6,18 @@ use Rattle.question.proofs.needs_temperature.Statement.{statement}
 use Rattle.question.proofs.needs_temperature.Tie as tie
 
 returns : tie.Need-returns
-unfolding needsTemperature
 returns c = let k = c .before .before .args .task in rw (inside 1 3 k (omega arith) (omega arith))
 
 returns-2 : tie.Need-returns-2
-unfolding needsTemperature
 returns-2 c = let k = c .before .before .before .before .args .task in rw (above 1 3 k (omega arith), inside 6 7 k (omega arith) (omega arith))
 
 returns-3 : tie.Need-returns-3
-unfolding needsTemperature
 returns-3 c = let k = c .before .args .task in rw (below 1 3 k (omega arith), below 6 7 k (omega arith))
 
 returns-4 : tie.Need-returns-4
-unfolding needsTemperature
 returns-4 c = let k = c .before .before .before .args .task in rw (above 1 3 k (omega arith), below 6 7 k (omega arith))
 
 returns-5 : tie.Need-returns-5
-unfolding needsTemperature
 returns-5 c = let k = c .before .before .before .before .args .task in rw (above 1 3 k (omega arith), above 6 7 k (omega arith))
 
 pub needs-temperature-spec : {M : Type 1} → statement M

@@ -1,16 +1,47 @@
 -- `question::read_question` meets its contract. Assumes nothing.
 use borrow.Author.Needs.{needs}
+use Rattle.question.specs.Asked.{questionOf}
+use Rattle.question.proofs.Laws.{task-no, task-yes}
 use Rattle.question.proofs.read_question.Statement.{statement}
 use Rattle.question.proofs.read_question.Tie as tie
 
-places-requires : tie.Need-places-requires
-places-requires c κs = search needs
+read-task-requires : tie.Need-read-task-requires
+read-task-requires c κs = search needs
 
-from-11-requires : tie.Need-from-11-requires
-from-11-requires c κs = search needs
+enum-known-task : tie.Need-enum-known-task
+enum-known-task c = search needs
+
+refused-requires : tie.Need-refused-requires
+refused-requires c κs = search needs
+
+enum-told : tie.Need-enum-told
+enum-told c = search needs
+
+read-feed-requires : tie.Need-read-feed-requires
+read-feed-requires c κs = search needs
+
+read-rest-requires : tie.Need-read-rest-requires
+read-rest-requires c κs = search needs
 
 returns : tie.Need-returns
-returns c = rw (← c .before .places .ensures) (c .from-11 .ensures)
+unfolding questionOf
+returns c = search task-no
+
+returns-2 : tie.Need-returns-2
+unfolding questionOf
+returns-2 c = let feed = c .before .before in
+    let told = feed .before in
+    task-yes _ _ (told .before .before .read-task .ensures) (told .enum-told .given .1) (rw (feed .read-feed .ensures) at (c .read-rest .ensures))
 
 pub read-question-spec : {M : Type 1} → statement M
-read-question-spec = tie.close (tie.spec places-requires from-11-requires returns)
+read-question-spec =
+    tie.close
+    (tie.spec
+    read-task-requires
+    enum-known-task
+    refused-requires
+    enum-told
+    read-feed-requires
+    read-rest-requires
+    returns
+    returns-2)

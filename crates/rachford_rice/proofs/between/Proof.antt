@@ -23,14 +23,24 @@ refused-requires-2 c κs = search needs
 
 returns-2 : tie.Need-returns-2
 unfolding between need splitOf
-returns-2 c = rw (← c .before .before .before .before .k-max .ensures, c .before .before .before .if1 .left, ← c .before .before .k-min .ensures, c .before .if2 .taken) (c .refused2 .ensures)
+returns-2 c = rw (
+  ← c .before .before .before .before .k-max .ensures,
+  c .before .before .before .if1 .left,
+  ← c .before .before .k-min .ensures,
+  c .before .if2 .taken,
+) (c .refused2 .ensures)
 
 iterate-requires : tie.Need-iterate-requires
 iterate-requires c κs = search needs
 
 returns-3 : tie.Need-returns-3
 unfolding between need
-returns-3 c = rw (← c .before .before .before .before .k-max .ensures, c .before .before .before .if1 .left, ← c .before .before .k-min .ensures, c .before .if2 .left) (c .iterate .ensures)
+returns-3 c = rw (
+  ← c .before .before .before .before .k-max .ensures,
+  c .before .before .before .if1 .left,
+  ← c .before .before .k-min .ensures,
+  c .before .if2 .left,
+) (c .iterate .ensures)
 
 pub between-spec : {M : Type 1} → statement M
 between-spec =

@@ -12,7 +12,8 @@ use Rattle.rachford_rice.proofs.residual_and_slope.Statement.{statement
 use Rattle.rachford_rice.proofs.residual_and_slope.Tie as tie
 
 abbrev Inv-loop : tie.InvT-loop
-Inv-loop z k n beta residual₀ squares₀ i₀ residual squares i = (i ≤ n) × (residual ≡ residualOf (at z) (at k) i beta) × (squares ≡ slopeSum (at z) (at k) beta i)
+Inv-loop z k n beta residual₀ squares₀ i₀ residual squares i = (i ≤ n) × (residual ≡ residualOf (at z) (at k) i beta)
+    × (squares ≡ slopeSum (at z) (at k) beta i)
 
 abbrev μ-loop : tie.MeasureT-loop
 μ-loop z k n beta residual₀ squares₀ i₀ residual squares i = n - i
@@ -44,7 +45,12 @@ loop-less c = omega arith
 
 loop-again : tie.Need-loop-again Inv-loop μ-loop
 unfolding residualOf
-loop-again c = (omega arith, fold-turn _ _ _ (c .add-terms .ensures .0) (c .before .before .before .before .loop .inv .1), slope-turn _ _ _ _ (c .add-terms .ensures .1) (c .before .before .before .before .loop .inv .2))
+loop-again c = (
+  omega arith,
+  fold-turn _ _ _ (c .add-terms .ensures .0) (c .before .before .before .before .loop .inv .1),
+  slope-turn _ _ _ _
+      (c .add-terms .ensures .1) (c .before .before .before .before .loop .inv .2),
+)
 
 returns : tie.Need-returns Inv-loop μ-loop
 unfolding residualOf

@@ -23,7 +23,7 @@ abs-requires : tie.Need-abs-requires
 abs-requires c κs = search needs
 
 returns : tie.Need-returns
-returns c = solution-is _ _ _ (c .before .before .before .before .before .before .before .before .before .pre) _ (c .before .before .before .before .before .before .before .before .liquid-parts .ensures) (c .before .before .before .before .vapor-parts .ensures) _ (c .before .before .before .before .before .before .normalize .ensures) (c .before .before .normalize2 .ensures) (c .before .rachford-rice-residual .ensures) (c .abs .ensures)
+returns c = search solution-is
 
 pub solution-spec : {M : Type 1} → statement M
 solution-spec =

@@ -6,7 +6,7 @@ use borrow.Author.Needs.{needs}
 use Rattle.floats.proofs.Fills.{fill-turn, fill-done}
 use Rattle.floats.specs.Vector.{vec, fill}
 use Rattle.blocks.specs.Words.{word}
-use Rattle.book.specs.Book.{float}
+use Rattle.floats.specs.Small.{float}
 use Rattle.records.proofs.eight_floats.Statement.{statement}
 use Rattle.records.proofs.eight_floats.Tie as tie
 

@@ -4,14 +4,11 @@ use Rattle.records.specs.Records.{pairOf}
 use Rattle.records.proofs.pair_at.Statement.{statement}
 use Rattle.records.proofs.pair_at.Tie as tie
 
-tau-at-requires : tie.Need-tau-at-requires
-tau-at-requires c κs = search needs
+terms-at-requires : tie.Need-terms-at-requires
+terms-at-requires c κs = search needs
 
-tau-at-requires-2 : tie.Need-tau-at-requires-2
-tau-at-requires-2 c κs = search needs
-
-alpha-at-requires : tie.Need-alpha-at-requires
-alpha-at-requires c κs = search needs
+terms-at-requires-2 : tie.Need-terms-at-requires-2
+terms-at-requires-2 c κs = search needs
 
 regression-at-requires : tie.Need-regression-at-requires
 regression-at-requires c κs = search needs
@@ -21,6 +18,4 @@ unfolding pairOf
 returns c = cc
 
 pub pair-at-spec : {M : Type 1} → statement M
-pair-at-spec =
-    tie.close
-    (tie.spec tau-at-requires tau-at-requires-2 alpha-at-requires regression-at-requires returns)
+pair-at-spec = tie.close (tie.spec terms-at-requires terms-at-requires-2 regression-at-requires returns)

@@ -1,5 +1,6 @@
 -- `records::pair_record` meets its contract. From what the callees ensure. Assumes nothing.
 use borrow.Author.Needs.{needs}
+use Rattle.records.proofs.Rows.{pair-placed}
 use Rattle.records.proofs.pair_record.Statement.{statement}
 use Rattle.records.proofs.pair_record.Tie as tie
 
@@ -19,7 +20,7 @@ pair-at-requires : tie.Need-pair-at-requires
 pair-at-requires c κs = search needs
 
 returns : tie.Need-returns
-returns c = let p = c .before in rw (p .before .before .before .places .ensures, p .before .before .places2 .ensures, p .before .places3 .ensures) at (rw (p .pair-block .ensures) at (c .pair-at .ensures))
+returns c = search pair-placed
 
 pub pair-record-spec : {M : Type 1} → statement M
 pair-record-spec =

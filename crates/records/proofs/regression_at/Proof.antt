@@ -23,7 +23,14 @@ word-requires-2 c κs = search needs
 
 returns-2 : tie.Need-returns-2
 unfolding regressionOf
-returns-2 c = rw (← c .before .before .before .before .word .ensures, ne-eqb _ _ (c .before .before .before .if1 .left), ← c .before .before .float-at .ensures, ← c .before .float-at2 .ensures, ← c .word2 .ensures)
+returns-2 c =
+    rw (
+      ← c .before .before .before .before .word .ensures,
+      ne-eqb _ _ (c .before .before .before .if1 .left),
+      ← c .before .before .float-at .ensures,
+      ← c .before .float-at2 .ensures,
+      ← c .word2 .ensures,
+    )
 
 pub regression-at-spec : {M : Type 1} → statement M
 regression-at-spec =

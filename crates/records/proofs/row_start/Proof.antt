@@ -24,7 +24,8 @@ add-result-2 : tie.Need-add-result-2
 add-result-2 c = omega (arith, row-high (c .args .n) (c .args .i) (c .pre .0) (c .pre .1))
 
 returns : tie.Need-returns
-returns c = let e = row-code (c .args .n) (c .args .i) (c .pre .0) (c .pre .1) in (e, omega (arith, e, row-few (c .args .n) (c .args .i) (c .pre .0) (c .pre .1)))
+returns c = let e = row-code (c .args .n) (c .args .i) (c .pre .0) (c .pre .1) in
+    (e, omega (arith, e, row-few (c .args .n) (c .args .i) (c .pre .0) (c .pre .1)))
 
 pub row-start-spec : {M : Type 1} → statement M
 row-start-spec =

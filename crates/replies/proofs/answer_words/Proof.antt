@@ -1,9 +1,14 @@
 -- `replies::answer_words` meets its contract. Assumes nothing.
-use mathlib.Core.Path.{_∙_}
 use borrow.Author.Needs.{needs}
-use Rattle.replies.specs.Blocks.{answerWords}
+use Rattle.replies.proofs.Laws.{answer-made}
 use Rattle.replies.proofs.answer_words.Statement.{statement}
 use Rattle.replies.proofs.answer_words.Tie as tie
+
+state-words-requires : tie.Need-state-words-requires
+state-words-requires c κs = search needs
+
+model-words-requires : tie.Need-model-words-requires
+model-words-requires c κs = search needs
 
 array-write-ws : tie.Need-array-write-ws
 array-write-ws c = search needs
@@ -14,8 +19,11 @@ array-write-ws-2 c = search needs
 array-write-ws-3 : tie.Need-array-write-ws-3
 array-write-ws-3 c = search needs
 
-put-state-requires : tie.Need-put-state-requires
-put-state-requires c κs = search needs
+slice-aggregate-put-words : tie.Need-slice-aggregate-put-words
+slice-aggregate-put-words c = search needs
+
+put-words-requires : tie.Need-put-words-requires
+put-words-requires c κs = search needs
 
 put-floats-requires : tie.Need-put-floats-requires
 put-floats-requires c κs = search needs
@@ -23,22 +31,28 @@ put-floats-requires c κs = search needs
 put-floats-requires-2 : tie.Need-put-floats-requires-2
 put-floats-requires-2 c κs = search needs
 
-put-model-requires : tie.Need-put-model-requires
-put-model-requires c κs = search needs
+slice-aggregate-put-words-2 : tie.Need-slice-aggregate-put-words-2
+slice-aggregate-put-words-2 c = search needs
+
+put-words-requires-2 : tie.Need-put-words-requires-2
+put-words-requires-2 c κs = search needs
 
 returns : tie.Need-returns
-unfolding answerWords
-returns c = c .put-model .ensures ∙ rw (c .before .before .put-floats2 .ensures, c .before .before .before .before .put-floats .ensures, c .before .before .before .before .before .before .put-state .ensures)
+returns c = search answer-made
 
 pub answer-words-spec : {M : Type 1} → statement M
 answer-words-spec =
     tie.close
     (tie.spec
+    state-words-requires
+    model-words-requires
     array-write-ws
     array-write-ws-2
     array-write-ws-3
-    put-state-requires
+    slice-aggregate-put-words
+    put-words-requires
     put-floats-requires
     put-floats-requires-2
-    put-model-requires
+    slice-aggregate-put-words-2
+    put-words-requires-2
     returns)

@@ -1,6 +1,6 @@
 -- `replies::model_words` meets its contract. Assumes nothing.
 use borrow.Author.Needs.{needs}
-use Rattle.replies.specs.Blocks.{modelWords}
+use Rattle.replies.proofs.Laws.{model-made}
 use Rattle.replies.proofs.model_words.Statement.{statement}
 use Rattle.replies.proofs.model_words.Tie as tie
 
@@ -19,9 +19,17 @@ bits-of-requires-4 c κs = search needs
 bits-of-requires-5 : tie.Need-bits-of-requires-5
 bits-of-requires-5 c κs = search needs
 
+status-number-requires : tie.Need-status-number-requires
+status-number-requires c κs = search needs
+
+bit-requires : tie.Need-bit-requires
+bit-requires c κs = search needs
+
+bit-requires-2 : tie.Need-bit-requires-2
+bit-requires-2 c κs = search needs
+
 returns : tie.Need-returns
-unfolding modelWords
-returns c = rw (c .before .before .before .before .bits-of .ensures, c .before .before .before .bits-of2 .ensures, c .before .before .bits-of3 .ensures, c .before .bits-of4 .ensures, c .bits-of5 .ensures)
+returns c = search model-made
 
 pub model-words-spec : {M : Type 1} → statement M
 model-words-spec =
@@ -32,4 +40,7 @@ model-words-spec =
     bits-of-requires-3
     bits-of-requires-4
     bits-of-requires-5
+    status-number-requires
+    bit-requires
+    bit-requires-2
     returns)

@@ -1,6 +1,6 @@
 -- `replies::phase_number` meets its contract. Assumes nothing.
 use borrow.Author.Needs.{needs}
-use Rattle.replies.specs.Numbers.{phaseNumber}
+use Rattle.replies.specs.Answers.{phaseNumber}
 use Rattle.replies.proofs.phase_number.Statement.{statement}
 use Rattle.replies.proofs.phase_number.Tie as tie
 

@@ -1,6 +1,6 @@
 -- `replies::state_words` meets its contract. Assumes nothing.
 use borrow.Author.Needs.{needs}
-use Rattle.replies.specs.Blocks.{stateWords}
+use Rattle.replies.proofs.Laws.{state-made}
 use Rattle.replies.proofs.state_words.Statement.{statement}
 use Rattle.replies.proofs.state_words.Tie as tie
 
@@ -26,8 +26,7 @@ bits-of-requires-7 : tie.Need-bits-of-requires-7
 bits-of-requires-7 c κs = search needs
 
 returns : tie.Need-returns
-unfolding stateWords
-returns c = rw (c .before .before .before .before .before .before .bits-of .ensures, c .before .before .before .before .before .bits-of2 .ensures, c .before .before .before .before .bits-of3 .ensures, c .before .before .before .bits-of4 .ensures, c .before .before .bits-of5 .ensures, c .before .bits-of6 .ensures, c .bits-of7 .ensures)
+returns c = search state-made
 
 pub state-words-spec : {M : Type 1} → statement M
 state-words-spec =

@@ -1,6 +1,6 @@
 -- `replies::status_number` meets its contract. Assumes nothing.
 use borrow.Author.Needs.{needs}
-use Rattle.replies.specs.Numbers.{statusNumber}
+use Rattle.replies.specs.Blocks.{statusNumber}
 use Rattle.replies.proofs.status_number.Statement.{statement}
 use Rattle.replies.proofs.status_number.Tie as tie
 

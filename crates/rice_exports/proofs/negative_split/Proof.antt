@@ -24,13 +24,19 @@ rachford-rice-negative-requires : tie.Need-rachford-rice-negative-requires
 rachford-rice-negative-requires c κs = search needs
 
 put-answer-requires : tie.Need-put-answer-requires
-put-answer-requires c κs = (sizes _ _ _ (c .before .before .before .before .before .before .if1 .left) (c .before .before .before .before .before .before .before .are-sized .ensures) .2, λ m q. negative-low _ _ _ _ (c .before .rachford-rice-negative .ensures) q)
+put-answer-requires c κs =
+    let e = c .before .before .before .before .before in
+    (sizes _ _ _ (e .before .if1 .left) (e .before .before .are-sized .ensures) .2, λ m q. negative-low _ _ _ _ (c .before .rachford-rice-negative .ensures) q)
 
 same-length-2 : tie.Need-same-length-2
 same-length-2 c = search needs
 
 returns-2 : tie.Need-returns-2
-returns-2 c = answered _ _ _ _ (c .before .before .before .before .before .before .before .before .before .before .are-sized .ensures) (c .before .before .before .before .before .before .before .before .before .if1 .left) (rw (← c .before .before .before .before .before .before .before .before .eight .ensures, ← c .before .before .before .before .before .before .before .eight2 .ensures) (c .before .before .before .before .rachford-rice-negative .ensures)) (c .before .before .put-answer .ensures .0) (c .before .before .put-answer .ensures .1)
+returns-2 c =
+    let a = c .before .before .before .before in
+    let e = a .before .before .before in
+    answered _ _ _ _ (e .before .before .before .are-sized .ensures) (e .before .before .if1 .left) (rw (← e .before .eight .ensures, ← e .eight2 .ensures) (a .rachford-rice-negative .ensures))
+    (c .before .before .put-answer .ensures .0) (c .before .before .put-answer .ensures .1)
 
 pub negative-split-spec : {M : Type 1} → statement M
 negative-split-spec =

@@ -9,7 +9,9 @@ enum-known-verdict : tie.Need-enum-known-verdict
 enum-known-verdict c = search needs
 
 add-result : tie.Need-add-result
-add-result c = omega (arith, c .before .before .before .before .before .before .pre .1 _ (c .before .verdict .given .1))
+add-result c =
+    let s = c .before .before .before in
+    omega (arith, s .before .before .before .pre .1 _ (c .before .verdict .given .1))
 
 enum-told : tie.Need-enum-told
 enum-told c = search needs
@@ -24,7 +26,9 @@ same-length : tie.Need-same-length
 same-length c = search needs
 
 returns-2 : tie.Need-returns-2
-returns-2 c = as-passed _ _ (c .before .before .before .before .before .before .enum-told .given .1) (c .before .before .put-phases .ensures .0) (c .before .before .put-phases .ensures .1)
+returns-2 c =
+    let p = c .before .before in
+    as-passed _ _ (p .before .before .before .before .enum-told .given .1) (p .put-phases .ensures .0) (p .put-phases .ensures .1)
 
 pub put-answer-spec : {M : Type 1} → statement M
 put-answer-spec =

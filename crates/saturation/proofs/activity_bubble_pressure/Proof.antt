@@ -13,17 +13,20 @@ enum-known-verdict c = search needs
 no-saturation-requires : tie.Need-no-saturation-requires
 no-saturation-requires c κs = search needs
 
+returns : tie.Need-returns
+returns c = search bubble-task-refused
+
 enum-told : tie.Need-enum-told
 enum-told c = search needs
+
+tables-requires : tie.Need-tables-requires
+tables-requires c κs = search needs
 
 bubble-pressure-requires : tie.Need-bubble-pressure-requires
 bubble-pressure-requires c κs = search needs
 
-returns : tie.Need-returns
-returns c = bubble-task-refused _ _ _ _ (c .before .before .before .before .pure-liquids .ensures) _ (c .before .before .verdict .given .1) (c .no-saturation .ensures)
-
 returns-2 : tie.Need-returns-2
-returns-2 c = bubble-task-passed _ _ _ _ (c .before .before .before .before .pure-liquids .ensures) _ (c .before .before .enum-told .given .1) (c .bubble-pressure .ensures)
+returns-2 c = search bubble-task-passed
 
 pub activity-bubble-pressure-spec : {M : Type 1} → statement M
 activity-bubble-pressure-spec =
@@ -32,7 +35,8 @@ activity-bubble-pressure-spec =
     pure-liquids-requires
     enum-known-verdict
     no-saturation-requires
-    enum-told
-    bubble-pressure-requires
     returns
+    enum-told
+    tables-requires
+    bubble-pressure-requires
     returns-2)

@@ -13,17 +13,20 @@ enum-known-verdict c = search needs
 no-saturation-requires : tie.Need-no-saturation-requires
 no-saturation-requires c κs = search needs
 
+returns : tie.Need-returns
+returns c = search dew-task-refused
+
 enum-told : tie.Need-enum-told
 enum-told c = search needs
+
+tables-requires : tie.Need-tables-requires
+tables-requires c κs = search needs
 
 dew-pressure-requires : tie.Need-dew-pressure-requires
 dew-pressure-requires c κs = search needs
 
-returns : tie.Need-returns
-returns c = dew-task-refused _ _ _ _ (c .before .before .before .before .pure-liquids .ensures) _ _ _ (c .before .before .verdict .given .1) (c .no-saturation .ensures)
-
 returns-2 : tie.Need-returns-2
-returns-2 c = dew-task-passed _ _ _ _ (c .before .before .before .before .pure-liquids .ensures) _ _ _ (c .before .before .enum-told .given .1) (c .dew-pressure .ensures)
+returns-2 c = search dew-task-passed
 
 pub activity-dew-pressure-spec : {M : Type 1} → statement M
 activity-dew-pressure-spec =
@@ -32,7 +35,8 @@ activity-dew-pressure-spec =
     pure-liquids-requires
     enum-known-verdict
     no-saturation-requires
-    enum-told
-    dew-pressure-requires
     returns
+    enum-told
+    tables-requires
+    dew-pressure-requires
     returns-2)

@@ -1,12 +1,8 @@
 -- `saturation::bubble_pressure` meets its contract. Assumes nothing.
 use borrow.Author.Needs.{needs}
-use Rattle.thermo_models.proofs.Answers.{tabled-fresh}
 use Rattle.saturation.proofs.Laws.{task-refused, task-outside, task-infinite, task-good}
 use Rattle.saturation.proofs.bubble_pressure.Statement.{statement}
 use Rattle.saturation.proofs.bubble_pressure.Tie as tie
-
-tables-requires : tie.Need-tables-requires
-tables-requires c κs = search needs
 
 bubble-at-requires : tie.Need-bubble-at-requires
 bubble-at-requires c κs = search needs
@@ -18,7 +14,7 @@ no-saturation-requires : tie.Need-no-saturation-requires
 no-saturation-requires c κs = search needs
 
 returns : tie.Need-returns
-returns c = task-refused _ _ _ _ _ (rw (tabled-fresh (c .before .before .before .before .before .before .tables .ensures)) at (c .before .before .before .before .bubble-at .ensures)) (c .before .before .verdict .given .1) (c .no-saturation .ensures)
+returns c = search task-refused
 
 enum-told : tie.Need-enum-told
 enum-told c = search needs
@@ -30,7 +26,7 @@ no-saturation-requires-2 : tie.Need-no-saturation-requires-2
 no-saturation-requires-2 c κs = search needs
 
 returns-2 : tie.Need-returns-2
-returns-2 c = task-outside _ _ _ _ _ (rw (tabled-fresh (c .before .before .before .before .before .before .before .tables .ensures)) at (c .before .before .before .before .before .bubble-at .ensures)) (c .before .before .before .enum-told .given .1) (c .before .before .check-pressure .ensures) (c .before .if1 .taken) (c .no-saturation2 .ensures)
+returns-2 c = search task-outside
 
 residual-requires : tie.Need-residual-requires
 residual-requires c κs = search needs
@@ -48,16 +44,15 @@ value-requires : tie.Need-value-requires
 value-requires c κs = search needs
 
 returns-3 : tie.Need-returns-3
-returns-3 c = task-infinite _ _ _ _ _ (rw (tabled-fresh (c .before .before .before .before .before .before .before .before .before .before .before .before .before .before .tables .ensures)) at (c .before .before .before .before .before .before .before .before .before .before .before .before .bubble-at .ensures)) (c .before .before .before .before .before .before .before .before .before .before .enum-told .given .1) (c .before .before .before .before .before .before .before .before .before .check-pressure .ensures) (c .before .before .before .before .before .before .before .before .if1 .left) (rw (tabled-fresh (c .before .before .before .before .before .before .before .before .before .before .before .before .before .before .tables .ensures)) at (c .before .before .before .before .residual .ensures)) (c .before .before .finite .given .1) (c .no-saturation3 .ensures)
+returns-3 c = search task-infinite
 
 returns-4 : tie.Need-returns-4
-returns-4 c = task-good _ _ _ _ _ (rw (tabled-fresh (c .before .before .before .before .before .before .before .before .before .before .before .before .before .before .tables .ensures)) at (c .before .before .before .before .before .before .before .before .before .before .before .before .bubble-at .ensures)) (c .before .before .before .before .before .before .before .before .before .before .enum-told .given .1) (c .before .before .before .before .before .before .before .before .before .check-pressure .ensures) (c .before .before .before .before .before .before .before .before .if1 .left) (rw (tabled-fresh (c .before .before .before .before .before .before .before .before .before .before .before .before .before .before .tables .ensures)) at (c .before .before .before .before .residual .ensures)) (c .before .before .enum-told2 .given .1) (c .before .value .ensures)
+returns-4 c = search task-good
 
 pub bubble-pressure-spec : {M : Type 1} → statement M
 bubble-pressure-spec =
     tie.close
     (tie.spec
-    tables-requires
     bubble-at-requires
     enum-known-verdict
     no-saturation-requires

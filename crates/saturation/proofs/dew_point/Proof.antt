@@ -1,6 +1,6 @@
 -- `saturation::dew_point` meets its contract. Assumes nothing.
 use borrow.Author.Needs.{needs}
-use Rattle.saturation.proofs.Laws.{places-is, point-refused, point-infinite, point-good}
+use Rattle.saturation.proofs.Laws.{point-refused, point-infinite, point-good}
 use Rattle.saturation.proofs.dew_point.Statement.{statement}
 use Rattle.saturation.proofs.dew_point.Tie as tie
 
@@ -17,7 +17,7 @@ no-dew-requires : tie.Need-no-dew-requires
 no-dew-requires c κs = search needs
 
 returns : tie.Need-returns
-returns c = point-refused _ _ _ _ _ (c .before .before .before .before .before .before .before .before .incipient .ensures) (rw (places-is _ (c .before .before .before .before .before .before .before .before .before .before .pre)) at (c .before .before .before .before .activity .ensures)) _ (c .before .before .verdict .given .1) (c .no-dew .ensures)
+returns c = search point-refused
 
 enum-told : tie.Need-enum-told
 enum-told c = search needs
@@ -35,10 +35,10 @@ enum-told-2 : tie.Need-enum-told-2
 enum-told-2 c = search needs
 
 returns-2 : tie.Need-returns-2
-returns-2 c = point-infinite _ _ _ _ _ (c .before .before .before .before .before .before .before .before .before .before .before .before .before .incipient .ensures) (rw (places-is _ (c .before .before .before .before .before .before .before .before .before .before .before .before .before .before .before .pre)) at (c .before .before .before .before .before .before .before .before .before .activity .ensures)) (c .before .before .before .before .before .before .before .enum-told .given .1) (rw (places-is _ (c .before .before .before .before .before .before .before .before .before .before .before .before .before .before .before .pre)) at (c .before .before .before .before .residual-with .ensures)) _ (c .before .before .found .given .1) (c .no-dew2 .ensures)
+returns-2 c = search point-infinite
 
 returns-3 : tie.Need-returns-3
-returns-3 c = point-good _ _ _ _ _ (c .before .before .before .before .before .before .before .before .before .before .before .incipient .ensures) (rw (places-is _ (c .before .before .before .before .before .before .before .before .before .before .before .before .before .pre)) at (c .before .before .before .before .before .before .before .activity .ensures)) (c .before .before .before .before .before .enum-told .given .1) (rw (places-is _ (c .before .before .before .before .before .before .before .before .before .before .before .before .before .pre)) at (c .before .before .residual-with .ensures)) _ (c .enum-told2 .given .1)
+returns-3 c = search point-good
 
 pub dew-point-spec : {M : Type 1} → statement M
 dew-point-spec =

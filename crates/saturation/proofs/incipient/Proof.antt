@@ -14,7 +14,7 @@ divided-requires : tie.Need-divided-requires
 divided-requires c κs = search needs
 
 returns : tie.Need-returns
-returns c = incipient-is _ _ _ _ (c .before .before .before .before .before .pre) _ (c .before .before .before .before .dew-terms .ensures) (c .before .before .sum .ensures) (c .divided .ensures)
+returns c = search incipient-is
 
 pub incipient-spec : {M : Type 1} → statement M
 incipient-spec = tie.close (tie.spec dew-terms-requires sum-requires divided-requires returns)

@@ -58,7 +58,7 @@ loop-less : tie.Need-loop-less Inv-loop μ-loop
 loop-less c = omega arith
 
 loop-again : tie.Need-loop-again Inv-loop μ-loop
-loop-again c = (omega arith, gap-turn _ _ _ _ _ _ (c .before .before .before .before .before .before .loop .inv .2) (c .larger-gap .ensures) (c .before .before .before .before .before .before .loop .inv .1), c .before .before .before .before .before .before .loop .inv .2)
+loop-again c = (omega arith, gap-turn _ _ _ _ _ _ (c .larger-gap .ensures) (search needs) (search needs), search needs)
 
 returns : tie.Need-returns Inv-loop μ-loop
 unfolding gapOf

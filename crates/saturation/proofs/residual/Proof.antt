@@ -17,10 +17,10 @@ residual-with-requires : tie.Need-residual-with-requires
 residual-with-requires c κs = search needs
 
 returns : tie.Need-returns
-returns c = residual-at-refused _ _ _ _ _ _ (c .before .before .before .activity .ensures) (c .before .verdict .given .1)
+returns c = search residual-at-refused
 
 returns-2 : tie.Need-returns-2
-returns-2 c = residual-at-passed _ _ _ _ _ _ (c .before .before .before .before .activity .ensures) (c .before .before .enum-told .given .1) (c .residual-with .ensures)
+returns-2 c = search residual-at-passed
 
 pub residual-spec : {M : Type 1} → statement M
 residual-spec =

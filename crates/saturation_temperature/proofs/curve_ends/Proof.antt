@@ -1,18 +1,17 @@
 -- `saturation_temperature::curve_ends` meets its contract. Assumes nothing.
-use mathlib.Core.Path.{_∙_}
 use borrow.Author.Needs.{needs}
-use Rattle.saturation_temperature.proofs.Searching.{point-refused, left-stopped, low-refused}
+use Rattle.saturation_temperature.proofs.Searching.{low-refused, high-refused, low-found, high-found, unbracketed, bracketed}
 use Rattle.saturation_temperature.proofs.curve_ends.Statement.{statement}
 use Rattle.saturation_temperature.proofs.curve_ends.Tie as tie
 
 curve-point-requires : tie.Need-curve-point-requires
 curve-point-requires c κs = search needs
 
-enum-known-verdict : tie.Need-enum-known-verdict
-enum-known-verdict c = search needs
+enum-known-low : tie.Need-enum-known-low
+enum-known-low c = search needs
 
-stopped-requires : tie.Need-stopped-requires
-stopped-requires c κs = search needs
+returns : tie.Need-returns
+returns c = search low-refused
 
 enum-told : tie.Need-enum-told
 enum-told c = search needs
@@ -20,24 +19,52 @@ enum-told c = search needs
 curve-point-requires-2 : tie.Need-curve-point-requires-2
 curve-point-requires-2 c κs = search needs
 
-start-requires : tie.Need-start-requires
-start-requires c κs = search needs
-
-returns : tie.Need-returns
-returns c = λ limit. left-stopped _ _ limit _ _ (c .stopped .ensures) ∙ low-refused _ _ _ _ limit (point-refused _ (c .before .before .before .before .curve-point .ensures) (c .before .before .verdict .given .1))
+enum-known-high : tie.Need-enum-known-high
+enum-known-high c = search needs
 
 returns-2 : tie.Need-returns-2
-returns-2 c = λ limit. c .start .ensures _ limit (c .before .before .enum-told .given .1) (c .before .before .before .before .curve-point .ensures) (c .before .curve-point2 .ensures)
+returns-2 c = search high-refused
+
+enum-told-2 : tie.Need-enum-told-2
+enum-told-2 c = search needs
+
+abs-requires : tie.Need-abs-requires
+abs-requires c κs = search needs
+
+returns-3 : tie.Need-returns-3
+returns-3 c = search low-found
+
+abs-requires-2 : tie.Need-abs-requires-2
+abs-requires-2 c κs = search needs
+
+returns-4 : tie.Need-returns-4
+returns-4 c = search high-found
+
+returns-5 : tie.Need-returns-5
+returns-5 c = search unbracketed
+
+middle-requires : tie.Need-middle-requires
+middle-requires c κs = search needs
+
+returns-6 : tie.Need-returns-6
+returns-6 c = search bracketed
 
 pub curve-ends-spec : {M : Type 1} → statement M
 curve-ends-spec =
     tie.close
     (tie.spec
     curve-point-requires
-    enum-known-verdict
-    stopped-requires
+    enum-known-low
+    returns
     enum-told
     curve-point-requires-2
-    start-requires
-    returns
-    returns-2)
+    enum-known-high
+    returns-2
+    enum-told-2
+    abs-requires
+    returns-3
+    abs-requires-2
+    returns-4
+    returns-5
+    middle-requires
+    returns-6)

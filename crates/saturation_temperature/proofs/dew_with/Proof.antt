@@ -1,22 +1,74 @@
 -- `saturation_temperature::dew_with` meets its contract. Assumes nothing.
 use borrow.Author.Needs.{needs}
-use lib.ListN.{length-replicate}
-use Rattle.floats.specs.Arithmetic.{0f}
-use Rattle.thermo_models.proofs.Answers.{tabled-is}
+use Rattle.saturation_temperature.proofs.Points.{dew-refuses, dew-infinite, dew-good}
 use Rattle.saturation_temperature.proofs.dew_with.Statement.{statement}
 use Rattle.saturation_temperature.proofs.dew_with.Tie as tie
-
-tables-requires : tie.Need-tables-requires
-tables-requires c κs = search needs
 
 dew-at-requires : tie.Need-dew-at-requires
 dew-at-requires c κs = search needs
 
-dew-answer-requires : tie.Need-dew-answer-requires
-dew-answer-requires c κs = search needs
+enum-known-verdict : tie.Need-enum-known-verdict
+enum-known-verdict c = search needs
+
+no-saturation-requires : tie.Need-no-saturation-requires
+no-saturation-requires c κs = search needs
 
 returns : tie.Need-returns
-returns c = λ dps. c .dew-answer .ensures _ dps (rw (tabled-is (c .before .before .before .tables .ensures) (length-replicate 512 0f)) at (c .before .dew-at .ensures))
+returns c = search dew-refuses
+
+enum-told : tie.Need-enum-told
+enum-told c = search needs
+
+residual-with-requires : tie.Need-residual-with-requires
+residual-with-requires c κs = search needs
+
+enum-known-finite : tie.Need-enum-known-finite
+enum-known-finite c = search needs
+
+no-saturation-requires-2 : tie.Need-no-saturation-requires-2
+no-saturation-requires-2 c κs = search needs
+
+enum-told-2 : tie.Need-enum-told-2
+enum-told-2 c = search needs
+
+value-requires : tie.Need-value-requires
+value-requires c κs = search needs
+
+ln-requires : tie.Need-ln-requires
+ln-requires c κs = search needs
+
+abs-requires : tie.Need-abs-requires
+abs-requires c κs = search needs
+
+max-requires : tie.Need-max-requires
+max-requires c κs = search needs
+
+wrapping-add-u64-requires : tie.Need-wrapping-add-u64-requires
+wrapping-add-u64-requires c κs = search needs
+
+returns-2 : tie.Need-returns-2
+returns-2 c = search dew-infinite
+
+returns-3 : tie.Need-returns-3
+returns-3 c = search dew-good
 
 pub dew-with-spec : {M : Type 1} → statement M
-dew-with-spec = tie.close (tie.spec tables-requires dew-at-requires dew-answer-requires returns)
+dew-with-spec =
+    tie.close
+    (tie.spec
+    dew-at-requires
+    enum-known-verdict
+    no-saturation-requires
+    returns
+    enum-told
+    residual-with-requires
+    enum-known-finite
+    no-saturation-requires-2
+    enum-told-2
+    value-requires
+    ln-requires
+    abs-requires
+    max-requires
+    wrapping-add-u64-requires
+    returns-2
+    returns-3)

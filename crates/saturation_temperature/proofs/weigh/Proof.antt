@@ -2,7 +2,7 @@
 use Prim.Native.Nat.{_≤_, _-_}
 use native.Mathlib.Omega.{arith}
 use borrow.Author.Needs.{needs}
-use Rattle.saturation_temperature.specs.Steps.{Weighed}
+use Rattle.saturation_temperature.specs.Answers.{Weighed}
 use Rattle.saturation_temperature.proofs.Points.{weighed-none, weighed-turn, weighed-done}
 use Rattle.saturation_temperature.proofs.weigh.Statement.{statement}
 use Rattle.saturation_temperature.proofs.weigh.Tie as tie
@@ -56,7 +56,7 @@ loop-less : tie.Need-loop-less Inv-loop μ-loop
 loop-less c = omega arith
 
 loop-again : tie.Need-loop-again Inv-loop μ-loop
-loop-again c = (omega arith, weighed-turn _ _ _ _ _ _ (c .before .before .before .before .before .before .before .loop .inv .1) (c .weighed .ensures))
+loop-again c = (omega arith, weighed-turn _ _ _ _ _ _ (c .weighed .ensures) (search needs))
 
 returns : tie.Need-returns Inv-loop μ-loop
 returns c = weighed-done _ _ _ _ _ _ _ (omega arith) (c .before .loop .inv .1)

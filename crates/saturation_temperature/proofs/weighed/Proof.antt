@@ -7,7 +7,10 @@ exp-requires : tie.Need-exp-requires
 exp-requires c κs = search needs
 
 returns : tie.Need-returns
-returns c = (rw (c .before .before .before .if1 .taken, c .before .before .exp .ensures), rw (c .before .before .before .if1 .taken, c .before .before .exp .ensures))
+returns c =
+    let positive = c .before .before .before .if1 .taken in
+    let exp = c .before .before .exp .ensures in
+    (rw (positive, exp), rw (positive, exp))
 
 returns-2 : tie.Need-returns-2
 returns-2 c = (rw (c .if1 .left), rw (c .if1 .left))

@@ -13,17 +13,17 @@ enum-known-opened c = search needs
 enum-known-opened-2 : tie.Need-enum-known-opened-2
 enum-known-opened-2 c = search needs
 
-from-10-requires : tie.Need-from-10-requires
-from-10-requires c κs = search needs
+answer-opened-requires : tie.Need-answer-opened-requires
+answer-opened-requires c κs = search needs
 
 returns : tie.Need-returns
-returns c = book-no _ _ _ (c .before .before .before .open-book .ensures) (c .before .opened .given .1)
+returns c = search book-no
 
 same-length : tie.Need-same-length
 same-length c = search needs
 
 returns-2 : tie.Need-returns-2
-returns-2 c = book-ok _ _ _ (c .before .before .before .before .before .before .before .open-book .ensures) (c .before .before .before .before .before .opened2 .given .1) (c .before .before .from-10 .ensures)
+returns-2 c = search book-ok
 
 pub answer-spec : {M : Type 1} → statement M
 answer-spec =
@@ -32,7 +32,7 @@ answer-spec =
     open-book-requires
     enum-known-opened
     enum-known-opened-2
-    from-10-requires
+    answer-opened-requires
     returns
     same-length
     returns-2)

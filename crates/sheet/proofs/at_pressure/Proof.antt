@@ -1,6 +1,7 @@
 -- `sheet::at_pressure` meets its contract. Assumes nothing.
 use borrow.Author.Needs.{needs}
-use Rattle.sheet.proofs.Replies.{pascal-no, pascal-ok, task-no, task-ok}
+use Rattle.sheet.proofs.Replies.{pressure-no}
+use Rattle.sheet.proofs.Dispatch.{pressure-given}
 use Rattle.sheet.proofs.at_pressure.Statement.{statement}
 use Rattle.sheet.proofs.at_pressure.Tie as tie
 
@@ -13,17 +14,20 @@ enum-known-made c = search needs
 enum-known-made-2 : tie.Need-enum-known-made-2
 enum-known-made-2 c = search needs
 
-reply-flash-requires : tie.Need-reply-flash-requires
-reply-flash-requires c κs = search needs
+parameters-requires : tie.Need-parameters-requires
+parameters-requires c κs = search needs
+
+task-under-requires : tie.Need-task-under-requires
+task-under-requires c κs = search needs
 
 returns : tie.Need-returns
-returns c = task-no _ _ (pascal-no _ (c .before .before .before .new .ensures) (c .before .made .given .1))
+returns c = search pressure-no
 
 same-length : tie.Need-same-length
 same-length c = search needs
 
 returns-2 : tie.Need-returns-2
-returns-2 c = task-ok _ _ (pascal-ok _ (c .before .before .before .before .before .before .before .new .ensures) (c .before .before .before .before .before .made2 .given .1)) (c .before .before .reply-flash .ensures)
+returns-2 c = search pressure-given
 
 pub at-pressure-spec : {M : Type 1} → statement M
 at-pressure-spec =
@@ -32,7 +36,8 @@ at-pressure-spec =
     new-requires
     enum-known-made
     enum-known-made-2
-    reply-flash-requires
+    parameters-requires
+    task-under-requires
     returns
     same-length
     returns-2)

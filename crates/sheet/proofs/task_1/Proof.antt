@@ -1,38 +1,40 @@
 -- `sheet::task_1` meets its contract. Assumes nothing.
 use borrow.Author.Needs.{needs}
-use Rattle.sheet.proofs.Replies.{kelvin-no, kelvin-ok, task-no, task-ok}
+use Rattle.sheet.specs.Tasks.{task1}
+use Rattle.sheet.proofs.Replies.{excess-asked}
 use Rattle.sheet.proofs.task_1.Statement.{statement}
 use Rattle.sheet.proofs.task_1.Tie as tie
 
-new-requires : tie.Need-new-requires
-new-requires c κs = search needs
+tables-requires : tie.Need-tables-requires
+tables-requires c κs = search needs
 
-enum-known-made : tie.Need-enum-known-made
-enum-known-made c = search needs
+excess-requires : tie.Need-excess-requires
+excess-requires c κs = search needs
 
-enum-known-made-2 : tie.Need-enum-known-made-2
-enum-known-made-2 c = search needs
+validity-requires : tie.Need-validity-requires
+validity-requires c κs = search needs
+
+value-requires : tie.Need-value-requires
+value-requires c κs = search needs
 
 reply-excess-requires : tie.Need-reply-excess-requires
 reply-excess-requires c κs = search needs
 
-returns : tie.Need-returns
-returns c = task-no _ _ (kelvin-no _ (c .before .before .before .new .ensures) (c .before .made .given .1))
-
 same-length : tie.Need-same-length
 same-length c = search needs
 
-returns-2 : tie.Need-returns-2
-returns-2 c = task-ok _ _ (kelvin-ok _ (c .before .before .before .before .before .before .before .new .ensures) (c .before .before .before .before .before .made2 .given .1)) (c .before .before .reply-excess .ensures)
+returns : tie.Need-returns
+unfolding task1
+returns c = search excess-asked
 
 pub task-1-spec : {M : Type 1} → statement M
 task-1-spec =
     tie.close
     (tie.spec
-    new-requires
-    enum-known-made
-    enum-known-made-2
+    tables-requires
+    excess-requires
+    validity-requires
+    value-requires
     reply-excess-requires
-    returns
     same-length
-    returns-2)
+    returns)

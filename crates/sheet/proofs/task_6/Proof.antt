@@ -1,38 +1,35 @@
 -- `sheet::task_6` meets its contract. Assumes nothing.
+use native.Mathlib.Omega.{arith}
 use borrow.Author.Needs.{needs}
-use Rattle.sheet.proofs.Replies.{kelvin-no, kelvin-ok, task-no, task-ok}
+use Rattle.sheet.proofs.Replies.{stability-fits, stability-says}
 use Rattle.sheet.proofs.task_6.Statement.{statement}
 use Rattle.sheet.proofs.task_6.Tie as tie
 
-new-requires : tie.Need-new-requires
-new-requires c κs = search needs
+tables-requires : tie.Need-tables-requires
+tables-requires c κs = search needs
 
-enum-known-made : tie.Need-enum-known-made
-enum-known-made c = search needs
+liquid-stability-requires : tie.Need-liquid-stability-requires
+liquid-stability-requires c κs = search needs
 
-enum-known-made-2 : tie.Need-enum-known-made-2
-enum-known-made-2 c = search needs
+stability-block-requires : tie.Need-stability-block-requires
+stability-block-requires c κs = search needs
 
-reply-stability-requires : tie.Need-reply-stability-requires
-reply-stability-requires c κs = search needs
-
-returns : tie.Need-returns
-returns c = task-no _ _ (kelvin-no _ (c .before .before .before .new .ensures) (c .before .made .given .1))
+write-answer-requires : tie.Need-write-answer-requires
+write-answer-requires c κs = let z = stability-fits _ _ _ _ (c .before .before .before .liquid-stability .ensures) (c .before .stability-block .ensures) in (z .0, z .1, omega arith)
 
 same-length : tie.Need-same-length
 same-length c = search needs
 
-returns-2 : tie.Need-returns-2
-returns-2 c = task-ok _ _ (kelvin-ok _ (c .before .before .before .before .before .before .before .new .ensures) (c .before .before .before .before .before .made2 .given .1)) (c .before .before .reply-stability .ensures)
+returns : tie.Need-returns
+returns c = search stability-says
 
 pub task-6-spec : {M : Type 1} → statement M
 task-6-spec =
     tie.close
     (tie.spec
-    new-requires
-    enum-known-made
-    enum-known-made-2
-    reply-stability-requires
-    returns
+    tables-requires
+    liquid-stability-requires
+    stability-block-requires
+    write-answer-requires
     same-length
-    returns-2)
+    returns)

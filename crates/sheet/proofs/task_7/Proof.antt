@@ -1,38 +1,39 @@
 -- `sheet::task_7` meets its contract. Assumes nothing.
+use native.Mathlib.Omega.{arith}
 use borrow.Author.Needs.{needs}
-use Rattle.sheet.proofs.Replies.{kelvin-no, kelvin-ok, task-no, task-ok}
+use Rattle.sheet.proofs.Replies.{flash-fits, flash-says}
 use Rattle.sheet.proofs.task_7.Statement.{statement}
 use Rattle.sheet.proofs.task_7.Tie as tie
 
-new-requires : tie.Need-new-requires
-new-requires c κs = search needs
+activity-tp-flash-requires : tie.Need-activity-tp-flash-requires
+activity-tp-flash-requires c κs = search needs
 
-enum-known-made : tie.Need-enum-known-made
-enum-known-made c = search needs
+value-requires : tie.Need-value-requires
+value-requires c κs = search needs
 
-enum-known-made-2 : tie.Need-enum-known-made-2
-enum-known-made-2 c = search needs
+value-requires-2 : tie.Need-value-requires-2
+value-requires-2 c κs = search needs
 
-at-pressure-requires : tie.Need-at-pressure-requires
-at-pressure-requires c κs = search needs
+flash-block-requires : tie.Need-flash-block-requires
+flash-block-requires c κs = search needs
 
-returns : tie.Need-returns
-returns c = task-no _ _ (kelvin-no _ (c .before .before .before .new .ensures) (c .before .made .given .1))
+write-answer-requires : tie.Need-write-answer-requires
+write-answer-requires c κs = let z = flash-fits _ _ _ _ _ _ _ _ (c .before .before .before .before .before .activity-tp-flash .ensures) (c .before .flash-block .ensures) in (z .0, z .1, omega arith)
 
 same-length : tie.Need-same-length
 same-length c = search needs
 
-returns-2 : tie.Need-returns-2
-returns-2 c = task-ok _ _ (kelvin-ok _ (c .before .before .before .before .before .before .before .new .ensures) (c .before .before .before .before .before .made2 .given .1)) (c .before .before .at-pressure .ensures)
+returns : tie.Need-returns
+returns c = search flash-says
 
 pub task-7-spec : {M : Type 1} → statement M
 task-7-spec =
     tie.close
     (tie.spec
-    new-requires
-    enum-known-made
-    enum-known-made-2
-    at-pressure-requires
-    returns
+    activity-tp-flash-requires
+    value-requires
+    value-requires-2
+    flash-block-requires
+    write-answer-requires
     same-length
-    returns-2)
+    returns)

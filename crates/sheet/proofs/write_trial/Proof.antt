@@ -17,7 +17,7 @@ same-length : tie.Need-same-length
 same-length c = search needs
 
 returns : tie.Need-returns
-returns c = trial-put (c .before .before .before .before .before .before .before .args .t) (c .before .before .before .before .before .before .before .args .k) (c .before .before .before .before .before .before .before .args .out .now) (c .before .before .before .before .before .before .before .pre .0) (c .before .before .before .before .before .before .before .pre .1) (c .before .before .before .before .before .trial-words .ensures) (c .before .before .write-at .ensures)
+returns c = search trial-put
 
 pub write-trial-spec : {M : Type 1} → statement M
 write-trial-spec =

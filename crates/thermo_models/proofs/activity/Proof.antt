@@ -1,6 +1,6 @@
--- `thermo_models::activity` meets its contract: from what `excess` ensures. Assumes nothing.
+-- `thermo_models::activity` meets its contract. Assumes nothing.
 use borrow.Author.Needs.{needs}
-use Rattle.thermo_models.proofs.Tabled.{activity-is}
+use Rattle.thermo_models.proofs.Stands.{activity-is}
 use Rattle.thermo_models.specs.Activity.{activityOn}
 use Rattle.thermo_models.proofs.activity.Statement.{statement}
 use Rattle.thermo_models.proofs.activity.Tie as tie
@@ -10,7 +10,7 @@ excess-requires c κs = search needs
 
 returns : tie.Need-returns
 unfolding activityOn
-returns c = activity-is _ (c .excess .ensures)
+returns c = search activity-is
 
 pub activity-spec : {M : Type 1} → statement M
 activity-spec = tie.close (tie.spec excess-requires returns)

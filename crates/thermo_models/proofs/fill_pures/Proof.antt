@@ -30,7 +30,8 @@ enum-known-verdict c = search needs
 returns : tie.Need-returns Inv-loop μ-loop
 returns c = let v = c .before .before .before in
     let p = v .before .before in
-    pures-none (pures-stop _ _ _ _ (p .before .before .loop-test .taken) (vapor-is _ (p .vapor-pressure .ensures) (p .before .vapor-pressure-record .ensures)) (v .verdict .given .1) (p .before .before .before .loop .inv .1))
+    let w = vapor-is _ (p .vapor-pressure .ensures) (p .before .vapor-pressure-record .ensures) in
+    pures-none (pures-stop _ _ _ _ (p .before .before .loop-test .taken) w (v .verdict .given .1) (p .before .before .before .loop .inv .1))
 
 enum-told : tie.Need-enum-told Inv-loop μ-loop
 enum-told c = search needs
@@ -55,7 +56,8 @@ loop-less c = omega arith
 
 loop-again : tie.Need-loop-again Inv-loop μ-loop
 loop-again c = let p = c .before .before in
-    (omega arith, pures-turn _ _ _ (vapor-is _ (p .vapor-pressure .ensures) (p .before .vapor-pressure-record .ensures)) (c .enum-told .given .1) (p .before .before .before .loop .inv .1))
+    let w = vapor-is _ (p .vapor-pressure .ensures) (p .before .vapor-pressure-record .ensures) in
+    (omega arith, pures-turn _ _ _ w (c .enum-told .given .1) (p .before .before .before .loop .inv .1))
 
 returns-2 : tie.Need-returns-2 Inv-loop μ-loop
 returns-2 c = pures-given (pures-done _ _ _ _ (omega arith) (c .before .loop .inv .1))

@@ -10,7 +10,7 @@ use Rattle.thermo_models.proofs.see_all.Statement.{statement}
 use Rattle.thermo_models.proofs.see_all.Tie as tie
 
 abbrev Inv-loop : tie.InvT-loop
-Inv-loop book n t x s₀ i₀ s i = (i ≤ n) × (s ≡ foldTo (rowSeen book n t x) unseen i)
+Inv-loop book n t x s₀ i₀ s i = (i ≤ n) × (s ≡ foldTo (λ i. rowSeen book n t x i n) unseen i)
 
 abbrev μ-loop : tie.MeasureT-loop
 μ-loop book n t x s₀ i₀ s i = n - i

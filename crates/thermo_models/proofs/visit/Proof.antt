@@ -1,6 +1,6 @@
--- `thermo_models::visit` meets its contract: the record read is the pair's, since its indices are below n. Assumes nothing.
+-- `thermo_models::visit` meets its contract. Assumes nothing.
 use borrow.Author.Needs.{needs}
-use Rattle.thermo_models.proofs.Intervals.{interval-is}
+use Rattle.thermo_models.proofs.Pairs.{visited-yes}
 use Rattle.thermo_models.specs.Validity.{visited}
 use Rattle.thermo_models.proofs.visit.Statement.{statement}
 use Rattle.thermo_models.proofs.visit.Tie as tie
@@ -24,9 +24,7 @@ note-requires : tie.Need-note-requires
 note-requires c κs = search needs
 
 returns : tie.Need-returns
-unfolding visited
-returns c = let s = c .before .before .before .before .before .before in
-    rw (c .before .before .if1 .taken, ← interval-is _ _ _ _ (s .pre .0) (s .pre .1) (s .pre .2) (c .before .pair-record .ensures)) (c .note .ensures)
+returns c = search visited-yes
 
 returns-2 : tie.Need-returns-2
 unfolding visited

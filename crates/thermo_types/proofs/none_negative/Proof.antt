@@ -1,5 +1,5 @@
 use Rattle.floats.proofs.Folds.{all-turn, all-fails, all-end}
-use Rattle.floats.specs.Vector.{at}
+use Rattle.floats.specs.Vector.{at, places}
 use Rattle.floats.specs.Fold.{allTo}
 use Rattle.floats.specs.Arithmetic.{0f}
 use lib.Ieee.{lt}
@@ -7,18 +7,22 @@ use mathlib.Core.Path.{_≡_, refl, sym}
 use mathlib.Core.Bool.{true, not}
 use Prim.Native.Nat.{_≤_, _-_}
 use native.Mathlib.Omega.{arith}
+use borrow.Author.Needs.{needs}
 use Rattle.thermo_types.proofs.none_negative.Statement.{statement}
 use Rattle.thermo_types.proofs.none_negative.Tie as tie
 
 abbrev Inv-loop : tie.InvT-loop
-Inv-loop x n i₀ i = (i ≤ n) × (allTo (λ k. not (lt (at x k) 0f)) i ≡ true)
+Inv-loop x n m i₀ i = (m ≡ places n) × (i ≤ m) × (allTo (λ k. not (lt (at x k) 0f)) i ≡ true)
 
 abbrev μ-loop : tie.MeasureT-loop
-μ-loop x n i₀ i = n - i
+μ-loop x n m i₀ i = m - i
+
+places-requires : tie.Need-places-requires Inv-loop μ-loop
+places-requires c κs = search needs
 
 loop-holds : tie.Need-loop-holds Inv-loop μ-loop
 unfolding allTo
-loop-holds c = (omega arith, refl)
+loop-holds c = (c .places .ensures, omega arith, refl)
 
 mul-if1 : tie.Need-mul-if1 Inv-loop μ-loop
 mul-if1 c = omega arith
@@ -27,7 +31,7 @@ element-copy-out-if1 : tie.Need-element-copy-out-if1 Inv-loop μ-loop
 element-copy-out-if1 c = omega arith
 
 returns : tie.Need-returns Inv-loop μ-loop
-returns c = sym (all-fails _ _ _ (c .before .before .loop-test .taken) (rw (c .if1 .taken)))
+returns c = rw (← c .before .before .before .loop .inv .0) (sym (all-fails _ _ _ (c .before .before .loop-test .taken) (rw (c .if1 .taken))))
 
 add-i : tie.Need-add-i Inv-loop μ-loop
 add-i c = omega arith
@@ -36,10 +40,10 @@ loop-less : tie.Need-loop-less Inv-loop μ-loop
 loop-less c = omega arith
 
 loop-again : tie.Need-loop-again Inv-loop μ-loop
-loop-again c = (omega arith, all-turn _ _ (c .before .before .before .loop .inv .1) (rw (c .if1 .left)))
+loop-again c = (c .before .before .before .loop .inv .0, omega arith, all-turn _ _ (c .before .before .before .loop .inv .2) (rw (c .if1 .left)))
 
 returns-2 : tie.Need-returns-2 Inv-loop μ-loop
-returns-2 c = all-end _ _ _ (c .before .loop .inv .0) (c .loop-test .left) (c .before .loop .inv .1)
+returns-2 c = rw (← c .before .loop .inv .0) (all-end _ _ _ (c .before .loop .inv .1) (c .loop-test .left) (c .before .loop .inv .2))
 
 pub none-negative-spec : {M : Type 1} → statement M
 none-negative-spec =
@@ -47,6 +51,7 @@ none-negative-spec =
     (tie.spec
     Inv-loop
     μ-loop
+    places-requires
     loop-holds
     mul-if1
     element-copy-out-if1

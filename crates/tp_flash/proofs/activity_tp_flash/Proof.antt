@@ -11,7 +11,7 @@ no-flash-requires : tie.Need-no-flash-requires
 no-flash-requires c κs = search needs
 
 returns : tie.Need-returns
-returns c = whole-temperature _ _ _ _ _ _ _ _ _ _ (c .before .before .check-temperature .ensures) (c .before .if1 .taken) (c .no-flash .ensures)
+returns c = search whole-temperature
 
 value-requires : tie.Need-value-requires
 value-requires c κs = search needs
@@ -23,7 +23,7 @@ no-flash-requires-2 : tie.Need-no-flash-requires-2
 no-flash-requires-2 c κs = search needs
 
 returns-2 : tie.Need-returns-2
-returns-2 c = whole-pressure _ _ _ _ _ _ _ _ _ _ (c .before .before .before .before .before .check-temperature .ensures) (c .before .before .before .before .if1 .left) (c .before .before .before .value .ensures) (c .before .before .check-pressure .ensures) (c .before .if2 .taken) (c .no-flash2 .ensures)
+returns-2 c = search whole-pressure
 
 pure-liquids-requires : tie.Need-pure-liquids-requires
 pure-liquids-requires c κs = search needs
@@ -41,10 +41,10 @@ phases-of-requires : tie.Need-phases-of-requires
 phases-of-requires c κs = search needs
 
 returns-3 : tie.Need-returns-3
-returns-3 c = whole-refused _ _ _ _ _ _ _ _ _ _ (c .before .before .before .before .before .before .before .before .before .before .before .check-temperature .ensures) (c .before .before .before .before .before .before .before .before .before .before .if1 .left) (c .before .before .before .before .before .before .before .before .before .value .ensures) (c .before .before .before .before .before .before .before .before .check-pressure .ensures) (c .before .before .before .before .before .before .before .if2 .left) (c .before .before .before .before .pure-liquids .ensures) (c .before .before .verdict .given .1) (c .no-flash3 .ensures)
+returns-3 c = search whole-refused
 
 returns-4 : tie.Need-returns-4
-returns-4 c = whole-passed _ _ _ _ _ _ _ _ _ _ (c .before .before .before .before .before .before .before .before .before .before .before .check-temperature .ensures) (c .before .before .before .before .before .before .before .before .before .before .if1 .left) (c .before .before .before .before .before .before .before .before .before .value .ensures) (c .before .before .before .before .before .before .before .before .check-pressure .ensures) (c .before .before .before .before .before .before .before .if2 .left) (c .before .before .before .before .pure-liquids .ensures) (c .before .before .enum-told .given .1) (c .phases-of .ensures)
+returns-4 c = search whole-passed
 
 pub activity-tp-flash-spec : {M : Type 1} → statement M
 activity-tp-flash-spec =

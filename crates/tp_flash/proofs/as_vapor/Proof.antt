@@ -1,7 +1,6 @@
 -- `tp_flash::as_vapor` meets its contract. Assumes nothing.
 use borrow.Author.Needs.{needs}
 use Rattle.liquid_stability.specs.Stability.{noTrials}
-use Rattle.tp_flash.specs.Answers.{phasesWith}
 use Rattle.tp_flash.specs.Tp.{flashAnswer}
 use Rattle.tp_flash.proofs.Laws.{vapor-refused, vapor-passed}
 use Rattle.tp_flash.proofs.as_vapor.Statement.{statement}
@@ -16,18 +15,18 @@ enum-known-verdict c = search needs
 no-flash-requires : tie.Need-no-flash-requires
 no-flash-requires c κs = search needs
 
+returns : tie.Need-returns
+returns c = search vapor-refused
+
 enum-told : tie.Need-enum-told
 enum-told c = search needs
 
 phases-with-requires : tie.Need-phases-with-requires
 phases-with-requires c κs = search needs
 
-returns : tie.Need-returns
-returns c = vapor-refused _ _ _ _ _ (c .before .before .before .before .with-fractions .ensures) (c .before .before .verdict .given .1) (c .no-flash .ensures)
-
 returns-2 : tie.Need-returns-2
-unfolding flashAnswer phasesWith noTrials
-returns-2 c = rw (c .before .phases-with .ensures) (vapor-passed _ _ _ _ _ (c .before .before .before .before .with-fractions .ensures) (c .before .before .enum-told .given .1))
+unfolding flashAnswer noTrials
+returns-2 c = rw (c .before .phases-with .ensures) (search vapor-passed)
 
 pub as-vapor-spec : {M : Type 1} → statement M
 as-vapor-spec =
@@ -36,7 +35,7 @@ as-vapor-spec =
     with-fractions-requires
     enum-known-verdict
     no-flash-requires
+    returns
     enum-told
     phases-with-requires
-    returns
     returns-2)

@@ -1,4 +1,5 @@
--- `tp_flash::balance` meets its contract. The loop's invariant: r is the largest error of the first i solvents. The measure is what is left of the count. Assumes nothing.
+-- `tp_flash::balance` meets its contract. The loop's invariant: r is the largest error of the first i solvents. The measure is what is left of the count.
+-- Assumes nothing.
 use Prim.Native.Nat.{_≤_, _-_}
 use mathlib.Core.Path.{_≡_, refl}
 use native.Mathlib.Omega.{arith}
@@ -56,7 +57,9 @@ loop-less : tie.Need-loop-less Inv-loop μ-loop
 loop-less c = omega arith
 
 loop-again : tie.Need-loop-again Inv-loop μ-loop
-loop-again c = (omega arith, fold-turn _ _ _ (rw (c .before .abs .ensures) at (c .max .ensures)) (c .before .before .before .before .before .before .loop .inv .1))
+loop-again c =
+    let read = c .before .before in
+    (omega arith, fold-turn _ _ _ (rw (c .before .abs .ensures) at (c .max .ensures)) (read .before .before .before .before .loop .inv .1))
 
 returns : tie.Need-returns Inv-loop μ-loop
 unfolding balanceOf

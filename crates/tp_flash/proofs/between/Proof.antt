@@ -11,19 +11,19 @@ as-liquid-requires : tie.Need-as-liquid-requires
 as-liquid-requires c κs = search needs
 
 returns : tie.Need-returns
-returns c = between-liquid _ _ _ _ _ _ _ _ _ _ (c .before .before .value .ensures) (c .before .if1 .taken) (c .as-liquid .ensures)
+returns c = search between-liquid
 
 as-vapor-requires : tie.Need-as-vapor-requires
 as-vapor-requires c κs = search needs
 
 returns-2 : tie.Need-returns-2
-returns-2 c = between-vapor _ _ _ _ _ _ _ _ _ _ (c .before .before .before .value .ensures) (c .before .before .if1 .left) (c .before .if2 .taken) (c .as-vapor .ensures)
+returns-2 c = search between-vapor
 
 split-feed-requires : tie.Need-split-feed-requires
 split-feed-requires c κs = search needs
 
 returns-3 : tie.Need-returns-3
-returns-3 c = between-split _ _ _ _ _ _ _ _ _ _ (c .before .before .before .value .ensures) (c .before .before .if1 .left) (c .before .if2 .left) (c .split-feed .ensures)
+returns-3 c = search between-split
 
 pub between-spec : {M : Type 1} → statement M
 between-spec =

@@ -20,10 +20,10 @@ from-dew-requires : tie.Need-from-dew-requires
 from-dew-requires c κs = search needs
 
 returns : tie.Need-returns
-returns c = phases-refused _ _ _ _ _ _ _ _ (c .before .before .before .before .bubble-at .ensures) (c .before .before .verdict .given .1) (c .no-flash .ensures)
+returns c = search phases-refused
 
 returns-2 : tie.Need-returns-2
-returns-2 c = phases-passed _ _ _ _ _ _ _ _ (c .before .before .before .bubble-at .ensures) (c .before .enum-told .given .1) (c .from-dew .ensures)
+returns-2 c = search phases-passed
 
 pub from-bubble-spec : {M : Type 1} → statement M
 from-bubble-spec =

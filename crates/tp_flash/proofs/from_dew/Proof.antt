@@ -20,10 +20,10 @@ between-requires : tie.Need-between-requires
 between-requires c κs = search needs
 
 returns : tie.Need-returns
-returns c = from-dew-refused _ _ _ _ _ _ _ _ _ (c .before .before .before .before .dew-pressure .ensures) (c .before .before .verdict .given .1) (c .no-flash .ensures)
+returns c = search from-dew-refused
 
 returns-2 : tie.Need-returns-2
-returns-2 c = from-dew-passed _ _ _ _ _ _ _ _ _ (c .before .before .before .dew-pressure .ensures) (c .before .enum-told .given .1) (c .between .ensures)
+returns-2 c = search from-dew-passed
 
 pub from-dew-spec : {M : Type 1} → statement M
 from-dew-spec =

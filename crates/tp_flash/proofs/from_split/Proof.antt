@@ -14,7 +14,7 @@ at-boundary-requires : tie.Need-at-boundary-requires
 at-boundary-requires c κs = search needs
 
 returns : tie.Need-returns
-returns c = split-edge _ _ _ _ _ _ _ _ (c .before .before .before .inside .ensures) (c .before .before .near-edge .ensures) (c .before .if1 .taken) (c .at-boundary .ensures)
+returns c = search split-edge
 
 as-both-requires : tie.Need-as-both-requires
 as-both-requires c κs = search needs
@@ -23,10 +23,10 @@ no-flash-requires : tie.Need-no-flash-requires
 no-flash-requires c κs = search needs
 
 returns-2 : tie.Need-returns-2
-returns-2 c = split-both _ _ _ _ _ _ _ _ (c .before .before .before .before .inside .ensures) (c .before .before .before .near-edge .ensures) (c .before .before .if1 .left) (c .before .if2 .taken) (c .as-both .ensures)
+returns-2 c = search split-both
 
 returns-3 : tie.Need-returns-3
-returns-3 c = split-outside _ _ _ _ _ _ _ _ (c .before .before .before .before .inside .ensures) (c .before .before .before .near-edge .ensures) (c .before .before .if1 .left) (c .before .if2 .left) (c .no-flash .ensures)
+returns-3 c = search split-outside
 
 pub from-split-spec : {M : Type 1} → statement M
 from-split-spec =

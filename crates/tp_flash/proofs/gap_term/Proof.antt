@@ -19,7 +19,13 @@ max-requires : tie.Need-max-requires
 max-requires c κs = search needs
 
 returns : tie.Need-returns
-returns c = rw (c .before .before .before .before .before .if1 .taken, ← c .before .before .before .before .ln .ensures, ← c .before .before .before .ln2 .ensures, ← c .before .before .ln3 .ensures, ← c .before .abs .ensures) (c .max .ensures)
+returns c = rw (
+  c .before .before .before .before .before .if1 .taken,
+  ← c .before .before .before .before .ln .ensures,
+  ← c .before .before .before .ln2 .ensures,
+  ← c .before .before .ln3 .ensures,
+  ← c .before .abs .ensures,
+) (c .max .ensures)
 
 returns-2 : tie.Need-returns-2
 returns-2 c = rw (c .if1 .left)

@@ -70,7 +70,8 @@ loop-again c = (omega arith, fill-turn _ _ _ (c .k-value .ensures) (c .before .b
 
 returns : tie.Need-returns Inv-loop μ-loop
 unfolding kValues
-returns c = rw (← c .before .before .before .value .ensures, ← c .before .before .ln .ensures, ← c .before .before .before .before .places .ensures) (fill-done _ _ _ _ (omega arith) (c .before .loop .inv .1))
+returns c = rw (← c .before .before .before .value .ensures, ← c .before .before .ln .ensures, ← c .before .before .before .before .places .ensures)
+    (fill-done _ _ _ _ (omega arith) (c .before .loop .inv .1))
 
 pub k-values-spec : {M : Type 1} → statement M
 k-values-spec =

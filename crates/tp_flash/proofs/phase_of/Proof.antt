@@ -1,4 +1,5 @@
--- `tp_flash::phase_of` meets its contract. The loop's invariant: the first i entries are kept where the feed is positive. The measure is what is left of the count. Assumes nothing.
+-- `tp_flash::phase_of` meets its contract. The loop's invariant: the first i entries are kept where the feed is positive. The measure is what is left of the
+-- count. Assumes nothing.
 use Prim.Native.Nat.{_≤_, _-_}
 use mathlib.Core.Bool.{cond}
 use mathlib.Core.Path.{_≡_, refl}

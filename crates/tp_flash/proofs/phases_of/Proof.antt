@@ -1,6 +1,8 @@
 -- `tp_flash::phases_of` meets its contract. Assumes nothing.
+use mathlib.Core.Path.{_≡_}
+use native.Mathlib.Omega.{arith}
 use borrow.Author.Needs.{needs}
-use Rattle.thermo_models.proofs.Answers.{tabled-fresh}
+use Rattle.thermo_models.proofs.Answers.{stands-fresh, stands-count}
 use Rattle.tp_flash.proofs.Laws.{phases-agree}
 use Rattle.tp_flash.proofs.phases_of.Statement.{statement}
 use Rattle.tp_flash.proofs.phases_of.Tie as tie
@@ -12,7 +14,10 @@ from-bubble-requires : tie.Need-from-bubble-requires
 from-bubble-requires c κs = search needs
 
 returns : tie.Need-returns
-returns c = phases-agree _ _ _ _ _ _ _ _ (tabled-fresh (c .before .before .tables .ensures)) (c .from-bubble .ensures)
+returns c =
+    let s = c .before .before .tables .ensures in
+    let e : _ ≡ _ = stands-count s in
+    phases-agree _ _ _ _ _ _ (stands-fresh s) (omega arith) (c .from-bubble .ensures)
 
 pub phases-of-spec : {M : Type 1} → statement M
 phases-of-spec = tie.close (tie.spec tables-requires from-bubble-requires returns)

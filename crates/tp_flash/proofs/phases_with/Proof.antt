@@ -1,7 +1,6 @@
 -- `tp_flash::phases_with` meets its contract. Assumes nothing.
 use borrow.Author.Needs.{needs}
 use Rattle.liquid_stability.specs.Stability.{noTrials}
-use Rattle.tp_flash.specs.Answers.{phasesWith}
 use Rattle.tp_flash.proofs.phases_with.Statement.{statement}
 use Rattle.tp_flash.proofs.phases_with.Tie as tie
 
@@ -9,7 +8,7 @@ no-trial-requires : tie.Need-no-trial-requires
 no-trial-requires c κs = search needs
 
 returns : tie.Need-returns
-unfolding phasesWith noTrials
+unfolding noTrials
 returns c = rw (c .no-trial .ensures)
 
 pub phases-with-spec : {M : Type 1} → statement M

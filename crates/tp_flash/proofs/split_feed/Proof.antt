@@ -32,13 +32,13 @@ from-split-requires : tie.Need-from-split-requires
 from-split-requires c κs = search needs
 
 returns : tie.Need-returns
-returns c = feed-refused _ _ _ _ _ _ _ _ _ _ (c .before .before .before .before .activity .ensures) (c .before .before .feed .given .1) (c .no-flash .ensures)
+returns c = search feed-refused
 
 returns-2 : tie.Need-returns-2
-returns-2 c = feed-split-refused _ _ _ _ _ _ _ _ _ _ (c .before .before .before .before .before .before .before .before .activity .ensures) (c .before .before .before .before .before .before .enum-told .given .1) (c .before .before .before .before .split-from .ensures) (c .before .before .verdict .given .1) (c .no-flash2 .ensures)
+returns-2 c = search feed-split-refused
 
 returns-3 : tie.Need-returns-3
-returns-3 c = feed-split _ _ _ _ _ _ _ _ _ _ (c .before .before .before .before .before .before .before .activity .ensures) (c .before .before .before .before .before .enum-told .given .1) (c .before .before .before .split-from .ensures) (c .before .enum-told2 .given .1) (c .from-split .ensures)
+returns-3 c = search feed-split
 
 pub split-feed-spec : {M : Type 1} → statement M
 split-feed-spec =

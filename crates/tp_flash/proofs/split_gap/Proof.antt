@@ -1,4 +1,5 @@
--- `tp_flash::split_gap` meets its contract. The loop's invariant: r is the largest gap of the first i solvents. The measure is what is left of the count. Assumes nothing.
+-- `tp_flash::split_gap` meets its contract. The loop's invariant: r is the largest gap of the first i solvents. The measure is what is left of the count.
+-- Assumes nothing.
 use Prim.Native.Nat.{_≤_, _-_}
 use mathlib.Core.Bool.{cond}
 use mathlib.Core.Path.{_≡_, refl}
@@ -16,7 +17,8 @@ use Rattle.tp_flash.proofs.split_gap.Statement.{statement}
 use Rattle.tp_flash.proofs.split_gap.Tie as tie
 
 abbrev Inv-loop : tie.InvT-loop
-Inv-loop z lg ps x y n m lnp r₀ i₀ r i = (i ≤ m) × (r ≡ foldTo (λ j s. cond (lt 0f (at z j)) (maxOf s (absOf (lnOf (at y j) ⊕ lnp ⊖ lnOf (at x j) ⊖ at lg j ⊖ lnOf (at ps j)))) s) 0f i)
+Inv-loop z lg ps x y n m lnp r₀ i₀ r i = (i ≤ m) × (r ≡ foldTo (λ j s. cond (lt 0f (at z j))
+    (maxOf s (absOf (lnOf (at y j) ⊕ lnp ⊖ lnOf (at x j) ⊖ at lg j ⊖ lnOf (at ps j)))) s) 0f i)
 
 abbrev μ-loop : tie.MeasureT-loop
 μ-loop z lg ps x y n m lnp r₀ i₀ r i = m - i
@@ -74,11 +76,14 @@ loop-less : tie.Need-loop-less Inv-loop μ-loop
 loop-less c = omega arith
 
 loop-again : tie.Need-loop-again Inv-loop μ-loop
-loop-again c = (omega arith, fold-turn _ _ _ (c .gap-term .ensures) (c .before .before .before .before .before .before .before .loop .inv .1))
+loop-again c =
+    let read = c .before .before .before .before .before in
+    (omega arith, fold-turn _ _ _ (c .gap-term .ensures) (read .before .before .loop .inv .1))
 
 returns : tie.Need-returns Inv-loop μ-loop
 unfolding splitGap
-returns c = rw (← c .before .before .before .value .ensures, ← c .before .before .ln .ensures, ← c .before .before .before .before .places .ensures) (fold-done _ _ _ _ (omega arith) (c .before .loop .inv .1))
+returns c = rw (← c .before .before .before .value .ensures, ← c .before .before .ln .ensures, ← c .before .before .before .before .places .ensures)
+    (fold-done _ _ _ _ (omega arith) (c .before .loop .inv .1))
 
 pub split-gap-spec : {M : Type 1} → statement M
 split-gap-spec =

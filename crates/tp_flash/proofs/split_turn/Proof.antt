@@ -1,6 +1,6 @@
 -- `tp_flash::split_turn` meets its contract. Assumes nothing.
 use borrow.Author.Needs.{needs}
-use Rattle.tp_flash.proofs.Laws.{turn-two, turn-liquid, turn-vapor}
+use Rattle.tp_flash.proofs.Laws.{rice-refused, rice-two}
 use Rattle.tp_flash.proofs.split_turn.Statement.{statement}
 use Rattle.tp_flash.proofs.split_turn.Tie as tie
 
@@ -10,8 +10,20 @@ k-values-requires c κs = search needs
 rachford-rice-negative-requires : tie.Need-rachford-rice-negative-requires
 rachford-rice-negative-requires c κs = search needs
 
-enum-known-outcome : tie.Need-enum-known-outcome
-enum-known-outcome c = search needs
+enum-known-verdict : tie.Need-enum-known-verdict
+enum-known-verdict c = search needs
+
+no-split-turn-requires : tie.Need-no-split-turn-requires
+no-split-turn-requires c κs = search needs
+
+returns : tie.Need-returns
+returns c = search rice-refused
+
+enum-told : tie.Need-enum-told
+enum-told c = search needs
+
+vapor-fraction-requires : tie.Need-vapor-fraction-requires
+vapor-fraction-requires c κs = search needs
 
 phase-of-requires : tie.Need-phase-of-requires
 phase-of-requires c κs = search needs
@@ -22,26 +34,8 @@ phase-of-requires-2 c κs = search needs
 turn-at-requires : tie.Need-turn-at-requires
 turn-at-requires c κs = search needs
 
-enum-told : tie.Need-enum-told
-enum-told c = search needs
-
-no-turn-requires : tie.Need-no-turn-requires
-no-turn-requires c κs = search needs
-
-enum-told-2 : tie.Need-enum-told-2
-enum-told-2 c = search needs
-
-no-turn-requires-2 : tie.Need-no-turn-requires-2
-no-turn-requires-2 c κs = search needs
-
-returns : tie.Need-returns
-returns c = turn-two _ _ _ _ _ _ _ (c .before .before .before .before .before .before .before .before .before .before .before .before .before .before .k-values .ensures) (c .before .before .before .before .before .before .before .before .before .before .before .before .rachford-rice-negative .ensures) (c .before .before .before .before .before .before .before .before .before .before .outcome .given .1) (c .before .before .before .before .before .phase-of .ensures) (c .before .before .before .phase-of2 .ensures) (c .turn-at .ensures)
-
 returns-2 : tie.Need-returns-2
-returns-2 c = turn-liquid _ _ _ _ _ _ _ (c .before .before .before .before .before .k-values .ensures) (c .before .before .before .rachford-rice-negative .ensures) (c .before .enum-told .given .1) (c .no-turn .ensures)
-
-returns-3 : tie.Need-returns-3
-returns-3 c = turn-vapor _ _ _ _ _ _ _ (c .before .before .before .before .before .k-values .ensures) (c .before .before .before .rachford-rice-negative .ensures) (c .before .enum-told2 .given .1) (c .no-turn2 .ensures)
+returns-2 c = search rice-two
 
 pub split-turn-spec : {M : Type 1} → statement M
 split-turn-spec =
@@ -49,14 +43,12 @@ split-turn-spec =
     (tie.spec
     k-values-requires
     rachford-rice-negative-requires
-    enum-known-outcome
+    enum-known-verdict
+    no-split-turn-requires
+    returns
+    enum-told
+    vapor-fraction-requires
     phase-of-requires
     phase-of-requires-2
     turn-at-requires
-    enum-told
-    no-turn-requires
-    enum-told-2
-    no-turn-requires-2
-    returns
-    returns-2
-    returns-3)
+    returns-2)

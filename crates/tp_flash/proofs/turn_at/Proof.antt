@@ -1,6 +1,5 @@
 -- `tp_flash::turn_at` meets its contract. Assumes nothing.
 use borrow.Author.Needs.{needs}
-use borrow.Author.Tests.{not-true, not-false}
 use Rattle.tp_flash.proofs.Laws.{turn-refused, turn-gap, turn-good}
 use Rattle.tp_flash.proofs.turn_at.Statement.{statement}
 use Rattle.tp_flash.proofs.turn_at.Tie as tie
@@ -11,8 +10,11 @@ activity-requires c κs = search needs
 enum-known-verdict : tie.Need-enum-known-verdict
 enum-known-verdict c = search needs
 
-no-turn-requires : tie.Need-no-turn-requires
-no-turn-requires c κs = search needs
+no-split-turn-requires : tie.Need-no-split-turn-requires
+no-split-turn-requires c κs = search needs
+
+returns : tie.Need-returns
+returns c = search turn-refused
 
 enum-told : tie.Need-enum-told
 enum-told c = search needs
@@ -23,20 +25,18 @@ split-gap-requires c κs = search needs
 is-finite-requires : tie.Need-is-finite-requires
 is-finite-requires c κs = search needs
 
-no-turn-requires-2 : tie.Need-no-turn-requires-2
-no-turn-requires-2 c κs = search needs
-
-returns : tie.Need-returns
-returns c = turn-gap _ _ _ _ _ _ _ _ _ (c .before .before .before .before .before .before .before .activity .ensures) (c .before .before .before .before .before .enum-told .given .1) (c .before .before .before .split-gap .ensures) (c .before .before .is-finite .ensures) (not-true _ (c .before .if1 .taken)) (c .no-turn2 .ensures)
-
-split-point-requires : tie.Need-split-point-requires
-split-point-requires c κs = search needs
+no-split-turn-requires-2 : tie.Need-no-split-turn-requires-2
+no-split-turn-requires-2 c κs = search needs
 
 returns-2 : tie.Need-returns-2
-returns-2 c = turn-refused _ _ _ _ _ _ _ _ _ (c .before .before .before .before .activity .ensures) (c .before .before .verdict .given .1) (c .no-turn .ensures)
+returns-2 c = search turn-gap
 
 returns-3 : tie.Need-returns-3
-returns-3 c = rw (c .split-point .ensures) (turn-good _ _ _ _ _ _ _ _ _ (c .before .before .before .before .before .before .before .activity .ensures) (c .before .before .before .before .before .enum-told .given .1) (c .before .before .before .split-gap .ensures) (c .before .before .is-finite .ensures) (not-false _ (c .before .if1 .left)))
+returns-3 c =
+    let gap = c .before .before in
+    let told = gap .before .before .before .before in
+    turn-good _ _ _ _ _ _ _ _ _ (told .before .before .activity .ensures) (told .enum-told .given .1) (gap .split-gap .ensures) (c .before .is-finite .ensures)
+    (c .if1 .left)
 
 pub turn-at-spec : {M : Type 1} → statement M
 turn-at-spec =
@@ -44,12 +44,11 @@ turn-at-spec =
     (tie.spec
     activity-requires
     enum-known-verdict
-    no-turn-requires
+    no-split-turn-requires
+    returns
     enum-told
     split-gap-requires
     is-finite-requires
-    no-turn-requires-2
-    returns
-    split-point-requires
+    no-split-turn-requires-2
     returns-2
     returns-3)

@@ -1,0 +1,12 @@
+-- `book::rule_of` meets its contract. Assumes nothing.
+use mathlib.Core.Path.{refl}
+use Rattle.book.specs.Book.{ruleOf}
+use Rattle.book.proofs.rule_of.Statement.{statement}
+use Rattle.book.proofs.rule_of.Tie as tie
+
+returns : tie.Need-returns
+unfolding ruleOf
+returns c = refl
+
+pub rule-of-spec : {M : Type 1} → statement M
+rule-of-spec = tie.close (tie.spec returns)

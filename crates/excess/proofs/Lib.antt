@@ -1,0 +1,3 @@
+-- Laws of the excess state. Assumes nothing.
+mod Tests
+pub mod Passing

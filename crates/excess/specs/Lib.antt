@@ -1,0 +1,3 @@
+-- The definitions that the contracts of excess cite. Assumes nothing.
+pub mod State
+pub mod Answers

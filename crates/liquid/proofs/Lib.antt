@@ -1,0 +1,2 @@
+-- Laws of the vapor pressure. Assumes nothing.
+mod Ways

@@ -1,0 +1,70 @@
+-- A turn of the loop over the terms, its end, and the ways out of `vapor_pressure` and `tested`. Assumes nothing.
+use Prim.Native.Nat.{ℕ, _+_}
+use mathlib.Core.Path.{_≡_, refl, ap, _∙_}
+use mathlib.Core.Bool.{Bool, true, false, not, _&&_}
+use mathlib.Core.List.{List}
+use borrow.Author.Tests.{not-true, not-false}
+use lib.Ieee.{Float, neg, le}
+use Rattle.floats.specs.Arithmetic.{_⊕_, _⊖_, _⊗_, _⊘_, 0f, 1f, 2f}
+use Rattle.floats.specs.Small.{isFinite}
+use Rattle.floats.specs.Fold.{foldTo}
+use Rattle.floats.specs.Vector.{at, places}
+use Rattle.floats.specs.Outcome.{ok, no, need}
+use Rattle.floats.proofs.Folds.{sum-turn, was-no, was-yes}
+use Rattle.numerics.specs.Numerics.{expOf, lnOf}
+use Rattle.records.specs.declared.Ancillary.{Ancillary}
+use Rattle.liquid.specs.declared.Sums.{Sums}
+use Rattle.liquid.specs.declared.VaporPressure.{VaporPressure}
+use Rattle.liquid.specs.Vapor.{vapor, inRange, term, slopeTerm, curvatureTerm, sumsOf, vaporFrom, vaporOf, representable, vaporPressureOf, vaporAnswer}
+
+abbrev pub sums : Float → Float → Float → Sums
+sums s ds d2s = record { s = s; ds = ds; d2s = d2s }
+
+module _ (n e : List Float) (tr θ : Float) where
+  pub terms-start : sums 0f 0f 0f ≡ sumsOf n e tr θ 0
+  unfolding sumsOf foldTo
+  terms-start = refl
+
+  -- the code's l is ln θ, and p, q, r are θ^t_k, θ^(t_k - 1), θ^(t_k - 2)
+  pub terms-turn : (k : ℕ) {l p q r s ds d2s : Float} → l ≡ lnOf θ → p ≡ expOf (at e k ⊗ l) → q ≡ expOf ((at e k ⊖ 1f) ⊗ l) → r ≡ expOf ((at e k ⊖ 2f) ⊗ l)
+      → sums s ds d2s ≡ sumsOf n e tr θ k
+      → sums (s ⊕ at n k ⊗ p) (ds ⊕ neg (at n k) ⊗ at e k ⊗ q ⊘ tr) (d2s ⊕ at n k ⊗ at e k ⊗ (at e k ⊖ 1f) ⊗ r ⊘ (tr ⊗ tr)) ≡ sumsOf n e tr θ (k + 1)
+  unfolding sumsOf term slopeTerm curvatureTerm
+  terms-turn k {l} {p} {q} {r} el ep eq er h =
+      let a : at n k ⊗ p ≡ term θ (at n k) (at e k) = rw (ep, el) in
+      let b : neg (at n k) ⊗ at e k ⊗ q ⊘ tr ≡ slopeTerm tr θ (at n k) (at e k) = rw (eq, el) in
+      let c : at n k ⊗ at e k ⊗ (at e k ⊖ 1f) ⊗ r ⊘ (tr ⊗ tr) ≡ curvatureTerm tr θ (at n k) (at e k) = rw (er, el) in
+      rw (
+        ← sum-turn 0f (λ k. term θ (at n k) (at e k)) k refl a (ap (λ (w : Sums). w .s) h),
+        ← sum-turn 0f (λ k. slopeTerm tr θ (at n k) (at e k)) k refl b (ap (λ (w : Sums). w .ds) h),
+        ← sum-turn 0f (λ k. curvatureTerm tr θ (at n k) (at e k)) k refl c (ap (λ (w : Sums). w .d2s) h),
+      )
+
+  pub terms-done : (k count : ℕ) {w : Sums} → k ≡ count → w ≡ sumsOf n e tr θ k → w ≡ sumsOf n e tr θ count
+  terms-done k count p h = h ∙ ap (sumsOf n e tr θ) p
+
+-- the code's v is T
+module _ (a : Ancillary) (t : Float) {v : Float} {b : Bool} {x : VaporPressure} where
+  pub range-no : v ≡ t → b ≡ inRange (a .low) (a .high) v → not b ≡ true → x ≡ vaporAnswer (no 22) → x ≡ vaporAnswer (vaporPressureOf a t)
+  unfolding vaporPressureOf need
+  range-no e p q h = rw (← e, was-no q p) h
+
+  pub range-yes : {m : ℕ} {s : Sums} → v ≡ t → b ≡ inRange (a .low) (a .high) v → not b ≡ false → m ≡ places (a .count)
+      → s ≡ sumsOf (a .n) (a .t) (a .«t_r») (1f ⊖ v ⊘ a .«t_r») m
+      → x ≡ vaporAnswer (representable (vaporFrom (a .«t_r») (a .«reducing_value») v s)) → x ≡ vaporAnswer (vaporPressureOf a t)
+  unfolding vaporPressureOf vaporOf need
+  range-yes e p q em es h = rw (← e, was-yes q p, ← em, ← es) h
+
+-- the tests of the four numbers
+module _ (p l d d2 : Float) {a b c e : Bool} (ea : a ≡ isFinite p) (eb : b ≡ isFinite l) (ec : c ≡ isFinite d) (ee : e ≡ isFinite d2) where
+  pub numbers-no : {x : VaporPressure} → not (a && b && c && e) ≡ true → x ≡ vaporAnswer (no 25) → x ≡ vaporAnswer (representable (vapor p l d d2))
+  unfolding representable need
+  numbers-no q h = rw (← ea, ← eb, ← ec, ← ee, not-true (a && b && c && e) q) h
+
+  pub pressure-no : {x : VaporPressure} → not (a && b && c && e) ≡ false → le p 0f ≡ true → x ≡ vaporAnswer (no 25) → x ≡ vaporAnswer (representable (vapor p l d d2))
+  unfolding representable need
+  pressure-no q z h = rw (← ea, ← eb, ← ec, ← ee, not-false (a && b && c && e) q, z) h
+
+  pub numbers-yes : not (a && b && c && e) ≡ false → le p 0f ≡ false → vaporAnswer (ok (vapor p l d d2)) ≡ vaporAnswer (representable (vapor p l d d2))
+  unfolding representable need
+  numbers-yes q z = rw (← ea, ← eb, ← ec, ← ee, not-false (a && b && c && e) q, z)

@@ -1,0 +1,50 @@
+-- `question::read_rest` meets its contract. Assumes nothing.
+use mathlib.Core.Path.{refl}
+use borrow.Author.Needs.{needs}
+use Rattle.question.specs.Asked.{restOf, askedOf}
+use Rattle.question.proofs.Laws.{rest-no, rest-yes}
+use Rattle.question.proofs.read_rest.Statement.{statement}
+use Rattle.question.proofs.read_rest.Tie as tie
+
+floats-from-requires : tie.Need-floats-from-requires
+floats-from-requires c κs = search needs
+
+check-inputs-requires : tie.Need-check-inputs-requires
+check-inputs-requires c κs = search needs
+
+enum-known-verdict : tie.Need-enum-known-verdict
+enum-known-verdict c = search needs
+
+refused-requires : tie.Need-refused-requires
+refused-requires c κs = search needs
+
+enum-told : tie.Need-enum-told
+enum-told c = search needs
+
+question-from-requires : tie.Need-question-from-requires
+question-from-requires c κs = search needs
+
+returns : tie.Need-returns
+unfolding restOf
+returns c = let call = c .before .before .before .before in
+    rw (← call .before .before .floats-from .ensures)
+    (rest-no _ _ _ _ _ (call .check-inputs .ensures) (c .before .before .verdict .given .1) (c .refused .ensures))
+
+returns-2 : tie.Need-returns-2
+unfolding restOf askedOf
+returns-2 c = let call = c .before .before .before .before in
+    rw (← call .before .before .floats-from .ensures, ← c .question-from .ensures)
+    (rest-yes _ _ _ _ _ (call .check-inputs .ensures) (c .before .before .enum-told .given .1) refl)
+
+pub read-rest-spec : {M : Type 1} → statement M
+read-rest-spec =
+    tie.close
+    (tie.spec
+    floats-from-requires
+    check-inputs-requires
+    enum-known-verdict
+    refused-requires
+    enum-told
+    question-from-requires
+    returns
+    returns-2)

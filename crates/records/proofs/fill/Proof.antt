@@ -1,0 +1,39 @@
+-- `records::fill` meets its contract. The invariant: the rows so far. Assumes nothing.
+use mathlib.Core.Path.{_≡_}
+use Prim.Native.Nat.{_≤_, _-_}
+use native.Mathlib.Omega.{arith}
+use borrow.Author.Needs.{needs}
+use Rattle.book.specs.Places.{words}
+use Rattle.records.proofs.Loads.{rows-holds, rows-turn, rows-done}
+use Rattle.records.specs.Parameters.{parameter, parameterRows}
+use Rattle.records.proofs.fill.Statement.{statement}
+use Rattle.records.proofs.fill.Tie as tie
+
+abbrev Inv-loop : tie.InvT-loop
+Inv-loop book n plane₀ i₀ plane i = (i ≤ n) × (plane ≡ parameterRows (parameter (words book) n) n i)
+
+abbrev μ-loop : tie.MeasureT-loop
+μ-loop book n plane₀ i₀ plane i = n - i
+
+loop-holds : tie.Need-loop-holds Inv-loop μ-loop
+loop-holds c = (omega arith, rows-holds _ _)
+
+fill-row-requires : tie.Need-fill-row-requires Inv-loop μ-loop
+fill-row-requires c κs = search needs
+
+add-i : tie.Need-add-i Inv-loop μ-loop
+add-i c = omega arith
+
+loop-less : tie.Need-loop-less Inv-loop μ-loop
+loop-less c = omega arith
+
+loop-again : tie.Need-loop-again Inv-loop μ-loop
+loop-again c = (omega arith, rows-turn _ _ _ (c .fill-row .ensures) (c .before .before .before .loop .inv .1))
+
+returns : tie.Need-returns Inv-loop μ-loop
+returns c = rows-done _ _ _ (omega arith) (c .before .loop .inv .1)
+
+pub fill-spec : {M : Type 1} → statement M
+fill-spec =
+    tie.close
+    (tie.spec Inv-loop μ-loop loop-holds fill-row-requires add-i loop-less loop-again returns)

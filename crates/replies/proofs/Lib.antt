@@ -1,0 +1,2 @@
+-- Laws of the blocks, which other crates may cite. Assumes nothing.
+pub mod Laws

@@ -1,0 +1,35 @@
+-- Calls that agree on the named words are answered alike. Assumes nothing.
+use mathlib.Core.Path.{_≡_, refl, sym, ap, _∙_}
+use mathlib.Core.List.{List}
+use Prim.Native.Nat.{ℕ}
+use native.Mathlib.Omega.{arith}
+use Rattle.floats.specs.Outcome.{Out, ok, no, bind}
+use Rattle.book.specs.declared.Head.{Head}
+use Rattle.book.specs.Places.{words}
+use Rattle.book.specs.Book.{ruleOf, bookOf}
+use Rattle.book.proofs.Accepted.{accepted}
+use Rattle.book.proofs.Unread.{book-unread}
+use Rattle.thermo_models.proofs.Unread.{mixture-unread}
+use Rattle.thermo_models.specs.Mixture.{Mixture}
+use Rattle.question.specs.declared.Question.{Question}
+use Rattle.question.specs.Asked.{questionOf}
+use Rattle.question.specs.Named.{AgreeAsked}
+use Rattle.question.proofs.Unread.{question-unread}
+use Rattle.sheet.specs.Tasks.{taskOf}
+use Rattle.sheet.specs.Sheet.{replied, answerTo, roomy, sheetFrom, sheetOf}
+use Rattle.sheet.specs.Unread.{SameCall, Unread}
+
+pub unread : Unread
+unfolding ruleOf answerTo roomy sheetFrom sheetOf bind
+unread s t q r room c = rw (book-unread s t (c .books) (c .checks) (c .checks')) (go (bookOf s) refl (book-unread s t (c .books) (c .checks) (c .checks')))
+  where
+    opened : (h : Head) → bookOf s ≡ ok h → sheetFrom s (h .n) q room ≡ sheetFrom t (h .n) r room
+    opened h e =
+        let n : words s 0 2 ≡ h .n = accepted s e .count in
+        let k : AgreeAsked q r (h .n) = rw n at (c .questions) in
+        ap (λ (o : Out Question). roomy room (bind o (answerTo s (h .n)))) (question-unread q r (h .n) k (ruleOf s) (c .check) (c .check'))
+        ∙ ap (λ (m : Mixture). roomy room (bind (questionOf (ruleOf t) r (h .n)) (λ x. replied (ruleOf t) (x .task) (taskOf m x)))) (mixture-unread s t (c .books) (h .n) n)
+
+    go : (o : Out Head) → bookOf s ≡ o → o ≡ bookOf t → bind (bookOf t) (λ h. sheetFrom s (h .n) q room) ≡ bind (bookOf t) (λ h. sheetFrom t (h .n) r room)
+    go (ok h) e f = rw (sym f) (opened h e)
+    go (no m) e f = rw (sym f)

@@ -1,0 +1,43 @@
+-- `sheet::at_temperature` meets its contract. Assumes nothing.
+use borrow.Author.Needs.{needs}
+use Rattle.sheet.proofs.Replies.{temperature-no}
+use Rattle.sheet.proofs.Dispatch.{temperature-given}
+use Rattle.sheet.proofs.at_temperature.Statement.{statement}
+use Rattle.sheet.proofs.at_temperature.Tie as tie
+
+new-requires : tie.Need-new-requires
+new-requires c κs = search needs
+
+enum-known-made : tie.Need-enum-known-made
+enum-known-made c = search needs
+
+enum-known-made-2 : tie.Need-enum-known-made-2
+enum-known-made-2 c = search needs
+
+parameters-requires : tie.Need-parameters-requires
+parameters-requires c κs = search needs
+
+task-at-requires : tie.Need-task-at-requires
+task-at-requires c κs = search needs
+
+returns : tie.Need-returns
+returns c = search temperature-no
+
+same-length : tie.Need-same-length
+same-length c = search needs
+
+returns-2 : tie.Need-returns-2
+returns-2 c = search temperature-given
+
+pub at-temperature-spec : {M : Type 1} → statement M
+at-temperature-spec =
+    tie.close
+    (tie.spec
+    new-requires
+    enum-known-made
+    enum-known-made-2
+    parameters-requires
+    task-at-requires
+    returns
+    same-length
+    returns-2)

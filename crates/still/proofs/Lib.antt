@@ -1,0 +1,2 @@
+-- Laws of the program's replies. Assumes nothing.
+pub mod Laws

@@ -1,0 +1,2 @@
+-- What the program's contracts cite. Assumes nothing.
+pub mod Sent
