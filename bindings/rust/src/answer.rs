@@ -3,31 +3,16 @@
 use std::fmt;
 
 use crate::block::Block;
+use crate::format::answer::{
+    BALANCE, BUBBLE, DEW, INFERRED, ITERATIONS, LIQUID, LN_GAMMA, NOTES, OUTCOME, PRESSURE, REDUCED_GIBBS, REFUSAL,
+    RESIDUAL, SLOPES, STABLE, TASK, TEMPERATURE, TRIALS, VALIDITY, VAPOR, VAPOR_FRACTION,
+};
+use crate::format::{any, kind, note, outcome, task, trial, validity};
 use crate::{Kelvin, Pascal, Refusal, UpToEight};
-
-/// Places of the answer's words.
-const TASK: usize = 1;
-const REFUSAL: usize = 2;
-const OUTCOME: usize = 3;
-const T: usize = 4;
-const P: usize = 5;
-const BUBBLE: usize = 6;
-const DEW: usize = 7;
-const ITERATIONS: usize = 8;
-const RESIDUAL: usize = 9;
-const BALANCE: usize = 10;
-const VAPOR_FRACTION: usize = 11;
-const TRIALS: usize = 12;
-const NOTES: usize = 13;
-const LIQUID: usize = 14;
-const VAPOR: usize = 22;
-const ENERGIES: usize = 30;
-const VALIDITY: usize = 35;
-const INFERRED: usize = 36;
-const STABLE: usize = 37;
 
 /// What a task gives.
 #[derive(Debug, Clone, PartialEq)]
+#[non_exhaustive]
 pub enum Answer {
     /// Task 1.
     Excess(Excess),
@@ -51,6 +36,7 @@ pub enum Answer {
 
 /// Activity coefficients and excess properties of a liquid.
 #[derive(Debug, Clone, PartialEq)]
+#[non_exhaustive]
 pub struct Excess {
     /// As asked.
     pub temperature: Kelvin,
@@ -68,6 +54,7 @@ pub struct Excess {
 
 /// Excess properties.
 #[derive(Debug, Clone, Copy, PartialEq)]
+#[non_exhaustive]
 pub struct Energies {
     /// g^E/(R T).
     pub reduced_gibbs: f64,
@@ -83,6 +70,7 @@ pub struct Energies {
 
 /// Where the temperature lies, by the pairs that are present.
 #[derive(Debug, Clone, Copy, PartialEq, Eq)]
+#[non_exhaustive]
 pub enum Validity {
     /// Outside no interval, but a pair has none, or there is no pair.
     Unassessed,
@@ -94,6 +82,7 @@ pub enum Validity {
 
 /// A bubble or dew point.
 #[derive(Debug, Clone, PartialEq)]
+#[non_exhaustive]
 pub struct Saturation {
     /// Asked or found.
     pub temperature: Kelvin,
@@ -111,6 +100,7 @@ pub struct Saturation {
 
 /// Tangent-plane trials of a liquid.
 #[derive(Debug, Clone, PartialEq)]
+#[non_exhaustive]
 pub struct Stability {
     /// Whether no trial but a trivial one ended below the threshold.
     pub stable: bool,
@@ -120,6 +110,7 @@ pub struct Stability {
 
 /// A trial that starts near a pure solvent.
 #[derive(Debug, Clone, Copy, PartialEq)]
+#[non_exhaustive]
 pub struct Trial {
     /// The solvent's index.
     pub component: usize,
@@ -135,6 +126,7 @@ pub struct Trial {
 
 /// The phases of a flash, each with its mole fractions.
 #[derive(Debug, Clone, Copy, PartialEq)]
+#[non_exhaustive]
 pub enum Phases {
     /// All liquid.
     Liquid(UpToEight<f64>),
@@ -155,28 +147,33 @@ pub struct Notes(u64);
 
 impl Notes {
     /// The bits as they stand in the answer.
+    #[must_use]
     pub fn bits(self) -> u64 {
         self.0
     }
 
     /// A7-GAMMA-PHI: activity coefficients with an ideal-gas vapor.
+    #[must_use]
     pub fn gamma_phi(self) -> bool {
-        self.0 & 1 != 0
+        self.0 & note::GAMMA_PHI != 0
     }
 
     /// A7-SPLIT-AT-SATURATION-BOUNDARY: the split ended within 1e-10 of a single phase, and is given as that phase.
+    #[must_use]
     pub fn split_at_saturation_boundary(self) -> bool {
-        self.0 & 2 != 0
+        self.0 & note::SPLIT_AT_SATURATION_BOUNDARY != 0
     }
 
     /// A7-LIQUID-TPD-FINITE-TRIALS: the liquid of two phases passed these trials; others may find it unstable.
+    #[must_use]
     pub fn liquid_tpd_finite_trials(self) -> bool {
-        self.0 & 4 != 0
+        self.0 & note::LIQUID_TPD_FINITE_TRIALS != 0
     }
 }
 
 /// The phases of a feed at a temperature and a pressure.
 #[derive(Debug, Clone, PartialEq)]
+#[non_exhaustive]
 pub struct Flash {
     /// As asked.
     pub temperature: Kelvin,
@@ -204,6 +201,7 @@ pub struct Flash {
 
 /// The split of a feed for given K values.
 #[derive(Debug, Clone, PartialEq)]
+#[non_exhaustive]
 pub enum Split {
     /// The feed stays liquid.
     LiquidOnly,
@@ -215,6 +213,7 @@ pub enum Split {
 
 /// Two phases for given K values.
 #[derive(Debug, Clone, PartialEq)]
+#[non_exhaustive]
 pub struct TwoPhase {
     /// Moles of vapor per mole of feed.
     pub vapor_fraction: f64,
@@ -230,6 +229,7 @@ pub struct TwoPhase {
 
 /// Bytes that the core doesn't write.
 #[derive(Debug, Clone, Copy, PartialEq, Eq)]
+#[non_exhaustive]
 pub enum Malformed {
     /// Fewer bytes than the blocks that there should be.
     Length,
@@ -255,6 +255,10 @@ impl Answer {
     /// Reads an answer slice, or what the program `still` wrote, for a book of `solvents` solvents. Bytes behind the
     /// blocks are not read.
     ///
+    /// # Errors
+    ///
+    /// [`Malformed`] where these are not bytes that the core writes. The inner error is the refusal that they hold.
+    ///
     /// ```
     /// use zektonk::{Answer, Phases};
     ///
@@ -265,7 +269,7 @@ impl Answer {
     /// ```
     pub fn decode(bytes: &[u8], solvents: usize) -> Result<Result<Self, Refusal>, Malformed> {
         let reader = Reader { bytes, solvents: solvents.min(8) };
-        let head = reader.block(0, 9)?;
+        let head = reader.block(0, kind::ANSWER)?;
         if head.word(REFUSAL) == 0 {
             return reader.answer(head).map(Ok);
         }
@@ -273,17 +277,18 @@ impl Answer {
     }
 
     /// The task that was asked, 1 to 9.
+    #[must_use]
     pub fn task(&self) -> u64 {
         match self {
-            Self::Excess(_) => 1,
-            Self::BubblePressure(_) => 2,
-            Self::DewPressure(_) => 3,
-            Self::BubbleTemperature(_) => 4,
-            Self::DewTemperature(_) => 5,
-            Self::LiquidStability(_) => 6,
-            Self::TpFlash(_) => 7,
-            Self::RachfordRice(_) => 8,
-            Self::RachfordRiceNegative(_) => 9,
+            Self::Excess(_) => task::EXCESS_AT,
+            Self::BubblePressure(_) => task::BUBBLE_PRESSURE,
+            Self::DewPressure(_) => task::DEW_PRESSURE,
+            Self::BubbleTemperature(_) => task::BUBBLE_TEMPERATURE,
+            Self::DewTemperature(_) => task::DEW_TEMPERATURE,
+            Self::LiquidStability(_) => task::LIQUID_STABILITY,
+            Self::TpFlash(_) => task::TP_FLASH,
+            Self::RachfordRice(_) => task::RACHFORD_RICE,
+            Self::RachfordRiceNegative(_) => task::RACHFORD_RICE_NEGATIVE,
         }
     }
 }
@@ -299,8 +304,8 @@ impl Reader<'_> {
         if !block.check_is_right() {
             return Err(Malformed::Check(at));
         }
-        if block.word(0) != kind {
-            return Err(Malformed::Word(at, 0));
+        if block.word(any::KIND) != kind {
+            return Err(Malformed::Word(at, any::KIND));
         }
         Ok(block)
     }
@@ -313,32 +318,34 @@ impl Reader<'_> {
 
     fn answer(&self, head: Block<'_>) -> Result<Answer, Malformed> {
         Ok(match head.word(TASK) {
-            1 => Answer::Excess(self.excess(head)?),
-            2 => Answer::BubblePressure(self.saturation(head)),
-            3 => Answer::DewPressure(self.saturation(head)),
-            4 => Answer::BubbleTemperature(self.saturation(head)),
-            5 => Answer::DewTemperature(self.saturation(head)),
-            6 => Answer::LiquidStability(self.stability(head)?),
-            7 => Answer::TpFlash(self.flash(head)?),
-            8 => Answer::RachfordRice(self.split(head)?),
-            9 if head.word(OUTCOME) == 3 => Answer::RachfordRiceNegative(self.two_phase(head)),
-            9 => return Err(Malformed::Word(0, OUTCOME)),
+            task::EXCESS_AT => Answer::Excess(self.excess(head)?),
+            task::BUBBLE_PRESSURE => Answer::BubblePressure(self.saturation(head)),
+            task::DEW_PRESSURE => Answer::DewPressure(self.saturation(head)),
+            task::BUBBLE_TEMPERATURE => Answer::BubbleTemperature(self.saturation(head)),
+            task::DEW_TEMPERATURE => Answer::DewTemperature(self.saturation(head)),
+            task::LIQUID_STABILITY => Answer::LiquidStability(self.stability(head)?),
+            task::TP_FLASH => Answer::TpFlash(self.flash(head)?),
+            task::RACHFORD_RICE => Answer::RachfordRice(self.split(head)?),
+            task::RACHFORD_RICE_NEGATIVE if head.word(OUTCOME) == outcome::LIQUID_AND_VAPOR => {
+                Answer::RachfordRiceNegative(self.two_phase(head))
+            }
+            task::RACHFORD_RICE_NEGATIVE => return Err(Malformed::Word(0, OUTCOME)),
             _ => return Err(Malformed::Word(0, TASK)),
         })
     }
 
     fn excess(&self, head: Block<'_>) -> Result<Excess, Malformed> {
         let [reduced_gibbs, gibbs, enthalpy, entropy, heat_capacity] =
-            std::array::from_fn(|k| head.float(ENERGIES + k));
+            std::array::from_fn(|k| head.float(REDUCED_GIBBS + k));
         Ok(Excess {
-            temperature: Kelvin(head.float(T)),
-            ln_gamma: self.entries(head, LIQUID),
-            slopes: self.entries(head, VAPOR),
+            temperature: Kelvin(head.float(TEMPERATURE)),
+            ln_gamma: self.entries(head, LN_GAMMA),
+            slopes: self.entries(head, SLOPES),
             energies: Energies { reduced_gibbs, gibbs, enthalpy, entropy, heat_capacity },
             validity: match head.word(VALIDITY) {
-                0 => Validity::Unassessed,
-                1 => Validity::Within,
-                2 => Validity::Extrapolated,
+                validity::UNASSESSED => Validity::Unassessed,
+                validity::WITHIN => Validity::Within,
+                validity::EXTRAPOLATED => Validity::Extrapolated,
                 _ => return Err(Malformed::Word(0, VALIDITY)),
             },
             inferred: flag(head, 0, INFERRED)?,
@@ -347,8 +354,8 @@ impl Reader<'_> {
 
     fn saturation(&self, head: Block<'_>) -> Saturation {
         Saturation {
-            temperature: Kelvin(head.float(T)),
-            pressure: Pascal(head.float(P)),
+            temperature: Kelvin(head.float(TEMPERATURE)),
+            pressure: Pascal(head.float(PRESSURE)),
             iterations: head.word(ITERATIONS),
             residual: head.float(RESIDUAL),
             liquid: self.entries(head, LIQUID),
@@ -357,40 +364,36 @@ impl Reader<'_> {
     }
 
     fn stability(&self, head: Block<'_>) -> Result<Stability, Malformed> {
-        let count = head.word(TRIALS);
-        if count > 8 {
-            return Err(Malformed::Word(0, TRIALS));
-        }
-        let trials = (1..=count as usize).map(|at| self.trial(at)).collect::<Result<_, _>>()?;
+        let count = usize::try_from(head.word(TRIALS)).ok().filter(|count| *count <= 8);
+        let trials =
+            (1..=count.ok_or(Malformed::Word(0, TRIALS))?).map(|at| self.trial(at)).collect::<Result<_, _>>()?;
         Ok(Stability { stable: flag(head, 0, STABLE)?, trials })
     }
 
     fn trial(&self, at: usize) -> Result<Trial, Malformed> {
-        let block = self.block(at, 10)?;
-        if block.word(1) >= self.solvents as u64 {
-            return Err(Malformed::Word(at, 1));
-        }
+        let block = self.block(at, kind::TRIAL)?;
+        let component = usize::try_from(block.word(trial::COMPONENT)).ok().filter(|index| *index < self.solvents);
         Ok(Trial {
-            component: block.word(1) as usize,
-            distance: block.float(2),
-            iterations: block.word(3),
-            trivial: flag(block, at, 4)?,
-            fractions: self.entries(block, 5),
+            component: component.ok_or(Malformed::Word(at, trial::COMPONENT))?,
+            distance: block.float(trial::DISTANCE),
+            iterations: block.word(trial::ITERATIONS),
+            trivial: flag(block, at, trial::TRIVIAL)?,
+            fractions: self.entries(block, trial::FRACTIONS),
         })
     }
 
     fn flash(&self, head: Block<'_>) -> Result<Flash, Malformed> {
         let (liquid, vapor) = (self.entries(head, LIQUID), self.entries(head, VAPOR));
         let phases = match head.word(OUTCOME) {
-            1 => Phases::Liquid(liquid),
-            2 => Phases::Vapor(vapor),
-            3 => Phases::Both { liquid, vapor },
+            outcome::LIQUID => Phases::Liquid(liquid),
+            outcome::VAPOR => Phases::Vapor(vapor),
+            outcome::LIQUID_AND_VAPOR => Phases::Both { liquid, vapor },
             _ => return Err(Malformed::Word(0, OUTCOME)),
         };
         let tested = if matches!(phases, Phases::Vapor(_)) { None } else { Some(self.stability(head)?) };
         Ok(Flash {
-            temperature: Kelvin(head.float(T)),
-            pressure: Pascal(head.float(P)),
+            temperature: Kelvin(head.float(TEMPERATURE)),
+            pressure: Pascal(head.float(PRESSURE)),
             bubble: Pascal(head.float(BUBBLE)),
             dew: Pascal(head.float(DEW)),
             iterations: head.word(ITERATIONS),
@@ -405,9 +408,9 @@ impl Reader<'_> {
 
     fn split(&self, head: Block<'_>) -> Result<Split, Malformed> {
         match head.word(OUTCOME) {
-            1 => Ok(Split::LiquidOnly),
-            2 => Ok(Split::VaporOnly),
-            3 => Ok(Split::TwoPhase(self.two_phase(head))),
+            outcome::LIQUID => Ok(Split::LiquidOnly),
+            outcome::VAPOR => Ok(Split::VaporOnly),
+            outcome::LIQUID_AND_VAPOR => Ok(Split::TwoPhase(self.two_phase(head))),
             _ => Err(Malformed::Word(0, OUTCOME)),
         }
     }
@@ -449,8 +452,9 @@ mod tests {
     #[test]
     fn words_of_task_1() {
         let energies: Vec<f64> = (1..=5).map(f64::from).collect();
-        let block = head(1).float(T, 300.0).floats(LIQUID, &[0.5, 0.25, 9.0]).floats(VAPOR, &[-0.5, -0.25, 9.0]);
-        let block = block.floats(ENERGIES, &energies).word(VALIDITY, 2).word(INFERRED, 1);
+        let block =
+            head(1).float(TEMPERATURE, 300.0).floats(LIQUID, &[0.5, 0.25, 9.0]).floats(VAPOR, &[-0.5, -0.25, 9.0]);
+        let block = block.floats(REDUCED_GIBBS, &energies).word(VALIDITY, 2).word(INFERRED, 1);
         let Ok(Ok(Answer::Excess(found))) = Answer::decode(&block.seal(), 2) else { panic!("task 1") };
         assert_eq!(found.temperature, Kelvin(300.0));
         assert_eq!((found.ln_gamma, found.slopes), ([0.5, 0.25].into(), [-0.5, -0.25].into()));
@@ -462,7 +466,11 @@ mod tests {
     #[test]
     fn words_of_task_7() {
         let floats: Vec<f64> = (1..=4).map(f64::from).collect();
-        let block = head(7).word(OUTCOME, 1).floats(T, &floats).word(ITERATIONS, 5).floats(RESIDUAL, &[6.0, 7.0, 0.0]);
+        let block = head(7)
+            .word(OUTCOME, 1)
+            .floats(TEMPERATURE, &floats)
+            .word(ITERATIONS, 5)
+            .floats(RESIDUAL, &[6.0, 7.0, 0.0]);
         let block = block.word(TRIALS, 1).word(NOTES, 3).floats(LIQUID, &[0.75, 0.25]).word(STABLE, 1).seal();
         let trial = Words::new(10).word(1, 1).float(2, 0.5).word(3, 9).word(4, 1).floats(5, &[0.1, 0.9]).seal();
         let Ok(Ok(Answer::TpFlash(found))) = Answer::decode(&[block, trial].concat(), 2) else { panic!("task 7") };

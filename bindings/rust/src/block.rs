@@ -1,11 +1,10 @@
 //! Blocks of 512 bytes: 64 little-endian words of 64 bits, a float as its bits; word 63 is the sum of words 0 to 62
 //! modulo 2^64.
 
+use crate::format::any::{CHECK, KIND};
+
 /// Bytes of a block.
 pub const BLOCK: usize = 512;
-
-/// Words of a block, the check among them.
-const WORDS: usize = BLOCK / 8;
 
 /// A block of somebody's bytes, read where it lies.
 ///
@@ -25,74 +24,103 @@ pub struct Block<'a>(&'a [u8; BLOCK]);
 
 impl<'a> Block<'a> {
     /// The block of these bytes.
+    #[must_use]
     pub fn new(bytes: &'a [u8; BLOCK]) -> Self {
         Self(bytes)
     }
 
     /// Block `at` of a row of blocks, if it is there whole.
+    #[must_use]
     pub fn of(bytes: &'a [u8], at: usize) -> Option<Self> {
         let from = at.checked_mul(BLOCK)?;
         bytes.get(from..)?.first_chunk().map(Self)
     }
 
     /// Its bytes.
+    #[must_use]
     pub fn bytes(self) -> &'a [u8; BLOCK] {
         self.0
     }
 
-    /// A word by its place, 0 to 63; panics past that.
+    /// A word by its place, 0 to 63.
+    ///
+    /// # Panics
+    ///
+    /// Past 63.
+    #[must_use]
     pub fn word(self, at: usize) -> u64 {
         let bytes = self.0[8 * at..].first_chunk().expect("a block has 64 words");
         u64::from_le_bytes(*bytes)
     }
 
     /// The float whose bits a word holds.
+    ///
+    /// # Panics
+    ///
+    /// Past 63.
+    #[must_use]
     pub fn float(self, at: usize) -> f64 {
         f64::from_bits(self.word(at))
     }
 
     /// Sum of words 0 to 62 modulo 2^64.
+    #[must_use]
     pub fn sum(self) -> u64 {
-        (0..WORDS - 1).fold(0, |sum, at| sum.wrapping_add(self.word(at)))
+        (0..CHECK).fold(0, |sum, at| sum.wrapping_add(self.word(at)))
     }
 
     /// Whether word 63 is that sum.
+    #[must_use]
     pub fn check_is_right(self) -> bool {
-        self.word(WORDS - 1) == self.sum()
+        self.word(CHECK) == self.sum()
     }
 }
 
 /// The words of a block in the making; those not set are 0.
 #[derive(Debug, Clone)]
+#[must_use = "words become a block by `seal`"]
 pub struct Words([u8; BLOCK]);
 
 impl Words {
     /// Word 0 is the kind.
     pub fn new(kind: u64) -> Self {
-        Self([0; BLOCK]).word(0, kind)
+        Self([0; BLOCK]).word(KIND, kind)
     }
 
-    /// Sets a word by its place, 0 to 62; panics past that.
+    /// Sets a word by its place, 0 to 62.
+    ///
+    /// # Panics
+    ///
+    /// Past 62: word 63 is the check.
     pub fn word(mut self, at: usize, value: u64) -> Self {
-        assert!(at < WORDS - 1, "word 63 is the check");
+        assert!(at < CHECK, "word 63 is the check");
         self.0[8 * at..8 * at + 8].copy_from_slice(&value.to_le_bytes());
         self
     }
 
     /// Sets a word to a float's bits.
+    ///
+    /// # Panics
+    ///
+    /// Past 62.
     pub fn float(self, at: usize, value: f64) -> Self {
         self.word(at, value.to_bits())
     }
 
     /// Sets words in a row.
+    ///
+    /// # Panics
+    ///
+    /// Where a value would stand past 62.
     pub fn floats(self, at: usize, values: &[f64]) -> Self {
         values.iter().zip(at..).fold(self, |words, (value, at)| words.float(at, *value))
     }
 
     /// The block's bytes with its check.
+    #[must_use]
     pub fn seal(mut self) -> [u8; BLOCK] {
         let sum = Block::new(&self.0).sum();
-        self.0[BLOCK - 8..].copy_from_slice(&sum.to_le_bytes());
+        self.0[8 * CHECK..].copy_from_slice(&sum.to_le_bytes());
         self.0
     }
 }

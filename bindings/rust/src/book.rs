@@ -4,6 +4,10 @@ use std::borrow::Cow;
 use std::fmt;
 
 use crate::block::{Block, Words, BLOCK};
+use crate::format::solvent::{
+    CAS, DENSITY_T_R, INDEX, VAPOR_EXPONENT, VAPOR_HIGH, VAPOR_LOW, VAPOR_N, VAPOR_REDUCING, VAPOR_TERMS, VAPOR_T_R,
+};
+use crate::format::{self, kind, pair};
 use crate::UpToEight;
 
 /// Bytes of the largest book: eight solvents and their 28 pairs.
@@ -11,10 +15,6 @@ pub const BOOK_LARGEST: usize = 37 * BLOCK;
 
 /// One block more than any book has: who reads a book up to here sees that it is too long.
 pub const BOOK_MOST: usize = 38 * BLOCK;
-
-/// First word of a solvent's two records.
-const VAPOR_PRESSURE: usize = 3;
-const DENSITY: usize = 24;
 
 /// The bytes of a book, borrowed or owned. They are not tested here: [`answer`](crate::answer) does that.
 ///
@@ -50,19 +50,22 @@ impl Book<'_> {
     }
 
     /// All bytes.
+    #[must_use]
     pub fn bytes(&self) -> &[u8] {
         &self.bytes
     }
 
     /// A block by its place: block 0, the solvents, the pairs.
+    #[must_use]
     pub fn block(&self, at: usize) -> Option<Block<'_>> {
         Block::of(&self.bytes, at)
     }
 
     /// How many solvents block 0 says there are, if that is 1 to 8.
+    #[must_use]
     pub fn solvents(&self) -> Option<usize> {
-        let n = self.block(0)?.word(2);
-        (1..=8).contains(&n).then_some(n as usize)
+        let n = usize::try_from(self.block(0)?.word(format::book::SOLVENTS)).ok()?;
+        (1..=8).contains(&n).then_some(n)
     }
 }
 
@@ -96,15 +99,18 @@ pub struct Correlation {
 }
 
 impl Correlation {
-    /// 21 words from `at`.
-    fn put(&self, words: Words, at: usize) -> Words {
-        let columns = self.terms.iter().enumerate();
+    /// The words of the vapor pressure, or the same moved to where the record begins.
+    fn put(&self, words: Words, first: usize) -> Words {
+        let at = |word: usize| first + (word - VAPOR_T_R);
         let words = words
-            .float(at, self.t_r)
-            .float(at + 1, self.reducing_value)
-            .floats(at + 2, &self.range)
-            .word(at + 4, self.terms.len() as u64);
-        columns.fold(words, |words, (k, term)| words.float(at + 5 + k, term.n).float(at + 13 + k, term.exponent))
+            .float(at(VAPOR_T_R), self.t_r)
+            .float(at(VAPOR_REDUCING), self.reducing_value)
+            .float(at(VAPOR_LOW), self.range[0])
+            .float(at(VAPOR_HIGH), self.range[1])
+            .word(at(VAPOR_TERMS), self.terms.len() as u64);
+        self.terms.iter().enumerate().fold(words, |words, (k, term)| {
+            words.float(at(VAPOR_N) + k, term.n).float(at(VAPOR_EXPONENT) + k, term.exponent)
+        })
     }
 }
 
@@ -121,8 +127,8 @@ pub struct Solvent {
 
 impl Solvent {
     fn encode(&self, index: usize) -> [u8; BLOCK] {
-        let words = Words::new(2).word(1, index as u64).word(2, self.cas);
-        self.density.put(self.vapor_pressure.put(words, VAPOR_PRESSURE), DENSITY).seal()
+        let words = Words::new(kind::SOLVENT).word(INDEX, index as u64).word(CAS, self.cas);
+        self.density.put(self.vapor_pressure.put(words, VAPOR_T_R), DENSITY_T_R).seal()
     }
 }
 
@@ -152,18 +158,20 @@ pub struct Pair {
 
 impl Pair {
     fn encode(&self, i: usize, j: usize) -> [u8; BLOCK] {
-        let words = Words::new(3)
-            .word(1, i as u64)
-            .word(2, j as u64)
-            .floats(3, &self.tau_ij)
-            .floats(7, &self.tau_ji)
-            .floats(11, &self.alpha)
-            .floats(13, &self.alpha);
+        let words = Words::new(kind::PAIR)
+            .word(pair::I, i as u64)
+            .word(pair::J, j as u64)
+            .floats(pair::TAU_IJ, &self.tau_ij)
+            .floats(pair::TAU_JI, &self.tau_ji)
+            .floats(pair::ALPHA_IJ, &self.alpha)
+            .floats(pair::ALPHA_JI, &self.alpha);
         let words = match self.interval {
             None => words,
-            Some(Interval { low, high, inferred }) => {
-                words.word(15, 1).floats(16, &[low, high]).word(18, inferred.into())
-            }
+            Some(Interval { low, high, inferred }) => words
+                .word(pair::INTERVAL, 1)
+                .float(pair::LOW, low)
+                .float(pair::HIGH, high)
+                .word(pair::INFERRED, inferred.into()),
         };
         words.seal()
     }
@@ -187,6 +195,7 @@ impl Pair {
 /// # Ok::<(), Incomplete>(())
 /// ```
 #[derive(Debug, Clone, Default)]
+#[must_use = "a builder makes a book by `build`"]
 pub struct Builder {
     solvents: Vec<Solvent>,
     pairs: Vec<(usize, usize, Pair)>,
@@ -194,6 +203,7 @@ pub struct Builder {
 
 /// Why there is no book yet. What its numbers are worth is for the core to say.
 #[derive(Debug, Clone, Copy, PartialEq, Eq)]
+#[non_exhaustive]
 pub enum Incomplete {
     /// Not 1 to 8 solvents; how many.
     Solvents(usize),
@@ -232,6 +242,10 @@ impl Builder {
     }
 
     /// The book, if each pair of its solvents is there once.
+    ///
+    /// # Errors
+    ///
+    /// [`Incomplete`] where there are not 1 to 8 solvents, or a pair is missing, given twice or of no two solvents.
     pub fn build(&self) -> Result<Book<'static>, Incomplete> {
         let n = self.solvents.len();
         if !(1..=8).contains(&n) {
@@ -240,8 +254,10 @@ impl Builder {
         if let Some((i, j, _)) = self.pairs.iter().find(|(i, j, _)| i >= j || *j >= n) {
             return Err(Incomplete::PairPlaces(*i, *j));
         }
+        let head = Words::new(kind::BOOK).word(format::book::VERSION, format::VERSION);
+        let head = head.word(format::book::SOLVENTS, n as u64);
         let mut bytes = Vec::with_capacity((1 + n + n * (n - 1) / 2) * BLOCK);
-        bytes.extend_from_slice(&Words::new(1).word(1, 1).word(2, n as u64).seal());
+        bytes.extend_from_slice(&head.seal());
         for (index, solvent) in self.solvents.iter().enumerate() {
             bytes.extend_from_slice(&solvent.encode(index));
         }

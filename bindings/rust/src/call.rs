@@ -19,6 +19,22 @@ extern "C" {
 /// Any slices may be given, empty ones too. `answer` needs [`ANSWER_ROOM`](crate::ANSWER_ROOM) bytes, otherwise the
 /// number is 10. The call allocates nothing and keeps nothing, so threads may call at one time.
 ///
+/// # Errors
+///
+/// The core's number, as a [`Refusal`].
+///
+/// # Rounding
+///
+/// The core is proved for floats as Rust has them: rounded to nearest, subnormals kept. Foreign code that leaves
+/// another rounding or the flush-to-zero bits in the thread's `MXCSR` breaks what Rust takes for granted, and this with
+/// it: nothing proved holds of the call, and nothing tells it from a right one. With another rounding its floats differ
+/// from about the 13th digit on, and it may refuse what is otherwise answered. Who calls such code puts the default
+/// back (0x1f80) before anything else of Rust runs.
+///
+/// # Panics
+///
+/// Where the core gives a number that is no refusal, which it is proved not to.
+///
 /// ```
 /// use zektonk::{answer_bytes, Refusal, ANSWER_ROOM};
 ///

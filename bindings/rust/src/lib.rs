@@ -1,25 +1,29 @@
 //! The proved phase-equilibrium core, called from Rust: activity coefficients, bubble and dew points, liquid trials,
 //! flashes and splits of up to eight solvents (NRTL with an ideal-gas vapor).
 //!
-//! A [`Book`] holds the solvents and their pairs, a [`Question`] is a [`Task`] put to a feed, and [`answer`] gives an
-//! [`Answer`] or a [`Refusal`]. Nothing is tested on this side: what a question says goes to the core as it is, and the
-//! core answers it or refuses with one of 30 numbers.
+//! A [`Book`] holds the solvents and their pairs. Each task is a call that gives its own answer or a [`Refusal`]:
+//! [`excess_at`], [`bubble_pressure`], [`dew_pressure`], [`bubble_temperature`], [`dew_temperature`],
+//! [`liquid_stability`], [`tp_flash`], [`rachford_rice`], [`rachford_rice_negative`].
 //!
 //! ```
-//! use zektonk::{answer, Answer, Book, Kelvin, Options, Pascal, Phases, Question, Task};
+//! use zektonk::{tp_flash, Book, Kelvin, Options, Pascal, Phases};
 //!
 //! // Ethanol and water.
 //! let bytes = include_bytes!("../../../crates/still/data/book.bin");
 //! let book = Book::from(&bytes[..]);
-//! let task = Task::TpFlash { temperature: Kelvin(351.44), pressure: Pascal(90_000.0), options: Options::default() };
-//! let Answer::TpFlash(flash) = answer(&book, &Question::new(task, [0.5, 0.5]))? else { unreachable!() };
+//! let flash = tp_flash(&book, [0.5, 0.5], Kelvin(351.44), Pascal(90_000.0), Options::default())?;
 //! let Phases::Both { liquid, vapor } = flash.phases else { panic!("one phase") };
 //! assert!(vapor[0] > liquid[0]);
 //! assert!((flash.vapor_fraction - 0.6986).abs() < 1e-4);
 //! # Ok::<(), zektonk::Refusal>(())
 //! ```
 //!
-//! Who holds bytes already calls [`answer_bytes`], which copies nothing.
+//! Who learns the task at run time asks a [`Question`], a [`Task`] put to a feed, by [`answer`], and gets an
+//! [`Answer`]. Who holds bytes already calls [`answer_bytes`], which copies nothing.
+//!
+//! This side tests that feed and K values have an entry for each solvent of the book, and nothing else: what a question
+//! says goes to the core as it is, and the core answers it or refuses with one of 30 numbers. What a changed rounding
+//! mode does is said at [`answer_bytes`]. [`format`](mod@format) names the words of the blocks.
 #![deny(missing_docs)]
 #![deny(unsafe_code)]
 
@@ -27,8 +31,10 @@ mod answer;
 mod block;
 mod book;
 mod call;
+pub mod format;
 mod question;
 mod refusal;
+mod tasks;
 mod up_to_eight;
 
 pub use answer::{
@@ -39,12 +45,29 @@ pub use book::{Book, Builder, Correlation, Incomplete, Interval, Pair, Solvent, 
 pub use call::answer_bytes;
 pub use question::{Kelvin, Options, Pascal, Question, Task};
 pub use refusal::Refusal;
+pub use tasks::{
+    bubble_pressure, bubble_temperature, dew_pressure, dew_temperature, excess_at, liquid_stability, rachford_rice,
+    rachford_rice_negative, tp_flash,
+};
 pub use up_to_eight::{TooMany, UpToEight};
+
+/// Of this crate, of the header and of the archive beside it.
+pub const VERSION: &str = env!("CARGO_PKG_VERSION");
 
 /// Bytes that an answer slice has or exceeds: the answer block and eight trials.
 pub const ANSWER_ROOM: usize = 9 * BLOCK;
 
+/// The page's code is a test as well.
+#[cfg(doctest)]
+#[doc = include_str!("../README.md")]
+struct Readme;
+
 /// The answer to a question from a book.
+///
+/// # Errors
+///
+/// The core's refusal; or, before the core is asked, that feed or K values haven't an entry for each solvent of the
+/// book.
 ///
 /// ```
 /// use zektonk::{answer, Book, Kelvin, Question, Refusal, Task};
@@ -52,8 +75,18 @@ pub const ANSWER_ROOM: usize = 9 * BLOCK;
 /// let empty = Book::from(&[][..]);
 /// let question = Question::new(Task::BubblePressure { temperature: Kelvin(350.0) }, [1.0]);
 /// assert_eq!(answer(&empty, &question), Err(Refusal::BookLength));
+///
+/// let two = Book::from(&include_bytes!("../../../crates/still/data/book.bin")[..]);
+/// assert_eq!(answer(&two, &question), Err(Refusal::FeedLength { entries: 1, solvents: 2 }));
 /// ```
+///
+/// # Panics
+///
+/// Where the core writes what is no answer, which it is proved not to.
 pub fn answer(book: &Book<'_>, question: &Question) -> Result<Answer, Refusal> {
+    if let Some(solvents) = book.solvents() {
+        question.fits(solvents)?;
+    }
     let mut room = [0; ANSWER_ROOM];
     answer_bytes(book.bytes(), &question.encode(), &mut room)?;
     let solvents = book.solvents().expect("an accepted book counts its solvents");

@@ -1,20 +1,12 @@
 //! Questions: a task with the inputs that it reads, put to a feed.
 
 use crate::block::{Words, BLOCK};
-use crate::UpToEight;
-
-/// Places of the question's words.
-const TASK: usize = 1;
-const TEMPERATURE: usize = 2;
-const PRESSURE: usize = 3;
-const FRACTIONS: usize = 4;
-const MAX_ITERATIONS: usize = 12;
-const TOLERANCE: usize = 13;
-const MAX_TEMPERATURE_ITERATIONS: usize = 14;
-const ENERGY_TOLERANCE: usize = 15;
-const TM_THRESHOLD: usize = 16;
-const BRACKET: usize = 17;
-const K_VALUES: usize = 19;
+use crate::format::question::{
+    ENERGY_TOLERANCE, FRACTIONS, K_VALUES, LOW, MAX_ITERATIONS, MAX_TEMPERATURE_ITERATIONS, PRESSURE, TASK,
+    TEMPERATURE, TM_THRESHOLD, TOLERANCE,
+};
+use crate::format::{kind, task};
+use crate::{Refusal, UpToEight};
 
 /// A temperature in kelvin; any float, tested by the core.
 #[derive(Debug, Clone, Copy, PartialEq, PartialOrd, Default)]
@@ -57,6 +49,7 @@ impl Default for Options {
 
 /// What is asked of a feed, with the inputs that are read.
 #[derive(Debug, Clone, Copy, PartialEq)]
+#[non_exhaustive]
 pub enum Task {
     /// 1: activity coefficients and excess properties.
     ExcessAt {
@@ -123,23 +116,23 @@ pub enum Task {
 
 impl Task {
     /// The task's number, 1 to 9.
+    #[must_use]
     pub fn number(&self) -> u64 {
         match self {
-            Self::ExcessAt { .. } => 1,
-            Self::BubblePressure { .. } => 2,
-            Self::DewPressure { .. } => 3,
-            Self::BubbleTemperature { .. } => 4,
-            Self::DewTemperature { .. } => 5,
-            Self::LiquidStability { .. } => 6,
-            Self::TpFlash { .. } => 7,
-            Self::RachfordRice { .. } => 8,
-            Self::RachfordRiceNegative { .. } => 9,
+            Self::ExcessAt { .. } => task::EXCESS_AT,
+            Self::BubblePressure { .. } => task::BUBBLE_PRESSURE,
+            Self::DewPressure { .. } => task::DEW_PRESSURE,
+            Self::BubbleTemperature { .. } => task::BUBBLE_TEMPERATURE,
+            Self::DewTemperature { .. } => task::DEW_TEMPERATURE,
+            Self::LiquidStability { .. } => task::LIQUID_STABILITY,
+            Self::TpFlash { .. } => task::TP_FLASH,
+            Self::RachfordRice { .. } => task::RACHFORD_RICE,
+            Self::RachfordRiceNegative { .. } => task::RACHFORD_RICE_NEGATIVE,
         }
     }
 }
 
-/// A task and the feed's mole fractions, one for each solvent of the book in its order; those that are missing are 0,
-/// those past the book's are not read.
+/// A task and the feed's mole fractions, one for each solvent of the book in its order, 0 for one that is absent.
 #[derive(Debug, Clone, Copy, PartialEq)]
 pub struct Question {
     /// What is asked.
@@ -150,13 +143,28 @@ pub struct Question {
 
 impl Question {
     /// A task put to a feed.
+    #[must_use]
     pub fn new(task: Task, feed: impl Into<UpToEight<f64>>) -> Self {
         Self { task, feed: feed.into() }
     }
 
+    /// Whether feed and K values have an entry for each solvent of a book.
+    pub(crate) fn fits(&self, solvents: usize) -> Result<(), Refusal> {
+        if self.feed.len() != solvents {
+            return Err(Refusal::FeedLength { entries: self.feed.len(), solvents });
+        }
+        match &self.task {
+            Task::RachfordRice { k, .. } | Task::RachfordRiceNegative { k, .. } if k.len() != solvents => {
+                Err(Refusal::KLength { entries: k.len(), solvents })
+            }
+            _ => Ok(()),
+        }
+    }
+
     /// The question's block. Words that the task doesn't read are 0.
+    #[must_use]
     pub fn encode(&self) -> [u8; BLOCK] {
-        let words = Words::new(8).word(TASK, self.task.number()).floats(FRACTIONS, &self.feed);
+        let words = Words::new(kind::QUESTION).word(TASK, self.task.number()).floats(FRACTIONS, &self.feed);
         let heat = |words: Words, t: &Kelvin| words.float(TEMPERATURE, t.0);
         let press = |words: Words, p: &Pascal| words.float(PRESSURE, p.0);
         let words = match &self.task {
@@ -185,7 +193,7 @@ fn put_options(words: Words, options: &Options) -> Words {
         .word(MAX_TEMPERATURE_ITERATIONS, options.max_temperature_iterations)
         .float(ENERGY_TOLERANCE, options.energy_tolerance)
         .float(TM_THRESHOLD, options.tm_threshold)
-        .floats(BRACKET, &options.bracket.map(|t| t.0))
+        .floats(LOW, &options.bracket.map(|t| t.0))
 }
 
 #[cfg(test)]

@@ -1,4 +1,4 @@
-//! The 30 numbers that a call is refused with.
+//! The 30 numbers that a call is refused with, and what this crate refuses before it.
 
 use std::fmt;
 
@@ -6,21 +6,52 @@ macro_rules! refusals {
     ($($number:literal $name:ident $text:literal)*) => {
         /// Why there is no answer: the first question put to the call that was answered no.
         #[derive(Debug, Clone, Copy, PartialEq, Eq, Hash, PartialOrd, Ord)]
-        #[repr(u8)]
+        #[non_exhaustive]
         pub enum Refusal {
             $(
                 #[doc = concat!($number, ": ", $text, ".")]
-                $name = $number,
+                $name,
             )*
+            /// This crate's own, found before the call: the feed hasn't an entry for each solvent of the book.
+            FeedLength {
+                /// Of the feed.
+                entries: usize,
+                /// Of the book.
+                solvents: usize,
+            },
+            /// This crate's own, found before the call: there isn't a K value for each solvent of the book.
+            KLength {
+                /// K values.
+                entries: usize,
+                /// Of the book.
+                solvents: usize,
+            },
         }
 
         impl Refusal {
-            /// All of them, in order.
+            /// The core's, in order.
             pub const ALL: [Self; 30] = [$(Self::$name),*];
 
-            fn text(self) -> &'static str {
+            /// The core's number, 1 to 30; none of what this crate refuses before the call.
+            #[must_use]
+            pub fn number(self) -> Option<u64> {
                 match self {
-                    $(Self::$name => $text,)*
+                    $(Self::$name => Some($number),)*
+                    Self::FeedLength { .. } | Self::KLength { .. } => None,
+                }
+            }
+        }
+
+        impl fmt::Display for Refusal {
+            fn fmt(&self, f: &mut fmt::Formatter<'_>) -> fmt::Result {
+                match self {
+                    $(Self::$name => f.write_str(concat!("refused with ", $number, ": ", $text)),)*
+                    Self::FeedLength { entries, solvents } => {
+                        write!(f, "not asked: the feed has {entries} entries, the book {solvents} solvents")
+                    }
+                    Self::KLength { entries, solvents } => {
+                        write!(f, "not asked: there are {entries} K values, the book has {solvents} solvents")
+                    }
                 }
             }
         }
@@ -61,29 +92,19 @@ refusals! {
 }
 
 impl Refusal {
-    /// The number, 1 to 30.
-    pub fn number(self) -> u64 {
-        self as u64
-    }
-
-    /// The refusal of a number.
+    /// The refusal of a number of the core.
     ///
     /// ```
     /// use zektonk::Refusal;
     ///
     /// assert_eq!(Refusal::from_number(18), Some(Refusal::FractionSum));
-    /// assert_eq!(Refusal::FractionSum.number(), 18);
+    /// assert_eq!(Refusal::FractionSum.number(), Some(18));
     /// assert_eq!((Refusal::from_number(0), Refusal::from_number(31)), (None, None));
     /// ```
+    #[must_use]
     pub fn from_number(number: u64) -> Option<Self> {
         let at = usize::try_from(number).ok()?.checked_sub(1)?;
         Self::ALL.get(at).copied()
-    }
-}
-
-impl fmt::Display for Refusal {
-    fn fmt(&self, f: &mut fmt::Formatter<'_>) -> fmt::Result {
-        write!(f, "refused with {}: {}", self.number(), self.text())
     }
 }
 
@@ -96,7 +117,7 @@ mod tests {
     #[test]
     fn numbers_are_1_to_30() {
         for (number, refusal) in (1..).zip(Refusal::ALL) {
-            assert_eq!(refusal.number(), number);
+            assert_eq!(refusal.number(), Some(number));
             assert_eq!(Refusal::from_number(number), Some(refusal));
         }
         assert_eq!(Refusal::from_number(u64::MAX), None);
@@ -104,8 +125,16 @@ mod tests {
 
     #[test]
     fn each_has_a_text_of_its_own() {
-        let texts: std::collections::BTreeSet<_> = Refusal::ALL.iter().map(|refusal| refusal.text()).collect();
+        let texts: std::collections::BTreeSet<_> = Refusal::ALL.iter().map(ToString::to_string).collect();
         assert_eq!(texts.len(), 30);
         assert_eq!(Refusal::KOneSided.to_string(), "refused with 28: the K values are not on both sides of 1");
+    }
+
+    #[test]
+    fn what_the_crate_refuses_has_no_number() {
+        let refusal = Refusal::FeedLength { entries: 3, solvents: 2 };
+        assert_eq!(refusal.number(), None);
+        assert_eq!(refusal.to_string(), "not asked: the feed has 3 entries, the book 2 solvents");
+        assert!(!Refusal::ALL.contains(&refusal));
     }
 }

@@ -5,8 +5,12 @@ mod ethanol_water;
 
 use ethanol_water::ethanol_water;
 use zektonk::{
-    answer, answer_bytes, Answer, Book, Correlation, Kelvin, Options, Pair, Pascal, Phases, Question, Refusal, Solvent,
-    Split, Task, UpToEight, Validity, Words, ANSWER_ROOM, BLOCK,
+    answer, answer_bytes, bubble_pressure, bubble_temperature, dew_pressure, dew_temperature, excess_at,
+    liquid_stability, rachford_rice, rachford_rice_negative, tp_flash,
+};
+use zektonk::{
+    Answer, Book, Correlation, Kelvin, Options, Pair, Pascal, Phases, Question, Refusal, Solvent, Split, Task,
+    UpToEight, Validity, Words, ANSWER_ROOM, BLOCK,
 };
 
 const STORED_BOOK: &[u8] = include_bytes!("../../../crates/still/data/book.bin");
@@ -119,7 +123,7 @@ fn flashes_of_each_outcome() {
 }
 
 #[test]
-fn splits_of_document_01() {
+fn splits_of_the_samples() {
     let Ok(Answer::RachfordRice(Split::TwoPhase(d))) = split([0.5, 0.5], [2.0, 0.5], 200) else { panic!("(d)") };
     assert_eq!((d.vapor_fraction, d.residual, d.iterations), (0.5, 0.0, 1));
     let third = f64::from_bits(0x3fd5_5555_5555_5555);
@@ -197,6 +201,61 @@ fn refusals_of_questions() {
     let apart = Question::new(flash_at(T, Pascal(400_000.0)), [0.5, 0.5]);
     assert_eq!(answer(&immiscible(), &apart), Err(Refusal::LiquidUnstable));
     assert_eq!(ask(Task::ExcessAt { temperature: Kelvin(1e-300) }, [0.5, 0.5]), Err(Refusal::ResultNotFinite));
+}
+
+#[test]
+fn a_feed_of_another_length_is_not_asked() {
+    let book = ethanol_water().unwrap();
+    let refused = |entries| Some(Refusal::FeedLength { entries, solvents: 2 });
+    assert_eq!(tp_flash(&book, [0.5, 0.5, 0.7], T, P, options()).err(), refused(3));
+    assert_eq!(excess_at(&book, [1.0], T).err(), refused(1));
+    assert_eq!(bubble_pressure(&book, UpToEight::default(), T).err(), refused(0));
+    assert_eq!(ask(Task::BubblePressure { temperature: T }, [0.5, 0.5, 0.0]).err(), refused(3));
+    let k_refused = Refusal::KLength { entries: 3, solvents: 2 };
+    assert_eq!(rachford_rice(&book, [0.5, 0.5], [2.0, 0.5, 9.0], 200), Err(k_refused));
+    // A book that has no count of solvents is the core's to refuse.
+    assert_eq!(excess_at(&Book::from(&STORED_BOOK[..511]), [1.0], T), Err(Refusal::BookLength));
+}
+
+/// Each task's own call gives what the general one gives.
+#[test]
+fn a_call_for_each_task() {
+    let book = ethanol_water().unwrap();
+    let z = [0.5, 0.5];
+    let k: UpToEight<f64> = [1.2, 0.1].into();
+    let (temperature, pressure, options) = (T, P, options());
+    let asked = |task| ask(task, z);
+    assert_eq!(excess_at(&book, z, T).map(Answer::Excess), asked(Task::ExcessAt { temperature }));
+    assert_eq!(bubble_pressure(&book, z, T).map(Answer::BubblePressure), asked(Task::BubblePressure { temperature }));
+    assert_eq!(
+        dew_pressure(&book, z, T, options).map(Answer::DewPressure),
+        asked(Task::DewPressure { temperature, options })
+    );
+    assert_eq!(
+        bubble_temperature(&book, z, P, options).map(Answer::BubbleTemperature),
+        asked(Task::BubbleTemperature { pressure, options })
+    );
+    assert_eq!(
+        dew_temperature(&book, z, P, options).map(Answer::DewTemperature),
+        asked(Task::DewTemperature { pressure, options })
+    );
+    assert_eq!(
+        liquid_stability(&book, z, T, options).map(Answer::LiquidStability),
+        asked(Task::LiquidStability { temperature, options })
+    );
+    assert_eq!(
+        tp_flash(&book, z, T, P, options).map(Answer::TpFlash),
+        asked(Task::TpFlash { temperature, pressure, options })
+    );
+    assert_eq!(
+        rachford_rice(&book, z, k, 200).map(Answer::RachfordRice),
+        asked(Task::RachfordRice { k, max_iterations: 200 })
+    );
+    assert_eq!(
+        rachford_rice_negative(&book, z, k, 200).map(Answer::RachfordRiceNegative),
+        asked(Task::RachfordRiceNegative { k, max_iterations: 200 })
+    );
+    assert_eq!(tp_flash(&book, z, Kelvin(100.0), P, options), Err(Refusal::TemperatureOutside));
 }
 
 #[test]

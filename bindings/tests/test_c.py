@@ -1,0 +1,91 @@
+"""The C examples: built with all warnings as errors, and what they print."""
+
+import dataclasses
+import os
+import shutil
+
+from nine import NINE
+from support import C, HEADER, STILL, WARNINGS, InFolder
+
+BOOK = STILL / "data" / "book.bin"
+QUESTION = STILL / "stdin"
+PRESSURES = (70000.0, 120000.0)  # Pa: all vapor, all liquid
+STORE = os.environ.get("BINDINGS_STORE") == "yes"  # scripts/c-example --store
+
+
+class Examples(InFolder):
+    def assert_stored(self, name: str, found: str) -> None:
+        if STORE:
+            (C / name).write_text(found, encoding="utf-8")
+        self.assertEqual(found, (C / name).read_text(encoding="utf-8"))
+
+    def test_flash_labels_the_words_by_the_task(self):
+        program = self.compiled(C / "flash.c")
+        single = [dataclasses.replace(NINE[7], pressure=pressure) for pressure in PRESSURES]
+        one_sided = dataclasses.replace(NINE[8], k_values=(2.0, 2.0))
+        asked = [*NINE.values(), *single, one_sided]
+        printed = "\n".join(self.printed(program, BOOK.read_bytes(), question.block()) for question in asked)
+        self.assert_stored("flash.txt", printed)
+        self.assertEqual(QUESTION.read_bytes(), NINE[7].block())
+
+    def printed(self, program, book: bytes, question: bytes, status: int = 0) -> str:
+        (self.folder / "book").write_bytes(book)
+        (self.folder / "question").write_bytes(question)
+        if status == 0:
+            return self.run_in_folder(program, "book", "question").stdout.decode("ascii")
+        run = self.run_in_folder("sh", "-c", f'"{program}" book question; echo "status $?"')
+        return run.stdout.decode("ascii")
+
+    def test_flash_refuses(self):
+        program = self.compiled(C / "flash.c")
+        book, question = BOOK.read_bytes(), QUESTION.read_bytes()
+        self.assertEqual(self.printed(program, book, question[:-1], 1), "refused: 11\nstatus 1\n")
+        self.assertEqual(self.printed(program, book[:-1], question, 1), "refused: 1\nstatus 1\n")
+        self.assertEqual(self.printed(program, bytes(30000), question, 1), "refused: 1\nstatus 1\n")
+        (self.folder / "question").unlink()
+        run = self.run_in_folder("sh", "-c", f'"{program}" book question; "{program}" book; echo "status $?"')
+        self.assertEqual(run.stdout, b"status 2\n")
+
+    def test_ask_writes_a_book_and_a_question(self):
+        program = self.compiled(C / "ask.c")
+        self.assert_stored("ask.txt", self.run_in_folder(program, "answer").stdout.decode("ascii"))
+        self.assertEqual((self.folder / "answer").read_bytes(), (STILL / "stdout").read_bytes())
+
+    def test_header_alone(self):
+        self.compiled(C / "ask.c")
+        strict = ("-fsyntax-only", "-Wsign-conversion", *WARNINGS)
+        for standard in ("c99", "c11", "c17"):
+            self.run_in_folder("cc", f"-std={standard}", *strict, "-x", "c", HEADER)
+        if shutil.which("c++"):
+            for standard in ("c++11", "c++17"):
+                self.run_in_folder("c++", f"-std={standard}", *strict, "-Wold-style-cast", "-x", "c++", HEADER)
+
+
+ROUNDED = """#include <fenv.h>
+#include <stdio.h>
+#include "zektonk.h"
+
+int main(int argc, char **argv)
+{
+    static uint8_t book[ZEKTONK_BOOK_MOST], question[ZEKTONK_QUESTION], answer[ZEKTONK_ANSWER_ROOM];
+    FILE *books = fopen(argv[argc - 2], "rb"), *questions = fopen(argv[argc - 1], "rb");
+    size_t length = fread(book, 1, sizeof book, books);
+    if (fread(question, 1, sizeof question, questions) != sizeof question || fesetround(FE_UPWARD) != 0)
+        return 2;
+    uint64_t number = zektonk_answer(book, length, question, sizeof question, answer, sizeof answer);
+    fesetenv(FE_DFL_ENV);
+    printf("%.17g\\n", zektonk_get_float(answer, ZEKTONK_ANSWER_WORD_VAPOR_FRACTION));
+    return (int)number;
+}
+"""
+
+
+class Rounding(InFolder):
+    def test_another_rounding_gives_other_digits_and_no_refusal(self):
+        source = self.folder / "rounded.c"
+        source.write_text(ROUNDED, encoding="ascii")
+        program = self.compiled(source, "-lm")
+        found = float(self.run_in_folder(program, BOOK, QUESTION).stdout)
+        right = 0.69859496870010152
+        self.assertNotEqual(found, right)
+        self.assertLess(abs(found - right), 1e-12)

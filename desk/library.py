@@ -1,0 +1,75 @@
+"""The core as a shared library in this process: where libzektonk.so is, and one call of it (docs/LINKING.md)."""
+
+import ctypes
+import os
+from pathlib import Path
+from typing import Callable, Optional
+
+from . import answer
+from .blocks import BLOCK, sealed, words_of
+from .core import ROOT
+from .errors import DeskError
+from .question import Question
+
+NAME = "libzektonk.so"
+FOLDER = ROOT / "target" / "staticlib"
+ANSWER_ROOM = 9 * BLOCK
+# as much as the program reads: one block more than any book has, one byte more than a question
+BOOK_MOST, QUESTION_MOST = 38 * BLOCK, BLOCK + 1
+LAST_WITHOUT_TASK = 12  # a refusal up to here was found before the task was known
+
+
+def folder() -> Path:
+    """The folder in ZEKTONK_LIB, seen from where the user stands; by default that of the repository."""
+    return Path(os.environ["ZEKTONK_LIB"]) if os.environ.get("ZEKTONK_LIB") else FOLDER
+
+
+def find() -> Optional[Path]:
+    """The library, where it is built."""
+    path = folder() / NAME
+    return path.resolve() if path.is_file() else None
+
+
+class Library:
+    """Asks the core about one book, as `Core` does. Threads may share one: a call keeps nothing."""
+
+    def __init__(self, book: bytes, path: Optional[Path] = None):
+        self.path = path or find()
+        if self.path is None:
+            raise DeskError(f"the library {folder() / NAME} is not there; scripts/shared-library builds it")
+        self._book = book[:BOOK_MOST]
+        self._call = _loaded(self.path)
+
+    def __enter__(self) -> "Library":
+        return self
+
+    def __exit__(self, *_: object) -> None:
+        pass
+
+    def ask(self, question: Question) -> answer.Blocks:
+        return self.ask_block(question.block())
+
+    def ask_block(self, block: bytes) -> answer.Blocks:
+        return answer.read(self.ask_bytes(block))
+
+    def ask_bytes(self, block: bytes) -> bytes:
+        """What the program `still` writes: the answer's blocks, or one block with the refusal's number."""
+        asked = block[:QUESTION_MOST]
+        room = ctypes.create_string_buffer(ANSWER_ROOM)
+        number = self._call(self._book, len(self._book), asked, len(asked), room, ANSWER_ROOM)
+        if number:
+            task = 0 if number <= LAST_WITHOUT_TASK else words_of(asked)[answer.TASK]
+            return sealed([answer.KIND_ANSWER, task, number])
+        trials = int.from_bytes(room[8 * answer.TRIALS : 8 * answer.TRIALS + 8], "little")
+        return room[: BLOCK * (1 + trials)]
+
+
+def _loaded(path: Path) -> Callable[..., int]:
+    """zektonk_answer of bindings/c/zektonk.h. ctypes lets other threads run during the call."""
+    try:
+        call = ctypes.CDLL(str(path)).zektonk_answer
+    except (OSError, AttributeError) as error:
+        raise DeskError(f"the library {path} can't be called: {error}") from None
+    call.argtypes = [ctypes.c_char_p, ctypes.c_size_t] * 3
+    call.restype = ctypes.c_uint64
+    return call
