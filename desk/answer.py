@@ -1,4 +1,4 @@
-"""The answer and trial blocks (document 01, "The answer")."""
+"""The answer and trial blocks (docs/FORMAT.md, "The answer")."""
 
 from dataclasses import dataclass
 from typing import List, Tuple
@@ -20,7 +20,10 @@ VALIDITIES = {0: "unassessed", 1: "within the regression intervals", 2: "extrapo
 NOTE_WORDS = (
     ("A7-GAMMA-PHI", "NRTL liquid with an ideal-gas vapor"),
     ("A7-SPLIT-AT-SATURATION-BOUNDARY", "the split ended on the saturation boundary, so one phase is given"),
-    ("A7-LIQUID-TPD-FINITE-TRIALS", "the liquid passed the trials from each near-pure start; that is evidence, not proof, that it doesn't split"),
+    (
+        "A7-LIQUID-TPD-FINITE-TRIALS",
+        "the liquid passed the trials from each near-pure start; that is evidence, not proof, that it doesn't split",
+    ),
 )
 
 

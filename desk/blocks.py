@@ -1,4 +1,5 @@
-"""Blocks of 512 bytes: 64 little-endian words, the last one the sum of the others modulo 2^64 (document 01, "The book")."""
+"""Blocks of 512 bytes: 64 little-endian words, the last one the sum of the others modulo 2^64 (docs/FORMAT.md, "The
+book")."""
 
 import struct
 from typing import Iterable, List

@@ -1,4 +1,4 @@
-"""The book: records of solvents and pairs, their blocks, and reading them back (document 01, "The book")."""
+"""The book: records of solvents and pairs, their blocks, and reading them back (docs/FORMAT.md, "The book")."""
 
 from dataclasses import dataclass
 from typing import List, Optional, Tuple
@@ -20,7 +20,8 @@ TAU_IJ, TAU_JI, ALPHA_IJ, ALPHA_JI, FLAG, BOUNDS, INFERRED = 3, 7, 11, 13, 15, 1
 
 @dataclass(frozen=True)
 class Correlation:
-    """p = reducing exp((t_r/T) Σ n θ^exponent) with θ = 1 − T/t_r for the vapor pressure (Pa, K); of a density only the range is used."""
+    """p = reducing exp((t_r/T) Σ n θ^exponent) with θ = 1 − T/t_r for the vapor pressure (Pa, K); of a density only the
+    range is used."""
 
     t_r: float
     reducing: float
@@ -122,7 +123,7 @@ def cas_numbers(content: bytes) -> List[int]:
 
 
 def decode(content: bytes) -> Book:
-    """The records of an accepted book. Words that document 01 doesn't name are passed over."""
+    """The records of an accepted book. Words that docs/FORMAT.md doesn't name are passed over."""
     n = solvent_count(content)
     blocks = split(content)
     return Book(tuple(map(_solvent, blocks[1 : 1 + n])), tuple(map(_pair, blocks[1 + n :])))

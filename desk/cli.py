@@ -1,4 +1,5 @@
-"""Running a command: exit status 0 for an answer, 1 for a refusal of the core, 2 for bad usage, each complaint in one line."""
+"""Running a command: exit status 0 for an answer, 1 for a refusal, 2 for bad usage, 3 for an answer that is marked;
+each complaint is one line."""
 
 import argparse
 import contextlib
@@ -7,10 +8,11 @@ import sys
 from typing import Callable, Dict, List, Optional
 
 from . import commands, tasks
-from .arguments import joined_negatives, parser
+from .arguments import expect_known, joined_negatives, parser
 from .errors import DeskError
 
-BAD_USAGE, INTERRUPTED, NO_READER = DeskError.status, 130, 141  # the last two as a shell has them for SIGINT and SIGPIPE
+# the last two as a shell has them for SIGINT and SIGPIPE
+BAD_USAGE, INTERRUPTED, NO_READER = DeskError.status, 130, 141
 
 
 def main(argv: Optional[List[str]] = None) -> int:
@@ -52,7 +54,9 @@ def parsed(argv: List[str]) -> argparse.Namespace:
     argv = joined_negatives(argv)
     if len(argv) > 1 and argv[0] == "strike" and argv[1] in tasks.BY_COMMAND:
         argv = argv[1:] + ["--strike"]
-    return parser().parse_args(argv)
+    top = parser()
+    expect_known(argv, top)
+    return top.parse_args(argv)
 
 
 def complain(message: str, status: int = BAD_USAGE) -> int:
@@ -68,10 +72,12 @@ def _close_output() -> None:
 
 
 _HANDLERS: Dict[str, Callable[[argparse.Namespace], int]] = {
+    "layers": commands.layers,
     "diagram": commands.draw,
     "book": commands.make_book,
     "show": commands.show,
     "check-yard": commands.check_yard,
-    "refusals": commands.explain,
+    "refusals": commands.explain_numbers,
     "demo": commands.demo,
+    "help": commands.show_help,
 }

@@ -3,38 +3,72 @@
 import argparse
 import os
 import sys
-from typing import Iterator, Optional, Tuple
+from typing import Optional, Tuple
 
-from . import core, diagram, files, jsonsheet, refusals, report, strikereport, tasks, text, units, yardcheck
-from .arguments import options_of, parser
+from . import (
+    answer, building, core, diagram, explain, files, jsonsheet, layersreport, picture, refusals, report, strikereport
+)
+from . import tasks, text, units, yardcheck
+from .arguments import commands_of, options_of, parser
 from .book import encode
-from .errors import DeskError, quoted
+from .errors import DeskError, quoted, suggestion
+from .judgement import judged
+from .layersheet import layers_sheet
 from .openbook import bracket_of, fractions_of, is_binary, k_values_of, open_book, open_yard, place_of, yard_of
 from .question import Question
-from .sheet import NamedBook, Sheet
+from .ranges import Ranges, ranges_at
+from .sheet import SHORT, NamedBook, Sheet, checksum, today
 from .showbook import listing
-from .sweep import Curves, Setting, curves
+from .sweep import Setting, curves
 from .yardwrite import write
 
 MOST_POINTS = 2001
-DEMO = ("flash", "--label", "sample drum", "--drum", "ethanol=0.45,water=0.35,acetone=0.2", "--temperature", "72C", "--pressure", "101.325kPa")
+REFUSED, MARKED = 1, 3  # exit status
+DEMO = (
+    "flash",
+    "--label",
+    "sample drum",
+    "--drum",
+    "ethanol=0.45,water=0.35,acetone=0.2",
+    "--temperature",
+    "72C",
+    "--pressure",
+    "101.325kPa",
+)
 
 
 def ask(arguments: argparse.Namespace) -> int:
     """One of the nine tasks."""
     book = open_book(arguments.book, arguments.names)
-    question = _question(arguments, book)
+    drum = fractions_of(book, ",".join(arguments.drum))
+    fractions = explain.normalized(drum) if arguments.normalize else drum
+    question = _question(arguments, book, fractions)
     with core.Core(book.content, arguments.program) as program:
-        sheet = Sheet(book, question, program.ask(question), " ".join(arguments.label.split()))
+        blocks = program.ask(question)
+        judgement = judged(program, book, question, blocks)
+        found = _ranges(program, book, question, blocks)
+    given = drum if fractions != drum else None
+    sheet = Sheet(book, question, blocks, judgement, found, _label(arguments), today(), given)
     if arguments.strike:
         return _strike(arguments, sheet)
-    sys.stdout.write((jsonsheet if arguments.json else report).render(sheet))
+    sys.stdout.write((jsonsheet if arguments.json else report).render(sheet, arguments.details))
     return _ended(sheet)
 
 
-def _question(arguments: argparse.Namespace, book: NamedBook) -> Question:
+def _label(arguments: argparse.Namespace) -> str:
+    return " ".join(arguments.label.split())
+
+
+def _ranges(program: core.Core, book: NamedBook, question: Question, blocks: answer.Blocks) -> Optional[Ranges]:
+    """At the temperature found or asked; none of a refusal, and of a split by given K values."""
+    if question.task.takes_k or blocks.refusal:
+        return None
+    kelvin = blocks.real(answer.T) if question.temperature is None else question.temperature
+    return ranges_at(program, book, question.fractions, kelvin)
+
+
+def _question(arguments: argparse.Namespace, book: NamedBook, fractions: Tuple[float, ...]) -> Question:
     task = tasks.BY_COMMAND[arguments.command]
-    fractions = fractions_of(book, ",".join(arguments.drum))
     return Question(
         task,
         fractions,
@@ -46,53 +80,75 @@ def _question(arguments: argparse.Namespace, book: NamedBook) -> Question:
 
 
 def _ended(sheet: Sheet) -> int:
-    number = sheet.blocks.refusal
-    if number:
+    """The status, and for a refusal or a mark one line on standard error."""
+    number, mark = sheet.blocks.refusal, sheet.judgement.mark
+    if number or mark:
         sys.stdout.flush()
-        print(f"sheet: {refusals.line(number)}{sheet.detail()}", file=sys.stderr)
-    return 1 if number else 0
+        refused = f"{refusals.line(number)}{explain.detail(sheet)}{explain.hint(sheet)}" if number else ""
+        print(f"sheet: {'; '.join(filter(None, (refused, mark.line if mark else '')))}", file=sys.stderr)
+    return REFUSED if number else MARKED if mark else 0
 
 
 def _strike(arguments: argparse.Namespace, sheet: Sheet) -> int:
     struck = strikereport.struck(sheet, arguments.program)
     if arguments.json:
-        sys.stdout.write(jsonsheet.dumped({**jsonsheet.document(sheet), "strike": strikereport.document(struck, arguments.words)}))
+        document = jsonsheet.document(sheet, arguments.details)
+        sys.stdout.write(jsonsheet.dumped({**document, "strike": strikereport.document(struck, arguments.words)}))
     else:
-        sys.stdout.write(report.render(sheet) + "\n" + strikereport.render(struck, arguments.words))
+        sys.stdout.write(report.render(sheet, arguments.details) + "\n" + strikereport.render(struck, arguments.words))
     if struck.comparisons is not None and not struck.equal:
         sys.stdout.flush()
         print("sheet: the two sheets differ", file=sys.stderr)
-        return 1
+        return REFUSED
     return _ended(sheet)
+
+
+def layers(arguments: argparse.Namespace) -> int:
+    """Two layers at T, or where they boil at p."""
+    book = open_book(arguments.book, arguments.names)
+    if (arguments.drum is None) == (arguments.pair is None):
+        raise DeskError("layers takes --drum or --pair, and one of them alone")
+    if arguments.temperature is None and arguments.pressure is None:
+        raise DeskError("layers takes --temperature, --pressure or both")
+    kelvin = units.temperature(arguments.temperature, "--temperature") if arguments.temperature else None
+    pascals = units.pressure(arguments.pressure, "--pressure") if arguments.pressure else None
+    drum = fractions_of(book, ",".join(arguments.drum)) if arguments.drum else None
+    pair = _pair(arguments.pair, book) if arguments.pair else None
+    bracket = options_of(arguments, bracket_of(book)).bracket
+    with core.Core(book.content, arguments.program) as program:
+        sheet = layers_sheet(
+            program, book, drum, pair, kelvin, pascals, bracket, _label(arguments), arguments.normalize
+        )
+    if arguments.json:
+        sys.stdout.write(jsonsheet.dumped(layersreport.document(sheet, arguments.details)))
+    else:
+        sys.stdout.write(layersreport.render(sheet, arguments.details))
+    if sheet.reason:
+        sys.stdout.flush()
+        print(f"sheet: no layers can be shown: {sheet.reason}", file=sys.stderr)
+    return REFUSED if sheet.reason else 0
 
 
 def draw(arguments: argparse.Namespace) -> int:
     setting = _setting(arguments)
-    files.expect_writable(arguments.output)
+    picture.expect_drawable(arguments.output)
     unit = _axis_unit(arguments.kind, arguments.unit)
     points = units.whole(arguments.points, "--points")
     if not 3 <= points <= MOST_POINTS:
         raise DeskError(f"--points: {points} is not from 3 to {MOST_POINTS}")
     with core.Core(setting.book.content, arguments.program) as program:
         found = curves(program, setting, points, with_dew=arguments.kind != "xy")
-    picture = diagram.composition(setting, found) if arguments.kind == "xy" else diagram.saturation(arguments.kind, setting, found, unit)
-    files.write_whole(arguments.output, picture.encode("utf-8"))
-    print(f"{arguments.output}: {arguments.kind} of {' and '.join(setting.names)} at {diagram.held(setting)}")
-    for line in _findings(found):
-        print(f"  {line}")
+    if arguments.kind == "xy":
+        drawn = diagram.composition(setting, found)
+    else:
+        drawn = diagram.saturation(arguments.kind, setting, found, unit)
+    picture.write(arguments.output, drawn)
+    to_output = arguments.output == picture.STANDARD_OUTPUT
+    name = "diagram" if to_output else arguments.output
+    said = [f"{name}: {arguments.kind} of {' and '.join(setting.names)} at {diagram.held(setting)}"]
+    said += [f"  {line}" for line in diagram.findings(arguments.kind, setting, found, unit)]
+    print("\n".join(said), file=sys.stderr if to_output else sys.stdout)
     return 0
-
-
-def _findings(found: Curves) -> Iterator[str]:
-    yield from map(diagram.azeotrope_words, found.azeotropes)
-    if not found.azeotropes:
-        yield "no azeotrope"
-    for point in found.crossings:
-        yield f"y = x at {point.x:.4f}, where the liquid splits: no azeotrope of one liquid"
-    for low, high in found.splits:
-        yield f"the liquid fails its trials from x = {low:.4g} to {high:.4g}: the curves there are those of one liquid that isn't stable"
-    for number in sorted(set(found.refused)):
-        yield f"points missing: {found.refused.count(number)}, {refusals.line(number)}"
 
 
 def _setting(arguments: argparse.Namespace) -> Setting:
@@ -123,9 +179,13 @@ def _pair(text: str, book: NamedBook) -> Tuple[int, int]:
 
 
 def _axis_unit(kind: str, unit: Optional[str]) -> str:
-    allowed, default = {"txy": (diagram.TEMPERATURE_UNITS, "C"), "pxy": (diagram.PRESSURE_UNITS, "kPa"), "xy": ((), "")}[kind]
+    allowed, default = {
+        "txy": (diagram.TEMPERATURE_UNITS, "C"), "pxy": (diagram.PRESSURE_UNITS, "kPa"), "xy": ((), "")
+    }[kind]
     if unit is not None and unit not in allowed:
-        raise DeskError(f"--unit: {unit} is no unit of the upward axis of {kind}" + (f" ({', '.join(allowed)})" if allowed else ""))
+        raise DeskError(
+            f"--unit: {unit} is no unit of the upward axis of {kind}" + (f" ({', '.join(allowed)})" if allowed else "")
+        )
     return unit or default
 
 
@@ -137,8 +197,15 @@ def make_book(arguments: argparse.Namespace) -> int:
     if os.path.realpath(arguments.output) == os.path.realpath(arguments.text):
         raise DeskError(f"{arguments.output} is the text itself; give the book another name")
     book = encode(yard.book)
+    said = (
+        f"{text.counted(len(yard.names), 'solvent')}, {text.counted(len(yard.book.pairs), 'pair')}, {len(book)} bytes"
+    )
+    if arguments.output == picture.STANDARD_OUTPUT:
+        sys.stdout.flush()
+        sys.stdout.buffer.write(book)
+        return 0
     files.write_whole(arguments.output, book)
-    print(f"{arguments.output}: {text.counted(len(yard.names), 'solvent')}, {text.counted(len(yard.book.pairs), 'pair')}, {len(book)} bytes")
+    print(f"{arguments.output}: {said}, SHA-256 {checksum(book)[:SHORT]}")
     return 0
 
 
@@ -154,18 +221,34 @@ def check_yard(arguments: argparse.Namespace) -> int:
     return 0 if all(finding.passed for finding in findings) else 1
 
 
-def explain(arguments: argparse.Namespace) -> int:
+def explain_numbers(arguments: argparse.Namespace) -> int:
     numbers = [units.whole(word, "refusal number") for word in arguments.number] or sorted(refusals.REFUSALS)
     for number in numbers:
         if number not in refusals.REFUSALS:
             raise DeskError(f"{number} is no refusal number; they are 1 to {max(refusals.REFUSALS)}")
     for number in numbers:
         print(f"{number:2}  {refusals.matter(number)}\n    what to do: {refusals.advice(number)}")
+        for command, advice in refusals.REFUSALS[number].by_command.items():
+            print(f"    after {command}: {advice}")
     return 0
 
 
 def demo(arguments: argparse.Namespace) -> int:
-    if arguments.program == core.PROGRAM and core.is_stale():
-        print("sheet: proving and building the program still (rt check still); this takes minutes", file=sys.stderr)
-        core.build()
+    if arguments.program == core.PROGRAM and building.is_stale():
+        print(
+            "sheet: proving and building the program still (rt check still); the first time this takes minutes",
+            file=sys.stderr,
+        )
+        building.build()
     return ask(parser().parse_args([*DEMO, "--program", str(arguments.program)]))
+
+
+def show_help(arguments: argparse.Namespace) -> int:
+    top = parser()
+    known = commands_of(top)
+    if arguments.about and arguments.about not in known:
+        raise DeskError(
+            f"{quoted(arguments.about)} is no command{suggestion(arguments.about, known)} (./sheet help lists them)"
+        )
+    (known[arguments.about] if arguments.about else top).print_help()
+    return 0

@@ -1,10 +1,11 @@
-"""The proved program: where it is, when it has to be built, and one call of it."""
+"""The proved program: where it is, and one call of it."""
 
 import os
+import select
 import subprocess
 import tempfile
 from pathlib import Path
-from typing import Iterable
+from typing import Dict
 
 from . import answer
 from .errors import DeskError
@@ -12,19 +13,21 @@ from .question import Question
 
 ROOT = Path(__file__).resolve().parent.parent
 PROGRAM = ROOT / "target" / "bin" / "still"
-STAMP = ROOT / "target" / "stamp" / "still"  # rt's record that the crate is proved
 BOOK_NAME = "book.bin"
 SECONDS = 300  # no question within the limits takes as long
+MOST_BYTES = 1 << 16  # an answer has 4,608 bytes at most
 
 
 class Core:
-    """Asks the program about one book, which lies in a temporary folder of its own until `close`."""
+    """Asks the program about one book, which lies in a temporary folder of its own until `close`. An answer is kept:
+    a question that is asked again costs no second run."""
 
     def __init__(self, book: bytes, program: Path = PROGRAM):
         if not os.access(program, os.X_OK) or program.is_dir():
             raise DeskError(f"the program {program} is not there; ./sheet demo builds it (rt check still)")
         self.program = program.resolve()
         self._folder = tempfile.TemporaryDirectory(prefix="sheet-")
+        self._answers: Dict[bytes, answer.Blocks] = {}
         (Path(self._folder.name) / BOOK_NAME).write_bytes(book)
 
     def __enter__(self) -> "Core":
@@ -37,36 +40,37 @@ class Core:
         return self.ask_block(question.block())
 
     def ask_block(self, block: bytes) -> answer.Blocks:
+        if block not in self._answers:
+            self._answers[block] = answer.read(self._written(block))
+        return self._answers[block]
+
+    def _written(self, block: bytes) -> bytes:
+        """What the program writes. Question and answer fit into a pipe, so neither side waits for the other."""
+        streams = {"stdin": subprocess.PIPE, "stdout": subprocess.PIPE, "stderr": subprocess.DEVNULL, "bufsize": 0}
         try:
-            run = subprocess.run([self.program], input=block, capture_output=True, cwd=self._folder.name, timeout=SECONDS)
-        except (OSError, subprocess.TimeoutExpired) as error:
+            run = subprocess.Popen([self.program], cwd=self._folder.name, **streams)
+        except OSError as error:
             raise DeskError(f"the program {self.program} could not be run: {error}") from None
+        with run:
+            written = self._exchanged(run, block)
         if run.returncode:
             raise DeskError(f"the program {self.program} ended with status {run.returncode}")
-        return answer.read(run.stdout)
+        return written
 
-
-def is_stale(program: Path = PROGRAM) -> bool:
-    """Missing, or older than a source of the crates."""
-    if not program.exists():
-        return True
-    built = program.stat().st_mtime
-    return any(path.stat().st_mtime > built for path in sources())
-
-
-def sources() -> Iterable[Path]:
-    for folder in ("src", "specs", "proofs"):
-        yield from (path for path in (ROOT / "crates").glob(f"*/{folder}/**/*") if path.suffix in (".rt", ".antt"))
-
-
-def build() -> None:
-    """Proves and builds the program `still`. With its stamp left, rt would not write a missing program anew."""
-    if not PROGRAM.exists():
-        STAMP.unlink(missing_ok=True)
-    try:
-        run = subprocess.run(["rt", "check", "still"], cwd=ROOT, stdout=subprocess.DEVNULL, stderr=subprocess.PIPE, text=True)
-    except OSError as error:
-        raise DeskError(f"rt can't be run ({error.strerror}); the toolchain stands in /opt/rattle/bin") from None
-    if run.returncode:
-        last = (run.stderr.strip().splitlines() or [f"status {run.returncode}"])[-1]
-        raise DeskError(f"rt check still did not pass: {last}")
+    def _exchanged(self, run: subprocess.Popen, block: bytes) -> bytes:
+        try:
+            run.stdin.write(block)
+            run.stdin.close()
+        except BrokenPipeError:  # it ended without reading; its status or its answer says the rest
+            pass
+        written = b""
+        while len(written) <= MOST_BYTES:
+            if not select.select([run.stdout], [], [], SECONDS)[0]:
+                run.kill()
+                raise DeskError(f"the program {self.program} gave no answer in {SECONDS} s")
+            part = run.stdout.read(MOST_BYTES)
+            if not part:
+                return written
+            written += part
+        run.kill()
+        raise DeskError(f"the program {self.program} wrote more than an answer")

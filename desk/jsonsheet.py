@@ -1,12 +1,16 @@
-"""The sheet as JSON: every float with its value and its exact bits (16 hex digits), solvents by name."""
+"""The sheet as JSON. Plain numbers, and the solvents of the drum alone; with --details every float with its value and
+its exact bits (16 hex digits), and every solvent of the book. A value that isn't finite is null, since JSON has no word
+for it."""
 
 import json
 import math
-from typing import Any, Dict, Iterable, Optional
+from typing import Any, Dict, Iterable, List, Optional, Sequence
 
-from . import answer, refusals, units
+from . import answer, explain, refusals, units
 from .blocks import bits_of, float_of, floats_at
-from .sheet import Sheet
+from .ranges import Ranges
+from .sheet import NamedBook, Sheet
+from .version import VERSION
 
 ENERGIES = (
     "reduced_excess_gibbs",
@@ -15,8 +19,6 @@ ENERGIES = (
     "excess_entropy_J_per_mol_K",
     "excess_heat_capacity_J_per_mol_K",
 )
-
-
 FLOATS = (
     ("temperature_K", answer.T),
     ("pressure_Pa", answer.P),
@@ -41,105 +43,167 @@ FIELDS = {
 }
 
 
-def render(sheet: Sheet) -> str:
-    return dumped(document(sheet))
+class Numbers:
+    """Floats and solvents by name, in the plain form or with bits."""
+
+    def __init__(self, names: Sequence[str], present: Sequence[int], details: bool):
+        self.names, self.details = names, details
+        self._places = range(len(names)) if details else present
+
+    def number(self, value: Optional[float]) -> Any:
+        if value is None:
+            return None
+        finite = value if math.isfinite(value) else None
+        return {"value": finite, "bits": f"{bits_of(value):016x}"} if self.details else finite
+
+    def by_name(self, values: Sequence[float]) -> Dict[str, Any]:
+        return {self.names[i]: self.number(values[i]) for i in self._places}
+
+
+def render(sheet: Sheet, details: bool = False) -> str:
+    return dumped(document(sheet, details))
 
 
 def dumped(document: Dict[str, Any]) -> str:
     return json.dumps(document, indent=2, ensure_ascii=False, allow_nan=False) + "\n"
 
 
-def document(sheet: Sheet) -> Dict[str, Any]:
-    number = sheet.blocks.refusal
-    task = sheet.question.task
+def document(sheet: Sheet, details: bool = False) -> Dict[str, Any]:
+    return Document(sheet, details).whole()
+
+
+class Document:
+    def __init__(self, sheet: Sheet, details: bool):
+        self.sheet, self.details = sheet, details
+        self.numbers = Numbers(sheet.book.names, sheet.present(), details)
+
+    def whole(self) -> Dict[str, Any]:
+        sheet, judgement = self.sheet, self.sheet.judgement
+        number, task, mark = sheet.blocks.refusal, sheet.question.task, sheet.judgement.mark
+        return {
+            "command": task.command,
+            "task": task.number,
+            "version": VERSION,
+            "date": sheet.date,
+            "label": sheet.label or None,
+            "book": book_document(sheet.book, self.details),
+            "question": self._question(),
+            "warning": {"kind": mark.kind, "line": mark.line, "advice": list(mark.advice)} if mark else None,
+            "one_liquid_layer": judgement.one_layer,
+            "refusal": self._refusal(number) if number else None,
+            "answer": None if number else self._answer(),
+            "pairs": pairs_document(sheet.ranges),
+        }
+
+    def _refusal(self, number: int) -> Dict[str, Any]:
+        matter = refusals.matter(number)
+        return {
+            "number": number,
+            "matter": matter,
+            "detail": explain.detail(self.sheet).strip(" :") or None,
+            "advice": explain.advice(self.sheet),
+        }
+
+    def _question(self) -> Dict[str, Any]:
+        question, options, number = self.sheet.question, self.sheet.question.options, self.numbers.number
+        return {
+            "temperature_K": number(question.temperature),
+            "pressure_Pa": number(question.pressure),
+            "fractions": self.numbers.by_name(question.fractions),
+            "fractions_given": self.numbers.by_name(self.sheet.given) if self.sheet.given else None,
+            "k_values": self.numbers.by_name(question.k_values) if question.k_values else None,
+            "max_iterations": options.max_iterations,
+            "tolerance": number(options.tolerance),
+            "max_temperature_iterations": options.max_temperature_iterations,
+            "energy_tolerance": number(options.energy_tolerance),
+            "tm_threshold": number(options.tm_threshold),
+            "bracket_K": [number(end) for end in options.bracket],
+        }
+
+    def _answer(self) -> Dict[str, Any]:
+        """The words that belong to the task; a phase that isn't there is null."""
+        blocks, command = self.sheet.blocks, self.sheet.question.task.command
+        fields: Dict[str, Any] = {
+            name: self.numbers.number(blocks.real(at)) for name, at in FLOATS if name in FIELDS[command]
+        }
+        if "outcome" in FIELDS[command]:
+            fields["outcome"] = answer.OUTCOMES.get(blocks.head[answer.OUTCOME])
+        if "iterations" in FIELDS[command]:
+            fields["iterations"] = blocks.head[answer.ITERATIONS]
+        if command == "excess":
+            fields.update(self._excess())
+        if "liquid" in FIELDS[command]:
+            fields.update(self._phases())
+        if command in ("stability", "flash"):
+            fields["stable"] = (
+                bool(blocks.head[answer.STABLE]) if blocks.head[answer.OUTCOME] != answer.VAPOR_ONLY else None
+            )
+            fields["trials"] = [self._trial(words) for words in blocks.trials]
+        if command == "flash":
+            fields["bubble_of_a_stable_liquid"] = self.sheet.judgement.bubble_holds
+            fields["dew_of_a_stable_liquid"] = self.sheet.judgement.dew_holds
+            fields["notes"] = [{"name": name, "words": words} for name, words in blocks.notes()]
+        return fields
+
+    def _phases(self) -> Dict[str, Any]:
+        liquid, vapor = answer.phases(self.sheet.question.task, self.sheet.blocks)
+        return {
+            "liquid": self.numbers.by_name(self.sheet.entries(answer.LIQUID)) if liquid else None,
+            "vapor": self.numbers.by_name(self.sheet.entries(answer.VAPOR)) if vapor else None,
+        }
+
+    def _excess(self) -> Dict[str, Any]:
+        head = self.sheet.blocks.head
+        energies = zip(ENERGIES, floats_at(head, answer.ENERGIES, len(ENERGIES)))
+        return {
+            "ln_gamma": self.numbers.by_name(self.sheet.entries(answer.LIQUID)),
+            "d_ln_gamma_dT_per_K": self.numbers.by_name(self.sheet.entries(answer.VAPOR)),
+            **{name: self.numbers.number(value) for name, value in energies},
+            "validity": answer.VALIDITIES.get(head[answer.VALIDITY]),
+            "inferred": bool(head[answer.INFERRED]),
+        }
+
+    def _trial(self, words) -> Dict[str, Any]:
+        return {
+            "from": self.sheet.book.names[words[answer.TRIAL_COMPONENT]],
+            "distance": self.numbers.number(float_of(words[answer.TRIAL_DISTANCE])),
+            "iterations": words[answer.TRIAL_ITERATIONS],
+            "trivial": bool(words[answer.TRIAL_TRIVIAL]),
+            "stopped_at": self.numbers.by_name(floats_at(words, answer.TRIAL_FRACTIONS, len(self.sheet.book.names))),
+        }
+
+
+def book_document(book: NamedBook, details: bool) -> Dict[str, Any]:
+    """How many solvents it has; which ones with --details alone."""
     return {
-        "command": task.command,
-        "task": task.number,
-        "label": sheet.label or None,
-        "book": {"file": sheet.book.file, "solvents": _solvents(sheet)},
-        "question": _question(sheet),
-        "refusal": {"number": number, "matter": refusals.matter(number), "advice": refusals.advice(number)} if number else None,
-        "answer": None if number else _answer(sheet),
+        "file": book.file, "sha256": book.checksum, "solvents": list(_solvents(book)) if details else len(book.names)
     }
 
 
-def number_of(value: Optional[float]) -> Optional[Dict[str, Any]]:
-    """A value that isn't finite has bits alone, since JSON has no word for it."""
-    if value is None:
+def _solvents(book: NamedBook) -> Iterable[Dict[str, str]]:
+    return ({"name": name, "cas": units.cas_text(cas)} for name, cas in zip(book.names, book.cas))
+
+
+def pairs_document(ranges: Optional[Ranges]) -> Optional[Dict[str, Any]]:
+    """The core's verdict on the drum's pairs at the sheet's temperature, and the pairs that are out of range, inferred
+    or ideal."""
+    if ranges is None:
         return None
-    return {"value": value if math.isfinite(value) else None, "bits": f"{bits_of(value):016x}"}
-
-
-def _solvents(sheet: Sheet) -> Iterable[Dict[str, str]]:
-    return [{"name": name, "cas": units.cas_text(cas)} for name, cas in zip(sheet.book.names, sheet.book.cas)]
-
-
-def _by_name(sheet: Sheet, values: Iterable[float]) -> Dict[str, Any]:
-    return {name: number_of(value) for name, value in zip(sheet.book.names, values)}
-
-
-def _question(sheet: Sheet) -> Dict[str, Any]:
-    question, options = sheet.question, sheet.question.options
-    asked: Dict[str, Any] = {
-        "temperature_K": number_of(question.temperature),
-        "pressure_Pa": number_of(question.pressure),
-        "fractions": _by_name(sheet, question.fractions),
-        "k_values": _by_name(sheet, question.k_values) if question.k_values else None,
-        "max_iterations": options.max_iterations,
-        "tolerance": number_of(options.tolerance),
-        "max_temperature_iterations": options.max_temperature_iterations,
-        "energy_tolerance": number_of(options.energy_tolerance),
-        "tm_threshold": number_of(options.tm_threshold),
-        "bracket_K": [number_of(end) for end in options.bracket],
-    }
-    return asked
-
-
-def _answer(sheet: Sheet) -> Dict[str, Any]:
-    """The words that belong to the task; a phase that isn't there is null."""
-    blocks, command = sheet.blocks, sheet.question.task.command
-    fields: Dict[str, Any] = {name: number_of(blocks.real(at)) for name, at in FLOATS if name in FIELDS[command]}
-    if "outcome" in FIELDS[command]:
-        fields["outcome"] = answer.OUTCOMES.get(blocks.head[answer.OUTCOME])
-    if "iterations" in FIELDS[command]:
-        fields["iterations"] = blocks.head[answer.ITERATIONS]
-    if command == "excess":
-        fields.update(_excess(sheet))
-    if "liquid" in FIELDS[command]:
-        fields.update(_phases(sheet))
-    if command in ("stability", "flash"):
-        fields["stable"] = bool(blocks.head[answer.STABLE]) if blocks.head[answer.OUTCOME] != answer.VAPOR_ONLY else None
-        fields["trials"] = [_trial(sheet, words) for words in blocks.trials]
-    if command == "flash":
-        fields["notes"] = [{"name": name, "words": words} for name, words in blocks.notes()]
-    return fields
-
-
-def _phases(sheet: Sheet) -> Dict[str, Any]:
-    liquid, vapor = answer.phases(sheet.question.task, sheet.blocks)
+    listed: List[Dict[str, Any]] = [
+        {
+            "pair": list(remark.names),
+            "interval_K": [remark.interval.low, remark.interval.high] if remark.interval else None,
+            "outside": remark.outside,
+            "inferred": remark.inferred,
+            "estimated_as_ideal": remark.ideal,
+        }
+        for remark in ranges.remarks
+    ]
+    validity = answer.VALIDITIES.get(ranges.validity) if ranges.validity is not None else None
     return {
-        "liquid": _by_name(sheet, sheet.entries(answer.LIQUID)) if liquid else None,
-        "vapor": _by_name(sheet, sheet.entries(answer.VAPOR)) if vapor else None,
-    }
-
-
-def _excess(sheet: Sheet) -> Dict[str, Any]:
-    head = sheet.blocks.head
-    energies = zip(ENERGIES, floats_at(head, answer.ENERGIES, len(ENERGIES)))
-    return {
-        "ln_gamma": _by_name(sheet, sheet.entries(answer.LIQUID)),
-        "d_ln_gamma_dT_per_K": _by_name(sheet, sheet.entries(answer.VAPOR)),
-        **{name: number_of(value) for name, value in energies},
-        "validity": answer.VALIDITIES.get(head[answer.VALIDITY]),
-        "inferred": bool(head[answer.INFERRED]),
-    }
-
-
-def _trial(sheet: Sheet, words) -> Dict[str, Any]:
-    return {
-        "from": sheet.book.names[words[answer.TRIAL_COMPONENT]],
-        "distance": number_of(float_of(words[answer.TRIAL_DISTANCE])),
-        "iterations": words[answer.TRIAL_ITERATIONS],
-        "trivial": bool(words[answer.TRIAL_TRIVIAL]),
-        "fractions": _by_name(sheet, floats_at(words, answer.TRIAL_FRACTIONS, len(sheet.book.names))),
+        "temperature_K": ranges.kelvin,
+        "outside_the_model": ranges.outside_model,
+        "validity": validity,
+        "inferred": ranges.inferred,
+        "remarks": listed,
     }

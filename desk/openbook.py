@@ -6,7 +6,7 @@ from typing import Any, Callable, Dict, Optional, Tuple
 from . import core, files, units
 from .blocks import BLOCK
 from .book import cas_numbers, common_range, decode, encode
-from .errors import DeskError, quoted
+from .errors import DeskError, quoted, suggestion
 from .question import Options
 from .sheet import NamedBook
 from .yard import Yard
@@ -21,7 +21,9 @@ def open_book(path: str, names_from: Optional[str] = None) -> NamedBook:
         return named(yard_of(path, content), path)
     cas = _located(path, cas_numbers, content)
     known = _names_by_cas(names_from) if names_from else {}
-    return NamedBook(content, tuple(known.get(number, units.cas_text(number)) for number in cas), tuple(cas), shown(path))
+    return NamedBook(
+        content, tuple(known.get(number, units.cas_text(number)) for number in cas), tuple(cas), shown(path)
+    )
 
 
 def named(yard: Yard, path: str) -> NamedBook:
@@ -76,7 +78,8 @@ def place_of(book: NamedBook, wanted: str) -> int:
     cas = _as_cas(wanted)
     if cas in book.cas:
         return book.cas.index(cas)
-    raise DeskError(f"{quoted(wanted)} is no solvent of {book.file}, which has {', '.join(book.names)}")
+    known = f"{book.file}, which has {', '.join(book.names)}"
+    raise DeskError(f"{quoted(wanted)} is no solvent of {known}{suggestion(wanted, book.names)}")
 
 
 def _as_cas(text: str) -> Optional[int]:
@@ -101,7 +104,8 @@ def amounts(book: NamedBook, text: str, option: str) -> Dict[int, float]:
 
 
 def bracket_of(book: NamedBook) -> Tuple[float, float]:
-    """The model's range of temperatures, narrowed to the solvents' own: outside these the core refuses each temperature tried."""
+    """The model's range of temperatures, narrowed to the solvents' own: outside these the core refuses each temperature
+    tried."""
     low, high = Options.bracket
     try:
         lowest, highest = common_range(decode(book.content))

@@ -1,4 +1,4 @@
-"""A progress line on standard error, shown only once the work has taken a second."""
+"""A progress line on standard error, shown only on a terminal and once the work has taken a second."""
 
 import sys
 import time
@@ -14,6 +14,7 @@ class Progress:
     def __init__(self, what: str, total: int, out=None, clock=time.monotonic):
         self.what, self.total, self.done = what, total, 0
         self._out = out or sys.stderr
+        self._on_terminal = self._out is not None and self._out.isatty()
         self._clock = clock
         self._started = self._printed = clock()
         self._shown = False
@@ -31,7 +32,7 @@ class Progress:
         """One point is done; its result is handed on."""
         self.done += 1
         now = self._clock()
-        if now - self._started >= DELAY and now - self._printed >= PAUSE:
+        if self._on_terminal and now - self._started >= DELAY and now - self._printed >= PAUSE:
             self._printed, self._shown = now, True
             self._out.write(f"\r{self.what}: {self.done} of {self.total} points ")
             self._out.flush()

@@ -1,4 +1,4 @@
-"""The question block (document 01, "The question")."""
+"""The question block (docs/FORMAT.md, "The question")."""
 
 from dataclasses import dataclass, field
 from typing import Optional, Tuple

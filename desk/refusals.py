@@ -1,56 +1,112 @@
-"""The thirty refusal numbers of document 01: the matter of each, and what the desk can do about it."""
+"""The refusal numbers of docs/FORMAT.md: the matter of each, and what the desk can do about it. A new number is one
+entry."""
 
-from typing import Dict, Tuple
+from dataclasses import dataclass, field
+from typing import Dict
 
-REFUSALS: Dict[int, Tuple[str, str]] = {
-    1: ("the book is empty or not made of whole blocks of 512 bytes", "make it again with ./sheet book"),
-    2: ("a block of the book has a wrong check word", "the file was damaged; make it again with ./sheet book"),
-    3: ("the head of the book is wrong: kind 1, version 1, 1 to 8 solvents, and as many blocks as these need", "make it again with ./sheet book"),
-    4: ("a solvent block is wrong: its kind, its place, a CAS number of 0, or not 1 to 8 terms", "make the book again with ./sheet book"),
-    5: (
-        "a solvent's correlation is wrong: a number isn't finite, the range isn't 0 < low <= high < t_r, or the reducing value isn't positive",
+MAKE_AGAIN = "make it again with ./sheet book"
+LOOK_AT_LIMITS = "look at --max-iterations and --max-temperature-iterations"
+
+
+@dataclass(frozen=True)
+class Refusal:
+    matter: str
+    advice: str
+    by_command: Dict[str, str] = field(default_factory=dict)  # other advice for some commands
+
+
+REFUSALS: Dict[int, Refusal] = {
+    1: Refusal("the book is empty or not made of whole blocks of 512 bytes", MAKE_AGAIN),
+    2: Refusal("a block of the book has a wrong check word", f"the file was damaged; {MAKE_AGAIN}"),
+    3: Refusal(
+        "the head of the book is wrong: kind 1, version 1, 1 to 8 solvents, and as many blocks as these need",
+        MAKE_AGAIN,
+    ),
+    4: Refusal("a solvent block is wrong: its kind, its place, a CAS number of 0, or not 1 to 8 terms", MAKE_AGAIN),
+    5: Refusal(
+        "a solvent's correlation is wrong: a number isn't finite, the range isn't 0 < low <= high < t_r, "
+        "or the reducing value isn't positive",
         "correct that solvent in the yard text",
     ),
-    6: ("two solvents of the book have one CAS number", "correct the CAS numbers in the yard text"),
-    7: ("a pair block is wrong: its kind, its two places, or a flag that is neither 0 nor 1", "make the book again with ./sheet book"),
-    8: ("a pair has a number that isn't finite", "correct that pair in the yard text"),
-    9: ("a pair's two alphas are not equal", "correct that pair; the yard text has one alpha for both"),
-    10: ("the room for the answer is less than 4,608 bytes", "this can't come from the program still; its caller has to lend more"),
-    11: ("the question is not one block of 512 bytes with kind 8 and the right check word", "this can't come from ./sheet; look at what wrote the question"),
-    12: ("the task is not one of those that the core answers", "ask one of the nine commands"),
-    13: ("the temperature is not finite and positive", "give a temperature above 0 K"),
-    14: ("the pressure is not finite and positive", "give a pressure above 0 Pa"),
-    15: ("a fraction or a K value is not finite", "look at --drum and --k; inside a calculation: a composition overflowed"),
-    16: ("a fraction is negative", "look at --drum"),
-    17: ("a K value is not positive", "look at --k"),
-    18: ("the fractions don't sum to 1 within 1e-10", "look at --drum; inside a calculation: a composition could not be normalized"),
-    19: (
-        "an option is out of its range: tolerances above 0 up to 1e-6, a negative threshold, a bracket in order within 273.16 to 450 K",
+    6: Refusal("two solvents of the book have one CAS number", "correct the CAS numbers in the yard text"),
+    7: Refusal("a pair block is wrong: its kind, its two places, or a flag that is neither 0 nor 1", MAKE_AGAIN),
+    8: Refusal("a pair has a number that isn't finite", "correct that pair in the yard text"),
+    9: Refusal("a pair's two alphas are not equal", "correct that pair; the yard text has one alpha for both"),
+    10: Refusal(
+        "the room for the answer is less than 4,608 bytes",
+        "this can't come from the program still; its caller has to lend more",
+    ),
+    11: Refusal(
+        "the question is not one block of 512 bytes with kind 8 and the right check word",
+        "this can't come from ./sheet; look at what wrote the question",
+    ),
+    12: Refusal("the task is not one of those that the core answers", "ask one of the nine commands"),
+    13: Refusal("the temperature is not finite and positive", "give a temperature above 0 K"),
+    14: Refusal("the pressure is not finite and positive", "give a pressure above 0 Pa"),
+    15: Refusal(
+        "a fraction or a K value is not finite",
+        "look at --drum and --k; inside a calculation: a composition overflowed",
+    ),
+    16: Refusal("a fraction is negative", "look at --drum"),
+    17: Refusal("a K value is not positive", "look at --k"),
+    18: Refusal(
+        "the fractions don't sum to 1 within 1e-10",
+        "look at --drum, or add --normalize; inside a calculation: a composition could not be normalized",
+    ),
+    19: Refusal(
+        "an option is out of its range: tolerances above 0 up to 1e-6, a negative threshold, "
+        "a bracket in order within 273.16 to 450 K",
         "look at --tolerance, --energy-tolerance, --threshold and --bracket",
     ),
-    20: ("an iteration limit is 0", "look at --max-iterations and --max-temperature-iterations"),
-    21: ("an iteration limit is above 1,000,000", "look at --max-iterations and --max-temperature-iterations"),
-    22: (
+    20: Refusal("an iteration limit is 0", LOOK_AT_LIMITS),
+    21: Refusal("an iteration limit is above 1,000,000", LOOK_AT_LIMITS),
+    22: Refusal(
         "a temperature lies outside 273.16 to 450 K or outside the range of a solvent of the book, in the drum or not",
         "stay inside the ranges, or narrow --bracket; ./sheet show lists the ranges",
     ),
-    23: ("a pressure, given or found, lies outside 100 to 500,000 Pa", "the model holds for low pressures alone"),
-    24: ("an NRTL alpha is not positive at this temperature", "correct the pair's alpha in the yard text"),
-    25: ("a result is not finite, or not positive where it must be", "the data of a solvent or pair are extreme; look at them"),
-    26: ("the bracket holds no root: the point lies outside it", "widen --bracket, or change the pressure"),
-    27: ("not converged within the iteration limit, or the bracket collapsed", "raise the limit, or the tolerance a little"),
-    28: ("the K values of the solvents present lie on one side of 1", "no split exists; rachford-rice answers with the single phase"),
-    29: ("the liquid didn't pass its trials: it splits in two liquids, which this core doesn't calculate", "ask stability to see the trials"),
-    30: ("the split's vapor fraction lies outside (0, 1)", "the drum is at its bubble or dew point; move T or p a little"),
+    23: Refusal(
+        "a pressure, given or found, lies outside 100 to 500,000 Pa", "the model holds for low pressures alone"
+    ),
+    24: Refusal("an NRTL alpha is not positive at this temperature", "correct the pair's alpha in the yard text"),
+    25: Refusal(
+        "a result is not finite, or not positive where it must be",
+        "the data of a solvent or pair are extreme; look at them",
+    ),
+    26: Refusal("the bracket holds no root: the point lies outside it", "widen --bracket, or change the pressure"),
+    27: Refusal(
+        "not converged within the iteration limit, or the bracket collapsed",
+        "where the drum's liquid is one layer: raise --max-iterations, or --tolerance a little; "
+        "ask ./sheet layers whether it is",
+    ),
+    28: Refusal(
+        "the K values of the solvents present lie on one side of 1",
+        "no split exists; rachford-rice answers with the single phase",
+        {
+            "flash": (
+                "the core's steps left the two-phase region: the drum is close to its bubble or dew point; move T or "
+                "p a little"
+            )
+        },
+    ),
+    29: Refusal(
+        "the liquid didn't pass its trials: it splits in two liquids, which this core doesn't calculate",
+        "ask ./sheet layers for the two liquids",
+    ),
+    30: Refusal(
+        "the split's vapor fraction lies outside (0, 1)", "the drum is at its bubble or dew point; move T or p a little"
+    ),
 }
+
+UNKNOWN = Refusal("a number that this tool doesn't know", "look into docs/FORMAT.md of the core's version")
 
 
 def matter(number: int) -> str:
-    return REFUSALS.get(number, ("a number that this tool doesn't know", ""))[0]
+    return REFUSALS.get(number, UNKNOWN).matter
 
 
-def advice(number: int) -> str:
-    return REFUSALS.get(number, ("", "look into document 01 of the core's version"))[1]
+def advice(number: int, command: str = "") -> str:
+    refusal = REFUSALS.get(number, UNKNOWN)
+    return refusal.by_command.get(command, refusal.advice)
 
 
 def line(number: int) -> str:

@@ -1,14 +1,13 @@
 """The sheet as text, to lay beside the drum label."""
 
 import math
-from typing import Callable, Dict, List
+from typing import Callable, Dict, List, Sequence, Tuple
 
-from . import answer, refusals, text
+from . import answer, explain, ranges, refusals, text
 from .blocks import float_of, floats_at
-from .sheet import Sheet
+from .sheet import SHORT, Sheet
 from .tasks import BUBBLE_PRESSURE, BUBBLE_TEMPERATURE, DEW_PRESSURE, DEW_TEMPERATURE
 
-RULE = "-" * text.WIDTH
 ENERGY_NAMES = (
     ("excess Gibbs energy / RT", ""),
     ("excess Gibbs energy", " J/mol"),
@@ -18,65 +17,240 @@ ENERGY_NAMES = (
 )
 
 BUBBLE_POINTS, DEW_POINTS = (BUBBLE_PRESSURE, BUBBLE_TEMPERATURE), (DEW_PRESSURE, DEW_TEMPERATURE)
+SATURATION_ROWS = {  # what each of T and p is
+    "bubble-temperature": ("begins to boil at", "pressure"),
+    "bubble-pressure": ("temperature", "begins to boil at"),
+    "dew-temperature": ("begins to condense at", "pressure"),
+    "dew-pressure": ("temperature", "begins to condense at"),
+}
+TRIAL_COLUMNS = (
+    "Each trial starts at one nearly pure solvent and looks for a liquid that lies below the tangent plane of the "
+    "drum's.",
+    "'distance' is how far the liquid found lies above that plane (in units of RT): below 0 the drum's liquid splits, "
+    "and the "
+    "trial stops there; at 0 or above it found nothing.",
+)
+TRIAL_DETAILS = (
+    "'trivial' trials came back to the drum's own liquid. The fractions are those at which a trial stopped, its start "
+    "where it "
+    "took one iteration; they are no layer: ./sheet layers has the layers."
+)
 
 Lines = List[str]
 
 
-def render(sheet: Sheet) -> str:
-    body = _refusal(sheet) if sheet.blocks.refusal else _answer(sheet)
-    return "\n".join(head(sheet) + [RULE] + body) + "\n"
+class Report:
+    def __init__(self, sheet: Sheet, details: bool = False):
+        self.sheet, self.details = sheet, details
+
+    def text(self) -> str:
+        lines = self.head() + [text.RULE] + self._marks()
+        body = self._refusal() if self.sheet.blocks.refusal else _BODIES[self.sheet.question.task.command](self)
+        return "\n".join(lines + body + self._pairs()) + "\n"
+
+    # what was asked
+
+    def head(self) -> Lines:
+        sheet, question, task = self.sheet, self.sheet.question, self.sheet.question.task
+        rows = [("Label", sheet.label)] if sheet.label else []
+        rows += [("Date", sheet.date), ("Book", book_words(sheet, self.details))]
+        rows += (
+            [("Given", self._listed(sheet.given) + ", which sums to " + f"{math.fsum(sheet.given):.12g}")]
+            if sheet.given
+            else []
+        )
+        rows.append(
+            ("Drum", self._listed(question.fractions) + (", normalized" if sheet.given else "") + " (mole fractions)")
+        )
+        if sheet.absent():
+            rows.append(("Absent", ", ".join(sheet.book.names[i] for i in sheet.absent())))
+        if question.temperature is not None:
+            rows.append(("T asked", text.temperature(question.temperature, self.details)))
+        if question.pressure is not None:
+            rows.append(("p asked", text.pressure(question.pressure, self.details)))
+        if task in (BUBBLE_TEMPERATURE, DEW_TEMPERATURE) and self.details:
+            rows.append(("Between", " and ".join(text.temperature(end, True) for end in question.options.bracket)))
+        if question.k_values is not None:
+            rows.append(("K", self._listed(question.k_values)))
+        rows += [("Task", f"{task.number}, {task.function}")] if self.details else []
+        return [f"{task.title.upper()}: {task.about}"] + text.fields(rows)
+
+    def _listed(self, values: Sequence[float]) -> str:
+        written = text.exact if self.details else text.plain
+        return ", ".join(f"{self.sheet.book.names[i]} {written(values[i])}" for i in self.sheet.present())
+
+    # above the numbers
+
+    def _marks(self) -> Lines:
+        """One line that nobody overlooks, what holds instead, and the pairs that are out of their range."""
+        mark, found = self.sheet.judgement.mark, self.sheet.ranges
+        lines = marked(mark.line) if mark else []
+        if mark and not self.sheet.blocks.refusal:
+            lines += text.sentences(mark.advice) + [""]
+        if found and found.line():
+            lines += text.wrapped(found.line(), indent="") + [""]
+        return lines
+
+    def _refusal(self) -> Lines:
+        number = self.sheet.blocks.refusal
+        sentences = [f"{refusals.matter(number)}{explain.detail(self.sheet)}.", *explain.advice(self.sheet)]
+        return [f"REFUSED, number {number}"] + text.sentences(sentences)
+
+    def _pairs(self) -> Lines:
+        found = ranges.table(self.sheet.ranges) if self.sheet.ranges else []
+        return [""] + found if found else []
+
+    # numbers
+
+    def fraction(self, value: float) -> str:
+        return text.fraction(value, self.details)
+
+    def temperature(self, kelvin: float) -> str:
+        return text.temperature(kelvin, self.details)
+
+    def pressure(self, pascals: float) -> str:
+        return text.pressure(pascals, self.details)
+
+    # the answers
+
+    def excess(self) -> Lines:
+        sheet = self.sheet
+        logs, slopes = sheet.entries(answer.LIQUID), sheet.entries(answer.VAPOR)
+        rows = [
+            self._coefficients(name, *values)
+            for name, *values in zip(sheet.book.names, sheet.question.fractions, logs, slopes)
+        ]
+        lines = text.table(("solvent", "x", "gamma", "ln gamma", "d ln gamma/dT, 1/K"), rows)
+        if sheet.absent():
+            lines += text.wrapped(
+                "A solvent with x = 0 isn't in the drum: its coefficients are those at infinite dilution in it."
+            )
+        energies = zip(ENERGY_NAMES, floats_at(sheet.blocks.head, answer.ENERGIES, len(ENERGY_NAMES)))
+        fields = [(name, text.plain(value, self.details) + unit) for (name, unit), value in energies]
+        head = sheet.blocks.head
+        fields.append(("pairs at this T", answer.VALIDITIES.get(head[answer.VALIDITY], "unknown")))
+        fields.append(("interval inferred", "yes" if head[answer.INFERRED] else "no"))
+        return lines + [""] + text.fields(fields) + [""] + self._one_layer()
+
+    def _coefficients(self, name: str, x: float, log: float, slope: float) -> Tuple[str, ...]:
+        slope_words = repr(slope) if self.details else text.small(slope)
+        return name, self.fraction(x), text.plain(_exp(log), self.details), self.fraction(log), slope_words
+
+    def saturation(self) -> Lines:
+        blocks = self.sheet.blocks
+        names = SATURATION_ROWS[self.sheet.question.task.command]
+        if self.sheet.judgement.mark:
+            names = tuple(f"(as one liquid) {name}" if name.startswith("begins") else name for name in names)
+        rows = list(zip(names, (self.temperature(blocks.real(answer.T)), self.pressure(blocks.real(answer.P)))))
+        found = sorted(rows, key=lambda row: "begins" not in row[0])
+        return text.fields(found + self._effort()) + [""] + self._phases() + [""] + self._one_layer()
+
+    def _effort(self) -> List[Tuple[str, str]]:
+        blocks = self.sheet.blocks
+        rows = [
+            ("iterations", str(blocks.head[answer.ITERATIONS])), ("residual", text.small(blocks.real(answer.RESIDUAL)))
+        ]
+        return rows if self.details else []
+
+    def _phases(self) -> Lines:
+        """Mole fractions of the solvents in the drum; a phase that isn't there has no column."""
+        sheet, task = self.sheet, self.sheet.question.task
+        liquid, vapor = answer.phases(task, sheet.blocks)
+        columns = [("drum", sheet.question.fractions)]
+        if liquid and task not in BUBBLE_POINTS:
+            columns.append(("first drop" if task in DEW_POINTS else "liquid", sheet.entries(answer.LIQUID)))
+        if vapor and task not in DEW_POINTS:
+            columns.append(("first bubble" if task in BUBBLE_POINTS else "vapor", sheet.entries(answer.VAPOR)))
+        rows = [[sheet.book.names[i]] + [self.fraction(values[i]) for _, values in columns] for i in sheet.present()]
+        return text.table(["mole fractions"] + [name for name, _ in columns], rows)
+
+    def _one_layer(self) -> Lines:
+        words = {True: "yes", False: "NO, it splits in two", None: "not tested"}
+        return [f"  one liquid layer: {words[self.sheet.judgement.one_layer]}"]
+
+    def stability(self) -> Lines:
+        words = (*TRIAL_COLUMNS, TRIAL_DETAILS) if self.details else TRIAL_COLUMNS
+        return self._one_layer() + [""] + self._trials() + [""] + text.sentences(words)
+
+    def flash(self) -> Lines:
+        blocks = self.sheet.blocks
+        outcome = blocks.head[answer.OUTCOME]
+        fraction = self.fraction(blocks.real(answer.VAPOR_FRACTION)) + " (moles of vapor per mole of drum)"
+        phases = answer.OUTCOMES.get(outcome, str(outcome)) + (" (as one liquid)" if self.sheet.judgement.mark else "")
+        rows = [("phases", phases), ("vapor fraction", fraction)]
+        rows += [self._bound("bubble"), self._bound("dew")] + self._effort()
+        rows += [("balance", text.small(blocks.real(answer.BALANCE)))] if self.details else []
+        lines = text.fields(rows) + [""] + self._phases()
+        if outcome != answer.VAPOR_ONLY:
+            lines += [""] + self._one_layer() + (self._trials() if self.details and blocks.trials else [])
+        return lines + self._notes()
+
+    def _bound(self, which: str) -> Tuple[str, str]:
+        """A pressure of a liquid that isn't stable is no bubble or dew pressure."""
+        name, at = {"bubble": ("boils from", answer.BUBBLE), "dew": ("all vapor below", answer.DEW)}[which]
+        judgement = self.sheet.judgement
+        shown = self.pressure(self.sheet.blocks.real(at))
+        if judgement.bubble_holds if which == "bubble" else judgement.dew_holds:
+            return name, shown + (" down" if which == "bubble" else "")
+        why = (
+            "the drum's liquid splits in two layers at this T"
+            if which == "bubble"
+            else "no stable first drop is known at this T"
+        )
+        return name, f"not known: {why}" + (f" (of one liquid {shown})" if self.details else "")
+
+    def split(self) -> Lines:
+        blocks = self.sheet.blocks
+        outcome = blocks.head[answer.OUTCOME]
+        rows = [("phases", answer.OUTCOMES.get(outcome, str(outcome)))]
+        if not any(answer.phases(self.sheet.question.task, blocks)):
+            return text.fields(rows)
+        rows.append(("vapor fraction", self.fraction(blocks.real(answer.VAPOR_FRACTION))))
+        return text.fields(rows + self._effort()) + [""] + self._phases()
+
+    def _trials(self) -> Lines:
+        """What each found; where it stopped with --details alone, since that is often its start."""
+        sheet = self.sheet
+        if not sheet.blocks.trials:
+            return ["  no trials were needed: fewer than two solvents in the liquid"]
+        heads = ["trial started at", "distance", "found"]
+        if self.details:
+            heads = (
+                heads[:2] + ["iterations", "trivial"] + [f"stopped at {sheet.book.names[i]}" for i in sheet.present()]
+            )
+        rows = [self._trial(words) for words in sheet.blocks.trials]
+        return text.table(heads, rows, words=(0,) if self.details else (0, 2))
+
+    def _trial(self, words) -> List[str]:
+        names = self.sheet.book.names
+        found = floats_at(words, answer.TRIAL_FRACTIONS, len(names))
+        distance, trivial = float_of(words[answer.TRIAL_DISTANCE]), words[answer.TRIAL_TRIVIAL]
+        row = [f"{names[words[answer.TRIAL_COMPONENT]]}, nearly pure", text.small(distance)]
+        if not self.details:
+            splits = distance < self.sheet.question.options.tm_threshold and not trivial
+            return row + ["a lower plane: it splits" if splits else "nothing"]
+        row += [str(words[answer.TRIAL_ITERATIONS]), "yes" if trivial else "no"]
+        return row + [self.fraction(found[i]) for i in self.sheet.present()]
+
+    def _notes(self) -> Lines:
+        lines = [""]
+        for name, words in self.sheet.blocks.notes():
+            lines += text.wrapped(f"{name}: {words}." if self.details else f"{words[0].upper()}{words[1:]}.")
+        return lines
 
 
-def head(sheet: Sheet) -> Lines:
-    """What was asked."""
-    task, question = sheet.question.task, sheet.question
-    rows = [("Drum", sheet.label)] if sheet.label else []
-    rows += [("Book", f"{sheet.book.file}, {text.counted(len(sheet.book.names), 'solvent')}"), ("Feed", _feed(sheet))]
-    if sheet.absent():
-        rows.append(("Absent", ", ".join(sheet.book.names[i] for i in sheet.absent())))
-    if question.temperature is not None:
-        rows.append(("T asked", text.temperature(question.temperature)))
-    if question.pressure is not None:
-        rows.append(("p asked", text.pressure(question.pressure)))
-    if task in (BUBBLE_TEMPERATURE, DEW_TEMPERATURE):
-        rows.append(("Between", " and ".join(text.temperature(end) for end in question.options.bracket)))
-    if question.k_values is not None:
-        rows.append(("K", _listed(sheet, question.k_values)))
-    return [f"{task.title.upper()}  (task {task.number}, {task.function})"] + text.fields(rows)
+def marked(line: str) -> Lines:
+    """Stars around a line that must not be overlooked."""
+    parts = text.wrapped(line, text.WIDTH - 8, "")
+    return [f"*** {part}{' ' * (text.WIDTH - 8 - text.width(part))} ***" for part in parts]
 
 
-def _feed(sheet: Sheet) -> str:
-    return _listed(sheet, sheet.question.fractions) + "  (mole fractions)"
-
-
-def _listed(sheet: Sheet, values) -> str:
-    return ", ".join(f"{sheet.book.names[i]} {text.plain(values[i])}" for i in sheet.present())
-
-
-def _refusal(sheet: Sheet) -> Lines:
-    number = sheet.blocks.refusal
-    sentences = (f"{refusals.matter(number)}{sheet.detail()}.", f"What to do: {refusals.advice(number)}.")
-    return [f"REFUSED, number {number}"] + [line for sentence in sentences for line in text.wrapped(sentence)]
-
-
-def _answer(sheet: Sheet) -> Lines:
-    return _BODIES[sheet.question.task.command](sheet)
-
-
-def _excess(sheet: Sheet) -> Lines:
-    logs, slopes = sheet.entries(answer.LIQUID), sheet.entries(answer.VAPOR)
-    rows = [
-        (name, text.fraction(x), text.fraction(log), text.plain(_exp(log)), text.small(slope))
-        for name, x, log, slope in zip(sheet.book.names, sheet.question.fractions, logs, slopes)
-    ]
-    lines = text.table(("solvent", "x", "ln gamma", "gamma", "d ln gamma/dT, 1/K"), rows)
-    if sheet.absent():
-        lines += text.wrapped("A solvent with x = 0 isn't in the drum: its coefficients are those at infinite dilution in it.")
-    energies = zip(ENERGY_NAMES, floats_at(sheet.blocks.head, answer.ENERGIES, len(ENERGY_NAMES)))
-    fields = [(name, text.plain(value) + unit) for (name, unit), value in energies]
-    fields.append(("validity", answer.VALIDITIES.get(sheet.blocks.head[answer.VALIDITY], "unknown")))
-    fields.append(("inferred interval", "yes" if sheet.blocks.head[answer.INFERRED] else "no"))
-    return lines + [""] + text.fields(fields)
+def book_words(sheet: Sheet, details: bool) -> str:
+    digest = sheet.book.checksum
+    return (
+        f"{sheet.book.file}, {text.counted(len(sheet.book.names), 'solvent')}, SHA-256 "
+        f"{digest if details else digest[:SHORT]}"
+    )
 
 
 def _exp(value: float) -> float:
@@ -87,90 +261,18 @@ def _exp(value: float) -> float:
         return math.inf
 
 
-def _saturation(sheet: Sheet) -> Lines:
-    blocks = sheet.blocks
-    rows = [("T", text.temperature(blocks.real(answer.T))), ("p", text.pressure(blocks.real(answer.P)))]
-    return text.fields(rows + _effort(sheet)) + [""] + _phases(sheet)
+def render(sheet: Sheet, details: bool = False) -> str:
+    return Report(sheet, details).text()
 
 
-def _effort(sheet: Sheet) -> List:
-    return [("iterations", str(sheet.blocks.head[answer.ITERATIONS])), ("residual", text.small(sheet.blocks.real(answer.RESIDUAL)))]
-
-
-def _phases(sheet: Sheet) -> Lines:
-    """Mole fractions of the solvents in the drum; a phase that isn't there has no column."""
-    task = sheet.question.task
-    liquid, vapor = answer.phases(task, sheet.blocks)
-    columns = [("feed", sheet.question.fractions)]
-    columns += [("first drop x" if task in DEW_POINTS else "liquid x", sheet.entries(answer.LIQUID))] * liquid
-    columns += [("first bubble y" if task in BUBBLE_POINTS else "vapor y", sheet.entries(answer.VAPOR))] * vapor
-    rows = [[sheet.book.names[i]] + [text.fraction(values[i]) for _, values in columns] for i in sheet.present()]
-    return text.table(["mole fractions"] + [name for name, _ in columns], rows)
-
-
-def _stability(sheet: Sheet) -> Lines:
-    return ["", f"  liquid stable in its trials: {_yes(sheet.blocks.head[answer.STABLE])}"] + _trials(sheet)
-
-
-def _flash(sheet: Sheet) -> Lines:
-    blocks = sheet.blocks
-    outcome = blocks.head[answer.OUTCOME]
-    rows = [
-        ("outcome", answer.OUTCOMES.get(outcome, str(outcome))),
-        ("vapor fraction", text.fraction(blocks.real(answer.VAPOR_FRACTION)) + "  (moles of vapor per mole of feed)"),
-        ("bubble pressure", text.pressure(blocks.real(answer.BUBBLE))),
-        ("dew pressure", text.pressure(blocks.real(answer.DEW))),
-    ]
-    rows += _effort(sheet) + [("balance", text.small(blocks.real(answer.BALANCE)))]
-    lines = text.fields(rows) + [""] + _phases(sheet)
-    if outcome != answer.VAPOR_ONLY:
-        lines += _stability(sheet)
-    return lines + _notes(sheet)
-
-
-def _split(sheet: Sheet) -> Lines:
-    blocks = sheet.blocks
-    outcome = blocks.head[answer.OUTCOME]
-    rows = [("outcome", answer.OUTCOMES.get(outcome, str(outcome)))]
-    if not any(answer.phases(sheet.question.task, blocks)):
-        return text.fields(rows)
-    rows.append(("vapor fraction", text.fraction(blocks.real(answer.VAPOR_FRACTION))))
-    return text.fields(rows + _effort(sheet)) + [""] + _phases(sheet)
-
-
-def _yes(word: int) -> str:
-    return "yes" if word else "no"
-
-
-def _trials(sheet: Sheet) -> Lines:
-    if not sheet.blocks.trials:
-        return ["  no trials were needed: fewer than two solvents in the liquid"]
-    names, present = sheet.book.names, sheet.present()
-    rows = []
-    for words in sheet.blocks.trials:
-        found = floats_at(words, answer.TRIAL_FRACTIONS, len(names))
-        distance = text.small(float_of(words[answer.TRIAL_DISTANCE]))
-        row = [names[words[answer.TRIAL_COMPONENT]], distance, str(words[answer.TRIAL_ITERATIONS]), _yes(words[answer.TRIAL_TRIVIAL])]
-        rows.append(row + [text.fraction(found[i]) for i in present])
-    heads = ["liquid trial from", "distance", "iterations", "trivial"] + [names[i] for i in present]
-    return text.table(heads, rows)
-
-
-def _notes(sheet: Sheet) -> Lines:
-    lines = [""]
-    for name, words in sheet.blocks.notes():
-        lines += text.wrapped(f"note {name}: {words}.")
-    return lines
-
-
-_BODIES: Dict[str, Callable[[Sheet], Lines]] = {
-    "excess": _excess,
-    "bubble-pressure": _saturation,
-    "dew-pressure": _saturation,
-    "bubble-temperature": _saturation,
-    "dew-temperature": _saturation,
-    "stability": lambda sheet: _stability(sheet)[1:],
-    "flash": _flash,
-    "rachford-rice": _split,
-    "rachford-rice-negative": _split,
+_BODIES: Dict[str, Callable[[Report], Lines]] = {
+    "excess": Report.excess,
+    "bubble-pressure": Report.saturation,
+    "dew-pressure": Report.saturation,
+    "bubble-temperature": Report.saturation,
+    "dew-temperature": Report.saturation,
+    "stability": Report.stability,
+    "flash": Report.flash,
+    "rachford-rice": Report.split,
+    "rachford-rice-negative": Report.split,
 }

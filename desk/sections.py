@@ -1,10 +1,24 @@
 """The lines of a yard text: headings in brackets, then 'key = value'. Everything after a number sign is a comment."""
 
+import difflib
 from typing import List, Optional, Tuple
 
-from .errors import DeskError, quoted
+from .errors import DeskError, quoted, suggestion
 
 HEADINGS = {"solvent": 2, "pair": 3}  # words of a heading
+KEYS = tuple(f"{record} {key}" for record in ("vapor", "density") for key in ("t_r", "reducing", "range", "term"))
+KEYS += (
+    "cas",
+    "source",
+    "boiling point",
+    "azeotrope",
+    "heteroazeotrope",
+    "solubility",
+    "alpha",
+    "interval",
+    "inferred",
+    "tau",
+)
 
 
 class Section:
@@ -29,8 +43,17 @@ class Section:
         if len(found) > 1:
             raise DeskError(f"[{self.title}]: '{key}' stands there {len(found)} times")
         if not found and default is None:
-            raise DeskError(f"[{self.title}]: '{key}' is missing")
+            raise DeskError(f"[{self.title}]: '{key}' is missing{self._mistyped(key)}")
         return found[0] if found else default
+
+    def _mistyped(self, key: str) -> str:
+        """A key of the section that nobody knows and that is like the missing one."""
+        near = difflib.get_close_matches(
+            key.lower(), [name for name, _, _ in self.entries if name not in KEYS], n=1, cutoff=0.7
+        )
+        return (
+            f"; line {next(line for name, _, line in self.entries if name == near[0])} has '{near[0]}'" if near else ""
+        )
 
     def optional(self, key: str) -> Optional[str]:
         return self.take(key, "") or None
@@ -38,7 +61,11 @@ class Section:
     def finish(self) -> None:
         if self.entries:
             key, _, line = self.entries[0]
-            raise DeskError(f"line {line}: [{self.title}] has no key '{key}'")
+            known = (
+                [name for name in KEYS if name.split()[0] != "tau"]
+                + [f"tau {a} {b}" for a in self.names for b in self.names if a != b]
+            )
+            raise DeskError(f"line {line}: [{self.title}] has no key '{key}'{suggestion(key, known)}")
 
 
 def sections_of(text: str) -> List[Section]:
@@ -60,7 +87,8 @@ def _heading(content: str, line: int) -> Section:
     words = content[1:-1].split() if content.endswith("]") else []
     if len(words) == HEADINGS.get(words[0] if words else ""):
         return Section(words, line)
-    raise DeskError(f"line {line}: {quoted(content)} is neither [solvent NAME] nor [pair NAME NAME]")
+    meant = suggestion(words[0], HEADINGS) if words and words[0] not in HEADINGS else ""
+    raise DeskError(f"line {line}: {quoted(content)} is neither [solvent NAME] nor [pair NAME NAME]{meant}")
 
 
 def _entry(content: str, line: int) -> Tuple[str, str, int]:

@@ -1,13 +1,22 @@
-"""One sheet: a book with its names, a question, and the core's answer to it."""
+"""One sheet: a book with its names, a question, the core's answer to it, and what the desk found about the answer."""
 
+import hashlib
+import os
+import time
 from dataclasses import dataclass
-from typing import List, Tuple
+from typing import TYPE_CHECKING, List, Optional, Sequence, Tuple
 
 from .answer import Blocks
 from .blocks import floats_at
 from .question import Question
 
-FRACTIONS_DO_NOT_SUM, SUM_TOLERANCE = 18, 1e-10
+if TYPE_CHECKING:  # both need the names below
+    from .judgement import Judgement
+    from .ranges import Ranges
+
+DEFAULT_BOOK = "yard/yard.txt"  # from the root of the repository
+SHORT = 12  # hex digits of a checksum that are enough to tell two books apart
+DATE_SETTING = "SOURCE_DATE_EPOCH"  # seconds since 1970; fixes the date (UTC), as reproducible builds have it
 
 
 @dataclass(frozen=True)
@@ -19,13 +28,34 @@ class NamedBook:
     cas: Tuple[int, ...]
     file: str
 
+    @property
+    def checksum(self) -> str:
+        return checksum(self.content)
+
+
+def checksum(content: bytes) -> str:
+    """SHA-256 of the book.bin, as sha256sum prints it."""
+    return hashlib.sha256(content).hexdigest()
+
+
+def today() -> str:
+    fixed = os.environ.get(DATE_SETTING, "")
+    moment = time.gmtime(int(fixed)) if fixed.isdigit() else time.localtime()
+    return time.strftime("%Y-%m-%d %H:%M", moment)
+
 
 @dataclass(frozen=True)
 class Sheet:
+    """`given` are the fractions before --normalize; `ranges` is None where there is no temperature."""
+
     book: NamedBook
     question: Question
     blocks: Blocks
+    judgement: "Judgement"
+    ranges: Optional["Ranges"] = None
     label: str = ""
+    date: str = ""
+    given: Optional[Tuple[float, ...]] = None
 
     def present(self) -> List[int]:
         """Places of the solvents in the drum: fraction neither +0 nor -0."""
@@ -34,13 +64,15 @@ class Sheet:
     def absent(self) -> List[int]:
         return [place for place, fraction in enumerate(self.question.fractions) if fraction == 0]
 
-    def detail(self) -> str:
-        """What the feed itself shows about a refusal."""
-        total = sum(self.question.fractions)
-        if self.blocks.refusal == FRACTIONS_DO_NOT_SUM and not abs(total - 1) <= SUM_TOLERANCE:
-            return f" (as given they sum to {total!r})"
-        return ""
-
     def entries(self, at: int) -> List[float]:
         """One float for each solvent of the book, from word `at` of the answer block."""
         return floats_at(self.blocks.head, at, len(self.book.names))
+
+
+def drum_words(book: NamedBook, fractions: Sequence[float], digits: int = 17) -> str:
+    """As --drum takes it; no more digits than the float needs."""
+
+    def written(value: float) -> str:
+        return f"{value:.12g}" if digits == 12 or float(f"{value:.12g}") == value else repr(value)
+
+    return ",".join(f"{book.names[i]}={written(x)}" for i, x in enumerate(fractions) if x != 0)

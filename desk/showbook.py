@@ -10,7 +10,10 @@ def listing(yard: Yard) -> str:
     lines = [text.counted(n, "solvent")] + _solvents(yard)
     pairs = [(yard.names[i], yard.names[j], pair) for (i, j), pair in zip(due_pairs(n), yard.book.pairs)]
     if pairs:
-        lines += ["", text.counted(len(pairs), "pair")] + text.table(("pair", "alpha", "interval, K", "inferred"), [_pair_row(*pair) for pair in pairs])
+        lines += (
+            ["", text.counted(len(pairs), "pair")]
+            + text.table(("pair", "alpha", "interval, K", "inferred"), [_pair_row(*pair) for pair in pairs])
+        )
     if yard.sources:
         lines += ["", "sources"]
         for key, source in yard.sources.items():

@@ -1,5 +1,5 @@
-"""Striking: the shorter book and question of the drum's solvents alone, and the words in which the two sheets must agree
-(document 01, "The shorter sheet")."""
+"""Striking: the shorter book and question of the drum's solvents alone, and the words in which the two sheets must
+agree (docs/FORMAT.md, "The shorter sheet")."""
 
 from dataclasses import dataclass
 from typing import List, NamedTuple, Sequence, Tuple
@@ -10,8 +10,10 @@ from .blocks import Words, float_of, joined, sealed, split
 from .book import due_pairs
 
 WHY_NOT_DEW_TEMPERATURE = (
-    "Dew temperature is left out of the promise: its search adds zero times an absent solvent's derivative to the slope. Where that derivative is infinite the "
-    "product is a NaN, the Newton step is dropped, and a solvent that isn't in the drum changes the steps of the search."
+    "Dew temperature is left out of the promise: its search adds zero times an absent solvent's derivative to the "
+    "slope. Where that derivative is infinite the "
+    "product is a NaN, the Newton step is dropped, and a solvent that isn't in the drum changes the steps of the "
+    "search."
 )
 
 
@@ -44,7 +46,8 @@ def shorter_question(words: Words, kept: List[int]) -> bytes:
 
 
 class Compared(NamedTuple):
-    """A word of the longer sheet and its place, beside that of the shorter sheet. Block 0 is the answer, the trials follow."""
+    """A word of the longer sheet and its place, beside that of the shorter sheet. Block 0 is the answer, the trials
+    follow."""
 
     block: int
     place: int
@@ -56,7 +59,7 @@ class Compared(NamedTuple):
 
 @dataclass(frozen=True)
 class Comparison:
-    """One of the groups of words that document 01 lists."""
+    """One of the groups of words that docs/FORMAT.md lists."""
 
     name: str
     words: Tuple[Compared, ...]
@@ -85,7 +88,9 @@ def compare(longer: Blocks, shorter: Blocks, kept: List[int]) -> List[Comparison
             Comparison("number of trials", (_counted(len(longer.trials), len(shorter.trials)),)),
             _group("trials, words 0, 2 to 4 and 13 to 62", trials, _plain([0, 2, 3, 4, *range(13, 63)])),
             _group("trials, words 5 to 12, the kept solvents", trials, _moved(TRIAL_FRACTIONS, kept)),
-            Comparison("trials, word 1, the component at its new place", tuple(_component(*trial, kept) for trial in trials)),
+            Comparison(
+                "trials, word 1, the component at its new place", tuple(_component(*trial, kept) for trial in trials)
+            ),
         ]
     return groups
 
@@ -99,7 +104,11 @@ def _moved(at: int, kept: List[int]) -> List[Tuple[int, int]]:
 
 
 def _group(name: str, blocks: List[Tuple[int, Words, Words]], pairs: List[Tuple[int, int]]) -> Comparison:
-    compared = (Compared(k, a, b, longer[a], shorter[b], same(longer[a], shorter[b])) for k, longer, shorter in blocks for a, b in pairs)
+    compared = (
+        Compared(k, a, b, longer[a], shorter[b], same(longer[a], shorter[b]))
+        for k, longer, shorter in blocks
+        for a, b in pairs
+    )
     return Comparison(name, tuple(compared))
 
 

@@ -54,7 +54,9 @@ def render(result: Struck, with_words: bool = False) -> str:
     lines = ["STRIKING the solvents that aren't in the drum"]
     if result.comparisons is None:
         return "\n".join(lines + text.wrapped(result.reason)) + "\n"
-    lines.append(f"  kept: {', '.join(result.names)}; the book goes from {result.blocks_before} to {result.blocks_after} blocks")
+    lines.append(
+        f"  kept: {', '.join(result.names)}; the book goes from {result.blocks_before} to {result.blocks_after} blocks"
+    )
     rows = [(group.name, str(len(group.words)), str(len(group.differing))) for group in result.comparisons]
     lines += text.table(("compared", "words", "differing"), rows)
     words = [word for group in result.comparisons for word in (group.words if with_words else group.differing)]
@@ -66,7 +68,13 @@ def render(result: Struck, with_words: bool = False) -> str:
 
 def _word_table(words: List[Compared]) -> List[str]:
     heads = ("block", "word", "shorter's", "longer sheet", "shorter sheet", "equal")
-    return text.table(heads, [[str(cell) for cell in word[:3]] + [f"{word.word:016x}", f"{word.shorter_word:016x}", _yes(word.equal)] for word in words])
+    return text.table(
+        heads,
+        [
+            [str(cell) for cell in word[:3]] + [f"{word.word:016x}", f"{word.shorter_word:016x}", _yes(word.equal)]
+            for word in words
+        ],
+    )
 
 
 def _yes(equal: bool) -> str:
@@ -84,5 +92,8 @@ def document(result: Struck, with_words: bool = False) -> Dict[str, Any]:
 
 def _group_document(group: Comparison, with_words: bool) -> Dict[str, Any]:
     counts = {"words": group.name, "count": len(group.words), "differing": len(group.differing)}
-    listed = [{**word._asdict(), "word": f"{word.word:016x}", "shorter_word": f"{word.shorter_word:016x}"} for word in group.words]
+    listed = [
+        {**word._asdict(), "word": f"{word.word:016x}", "shorter_word": f"{word.shorter_word:016x}"}
+        for word in group.words
+    ]
     return {**counts, "each": listed} if with_words else counts

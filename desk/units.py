@@ -6,18 +6,24 @@ from decimal import Decimal
 from fractions import Fraction
 from typing import Dict
 
-from .errors import DeskError, quoted
+from .errors import DeskError, quoted, suggestion
 
 CELSIUS_ZERO = Fraction("273.15")
-# Pa; the conventional millimetre of mercury
+# Pa; the conventional millimetre of mercury, and the pound-force per square inch from its definition
 PRESSURE_UNITS: Dict[str, Fraction] = {
     "Pa": Fraction(1),
     "kPa": Fraction(1000),
+    "mbar": Fraction(100),
     "bar": Fraction(100000),
+    "atm": Fraction(101325),
     "mmHg": Fraction("133.322387415"),
+    "Torr": Fraction(101325, 760),
+    "psi": Fraction("4.4482216152605") / Fraction("0.0254") ** 2,
 }
 KELVIN_UNITS = ("K",)
 CELSIUS_UNITS = ("C", "°C", "degC")
+TEMPERATURES = "K, C or °C"
+PRESSURES = ", ".join(list(PRESSURE_UNITS)[:-1]) + f" or {list(PRESSURE_UNITS)[-1]}"
 
 _NUMBER = r"[+-]?(?:\d+(?:\.\d*)?|\.\d+)(?:[eE][+-]?\d{1,4})?"
 _QUANTITY = re.compile(rf"\s*({_NUMBER})\s*([^\d\s].*?)?\s*", re.ASCII)
@@ -42,22 +48,27 @@ def whole(text: str, what: str) -> int:
 
 def temperature(text: str, what: str = "temperature") -> float:
     """Kelvin from a number with K, C or °C."""
-    value, unit = _quantity(text, what, "K, C or °C, as in 351.44K or 78.29C")
+    value, unit = _quantity(text, what, f"{TEMPERATURES}, as in 351.44K or 78.29C")
     if unit in KELVIN_UNITS:
         return _finite(float(value), text, what)
     if unit in CELSIUS_UNITS:
         return _rounded(Fraction(value) + CELSIUS_ZERO, text, what)
-    raise DeskError(f"{what}: unit {quoted(unit)} in {quoted(text)} is not K, C or °C")
+    raise DeskError(
+        f"{what}: unit {quoted(unit)} in {quoted(text)} is not "
+        f"{TEMPERATURES}{suggestion(unit, (*KELVIN_UNITS, *CELSIUS_UNITS))}"
+    )
 
 
 def pressure(text: str, what: str = "pressure") -> float:
-    """Pascals from a number with Pa, kPa, bar or mmHg."""
-    value, unit = _quantity(text, what, "Pa, kPa, bar or mmHg, as in 90kPa")
+    """Pascals from a number with one of PRESSURE_UNITS."""
+    value, unit = _quantity(text, what, f"{PRESSURES}, as in 90kPa")
     if unit == "Pa":
         return _finite(float(value), text, what)
     if unit in PRESSURE_UNITS:
         return _rounded(Fraction(value) * PRESSURE_UNITS[unit], text, what)
-    raise DeskError(f"{what}: unit {quoted(unit)} in {quoted(text)} is not Pa, kPa, bar or mmHg")
+    raise DeskError(
+        f"{what}: unit {quoted(unit)} in {quoted(text)} is not {PRESSURES}{suggestion(unit, PRESSURE_UNITS)}"
+    )
 
 
 def celsius(kelvin: float) -> float:

@@ -26,6 +26,16 @@ class MixtureCheck:
 
 
 @dataclass(frozen=True)
+class SolubilityCheck:
+    """A published mole fraction of a solvent in the layer of another."""
+
+    solvent: str
+    fraction: float
+    layer: str
+    kelvin: float
+
+
+@dataclass(frozen=True)
 class Yard:
     """A book with the names of its solvents, and what its text says besides."""
 
@@ -35,3 +45,9 @@ class Yard:
     boiling: Dict[str, BoilingCheck] = field(default_factory=dict)
     azeotropes: Dict[Tuple[str, str], MixtureCheck] = field(default_factory=dict)
     mixtures: Dict[Tuple[str, str], List[MixtureCheck]] = field(default_factory=dict)
+    heteroazeotropes: Dict[Tuple[str, str], MixtureCheck] = field(default_factory=dict)  # the fraction is the vapor's
+    solubilities: Dict[Tuple[str, str], List[SolubilityCheck]] = field(default_factory=dict)
+
+    @property
+    def has_published(self) -> bool:
+        return any((self.boiling, self.azeotropes, self.mixtures, self.heteroazeotropes, self.solubilities))

@@ -16,7 +16,8 @@
     interval          = 298.15 K to 373.15 K
     inferred          = yes
 
-docs/GUIDE.md has the whole list of keys. A name is written without blanks. Solvents have the places in which they stand; pairs may stand in any order."""
+docs/GUIDE.md has the whole list of keys. A name is written without blanks. Solvents have the places in which they
+stand; pairs may stand in any order."""
 
 import re
 from dataclasses import replace
@@ -26,7 +27,7 @@ from . import units
 from .book import MOST_SOLVENTS, MOST_TERMS, Book, Correlation, Interval, Pair, Solvent, due_pairs
 from .errors import DeskError, quoted
 from .sections import Section, sections_of
-from .yard import BoilingCheck, MixtureCheck, Yard
+from .yard import BoilingCheck, MixtureCheck, SolubilityCheck, Yard
 
 GAS_CONSTANT = {"J/mol": 8.31446261815324, "cal/mol": 1.98720425864083}  # per K
 NAME = re.compile(r"[^\W_][\w.+()'-]*")
@@ -51,7 +52,9 @@ def _distinct_names(solvents: List[Section]) -> Tuple[str, ...]:
     for section in solvents:
         name = section.names[0]
         if not NAME.fullmatch(name) or re.fullmatch(r"[\d-]+", name):
-            raise DeskError(f"line {section.line}: {quoted(name)} can't be a name (letters, digits and . + - ( ) ' without blanks)")
+            raise DeskError(
+                f"line {section.line}: {quoted(name)} can't be a name (letters, digits and . + - ( ) ' without blanks)"
+            )
         if name.lower() in (other.lower() for other in names):
             raise DeskError(f"line {section.line}: solvent {name} stands there twice")
         names.append(name)
@@ -113,7 +116,9 @@ def _density_value(text: str, what: str) -> float:
 def _checked(record: Correlation, what: str) -> Correlation:
     """Question 5 of the core, where the line is still known."""
     if not 0 < record.low <= record.high < record.t_r:
-        raise DeskError(f"{what} range: {record.low} K to {record.high} K doesn't lie between 0 and t_r, {record.t_r} K")
+        raise DeskError(
+            f"{what} range: {record.low} K to {record.high} K doesn't lie between 0 and t_r, {record.t_r} K"
+        )
     if record.reducing <= 0:
         raise DeskError(f"{what} reducing: {record.reducing} isn't positive")
     return record
@@ -142,7 +147,9 @@ def _note_source(section: Section, yard: Yard, key: Tuple[str, ...]) -> None:
 def _boiling_check(text: str, what: str) -> BoilingCheck:
     match = re.fullmatch(r"(.+?) at (.+?) within (\S+) K", text)
     if not match:
-        raise DeskError(f"{what} boiling point: {quoted(text)} is not 'T at P within D K', as in 351.44 K at 101325 Pa within 0.5 K")
+        raise DeskError(
+            f"{what} boiling point: {quoted(text)} is not 'T at P within D K', as in 351.44 K at 101325 Pa within 0.5 K"
+        )
     kelvin, pascals, within = match.groups()
     return BoilingCheck(units.temperature(kelvin, what), units.pressure(pascals, what), units.number(within, what))
 
@@ -152,7 +159,17 @@ def _mixture_check(text: str, what: str, pair: Tuple[str, str]) -> MixtureCheck:
     if not match or match.group(1) not in pair:
         raise DeskError(f"{what}: {quoted(text)} is not 'NAME x, T at P', as in ethanol 0.894, 351.3 K at 101325 Pa")
     name, fraction, kelvin, pascals = match.groups()
-    return MixtureCheck(name, units.number(fraction, what), units.temperature(kelvin, what), units.pressure(pascals, what))
+    return MixtureCheck(
+        name, units.number(fraction, what), units.temperature(kelvin, what), units.pressure(pascals, what)
+    )
+
+
+def _solubility_check(text: str, what: str, pair: Tuple[str, str]) -> SolubilityCheck:
+    match = re.fullmatch(r"(\S+) (\S+) in (\S+) at (.+)", text)
+    if not match or {match.group(1), match.group(3)} != set(pair):
+        raise DeskError(f"{what}: {quoted(text)} is not 'NAME x in NAME at T', as in toluene 0.0001 in water at 25 C")
+    solvent, fraction, layer, kelvin = match.groups()
+    return SolubilityCheck(solvent, units.number(fraction, what), layer, units.temperature(kelvin, what))
 
 
 def _pairs(sections: List[Section], yard: Yard) -> Tuple[Pair, ...]:
@@ -195,6 +212,12 @@ def _pair(section: Section, yard: Yard, names: Tuple[str, str]) -> Pair:
     boiling = section.take_all("boiling point")
     if boiling:
         yard.mixtures[names] = [_mixture_check(text, f"{what} boiling point", names) for text in boiling]
+    hetero = section.optional("heteroazeotrope")
+    if hetero:
+        yard.heteroazeotropes[names] = _mixture_check(hetero, f"{what} heteroazeotrope", names)
+    solubilities = section.take_all("solubility")
+    if solubilities:
+        yard.solubilities[names] = [_solubility_check(text, f"{what} solubility", names) for text in solubilities]
     section.finish()
     return Pair(tau_ij, tau_ji, alpha, interval)
 
@@ -237,4 +260,6 @@ def _divisor(words: List[str], what: str) -> float:
         return 1.0
     if words[0] == "t1" and words[2] in GAS_CONSTANT:
         return GAS_CONSTANT[words[2]]
-    raise DeskError(f"{what}: unit {quoted(words[2])} of {words[0]} is none of K, J/mol and cal/mol, which t1 alone may have")
+    raise DeskError(
+        f"{what}: unit {quoted(words[2])} of {words[0]} is none of K, J/mol and cal/mol, which t1 alone may have"
+    )

@@ -25,7 +25,19 @@ def questions() -> List[Question]:
 
 
 def _float(rng: random.Random) -> float:
-    return rng.choice((0.0, -0.0, TINY, -TINY, HUGE, -HUGE, 1 / 3, rng.uniform(-9, 9), rng.uniform(-1, 1) * 10.0 ** rng.randint(-300, 300)))
+    return rng.choice(
+        (
+            0.0,
+            -0.0,
+            TINY,
+            -TINY,
+            HUGE,
+            -HUGE,
+            1 / 3,
+            rng.uniform(-9, 9),
+            rng.uniform(-1, 1) * 10.0 ** rng.randint(-300, 300),
+        )
+    )
 
 
 def _floats(rng: random.Random, count: int):
@@ -35,7 +47,9 @@ def _floats(rng: random.Random, count: int):
 def _correlation(rng: random.Random) -> Correlation:
     terms = tuple((_float(rng), _float(rng)) for _ in range(rng.randint(1, 8)))
     low, high, t_r = sorted(rng.sample(range(100, 900), 3))
-    return Correlation(t_r + rng.random(), rng.choice((TINY, HUGE, rng.uniform(1, 1e7))), float(low), high + rng.random() / 2, terms)
+    return Correlation(
+        t_r + rng.random(), rng.choice((TINY, HUGE, rng.uniform(1, 1e7))), float(low), high + rng.random() / 2, terms
+    )
 
 
 def _book(rng: random.Random, n: int) -> Book:
@@ -73,8 +87,16 @@ def book_line(book: Book) -> str:
 
 def question_line(question: Question) -> str:
     options = question.options
-    numbers: List[object] = ["question", question.task.number, question.temperature, question.pressure, *eight(question.fractions)]
-    numbers += [options.max_iterations, options.tolerance, options.max_temperature_iterations, options.energy_tolerance, options.tm_threshold]
+    numbers: List[object] = [
+        "question", question.task.number, question.temperature, question.pressure, *eight(question.fractions)
+    ]
+    numbers += [
+        options.max_iterations,
+        options.tolerance,
+        options.max_temperature_iterations,
+        options.energy_tolerance,
+        options.tm_threshold,
+    ]
     return _line(numbers + [*options.bracket, *eight(question.k_values or ())])
 
 

@@ -23,7 +23,10 @@ REFERENCE = ROOT / "reference"
 
 
 def lines() -> List[str]:
-    return [cases.book_line(book) for book in cases.books()] + [cases.question_line(question) for question in cases.questions()]
+    return (
+        [cases.book_line(book) for book in cases.books()]
+        + [cases.question_line(question) for question in cases.questions()]
+    )
 
 
 def encoded() -> List[bytes]:
@@ -63,7 +66,9 @@ class Encoder(unittest.TestCase):
     def test_stored_blocks_of_the_reference(self):
         self.assert_equal_to(STORED.read_text())
 
-    @unittest.skipUnless(reference_at_hand(), "cargo or the Rust source is not at hand; the stored blocks are compared all the same")
+    @unittest.skipUnless(
+        reference_at_hand(), "cargo or the Rust source is not at hand; the stored blocks are compared all the same"
+    )
     def test_blocks_of_the_reference(self):
         text = from_reference()
         if STORE:
@@ -88,7 +93,12 @@ class Reading(unittest.TestCase):
         good = books.encode(cases.books()[0])
         head = split(good)[0]
         damaged = [b"", good[:-1], good + b"\0" * BLOCK, good[:BLOCK]]
-        damaged += [sealed(words) + good[BLOCK:] for words in ([2] + head[1:], head[:1] + [2] + head[2:], head[:2] + [9] + head[3:], head[:2] + [0] + head[3:])]
+        damaged += [
+            sealed(words) + good[BLOCK:]
+            for words in (
+                [2] + head[1:], head[:1] + [2] + head[2:], head[:2] + [9] + head[3:], head[:2] + [0] + head[3:]
+            )
+        ]
         for content in damaged:
             with self.assertRaises(DeskError):
                 books.decode(content)

@@ -1,28 +1,35 @@
-"""docs/GUIDE.md: each command in it is run, and its output is what the page shows."""
+"""docs/GUIDE.md and README.md: each command in them is run, and its output is what the page shows."""
 
 import re
 import shlex
 
-from .support import ROOT, STORE, InFolder, sheet
+from .support import ROOT, InFolder, sheet
 
-GUIDE = ROOT / "docs" / "GUIDE.md"
+GUIDE, README = ROOT / "docs" / "GUIDE.md", ROOT / "README.md"
+PICTURES = ("ethanol-water.svg", "toluene-water.svg")
 BLOCK = re.compile(r"^```\n\$ \./sheet (.*)\n((?:.*\n)*?)```$", re.MULTILINE)
 
 
 class Guide(InFolder):
     def output(self, command: str) -> str:
         run = sheet(*shlex.split(command), cwd=self.folder)
-        self.assertIn(run.status, (0, 1), run.err)
-        return run.out + "".join(line for line in run.err.splitlines(True) if line.startswith("sheet: "))  # no progress lines
+        self.assertIn(run.status, (0, 1, 3), run.err)
+        # no progress lines
+        return run.out + "".join(line for line in run.err.splitlines(True) if line.startswith("sheet: "))
+
+    def page(self, text: str, least: int) -> str:
+        """With the output that each command has today."""
+        self.assertGreaterEqual(len(BLOCK.findall(text)), least)
+        return BLOCK.sub(lambda match: f"```\n$ ./sheet {match.group(1)}\n{self.output(match.group(1))}```", text)
+
+    def test_first_lines_of_the_readme(self):
+        text = README.read_text(encoding="utf-8")
+        self.assertIn("$ ./sheet", "\n".join(text.splitlines()[:12]))
+        self.assert_stored(README, self.page(text, 1))
 
     def test_commands(self):
         (self.folder / "yard").symlink_to(ROOT / "yard")
-        text = GUIDE.read_text(encoding="utf-8")
-        commands = BLOCK.findall(text)
-        self.assertGreaterEqual(len(commands), 7)
-        found = BLOCK.sub(lambda match: f"```\n$ ./sheet {match.group(1)}\n{self.output(match.group(1))}```", text)
-        picture = (self.folder / "ethanol-water.svg").read_text(encoding="utf-8")
-        for path, content in ((GUIDE, found), (GUIDE.parent / "ethanol-water.svg", picture)):
-            if STORE:
-                path.write_text(content, encoding="utf-8")
-            self.assertEqual(path.read_text(encoding="utf-8"), content, f"differs from {path}")
+        found = self.page(GUIDE.read_text(encoding="utf-8"), 11)
+        pictures = [(GUIDE.parent / name, (self.folder / name).read_text(encoding="utf-8")) for name in PICTURES]
+        for path, content in ((GUIDE, found), *pictures):
+            self.assert_stored(path, content)

@@ -2,9 +2,11 @@
 
 import json
 import unittest
+from pathlib import Path
 
 from desk import answer, refusals
-from desk.blocks import bits_of, float_of, split
+from desk.blocks import bits_of, float_of, sealed, split
+from desk.jsonsheet import Numbers
 
 from .support import ROOT, InFolder, sheet
 
@@ -28,7 +30,22 @@ CASES = {
     "refused-29": ("flash", "--drum", "toluene=0.4,water=0.6", "--temperature", "25C", "--pressure", "1bar"),
     "strike-flash": ("strike", "flash", *DRUM, "--temperature", "72C", "--pressure", "1bar"),
     "strike-dew-temperature": ("strike", "dew-temperature", *DRUM, "--pressure", "1bar"),
+    "marked-bubble": ("bubble-temperature", "--drum", "toluene=0.02,water=0.98", "--pressure", "101325Pa"),
+    "marked-dew": ("dew-temperature", "--drum", "toluene=0.42,water=0.58", "--pressure", "101325Pa"),
+    "marked-vapor": ("flash", "--drum", "toluene=0.42,water=0.58", "--temperature", "83.5C", "--pressure", "101325Pa"),
+    "marked-split": ("rachford-rice", "--drum", "ethanol=0.1,water=0.9", "--k", "ethanol=7,water=0.6"),
+    "normalized": (
+        "bubble-pressure", "--drum", "ethanol=0.333,water=0.333,acetone=0.333", "--temperature", "70C", "--normalize"
+    ),
 }
+LAYERS = {
+    "layers-temperature": ("layers", "--drum", "toluene=0.4,water=0.6", "--temperature", "25C", "--label", "drum 18"),
+    "layers-pressure": ("layers", "--drum", "acetone=0.3,water=0.3,toluene=0.4", "--pressure", "1atm"),
+    "layers-pair": ("layers", "--pair", "toluene,water", "--pressure", "101325Pa"),
+    "layers-one": ("layers", "--drum", "ethanol=0.5,water=0.5", "--pressure", "1atm"),
+    "layers-no-pair": ("layers", "--pair", "ethanol,water", "--temperature", "25C"),
+}
+MARKED = ("stability", "rachford-rice-negative")  # and those that are named so
 
 # arguments after the command, and the number that the core gives
 REFUSED = {
@@ -53,17 +70,33 @@ class Golden(InFolder):
     def test_sheets(self):
         for name, arguments in CASES.items():
             with self.subTest(name):
-                run, as_json = sheet(*arguments), sheet(*arguments, "--json")
-                self.assertEqual((run.status, as_json.status), (int(name.startswith("refused")),) * 2, run.err)
-                self.assertEqual(bool(run.err), run.status == 1)
+                run, as_json, details = (sheet(*arguments, *options) for options in ((), ("--json",), ("--details",)))
+                status = 1 if name.startswith("refused") else 3 if name.startswith("marked") or name in MARKED else 0
+                self.assertEqual((run.status, as_json.status, details.status), (status,) * 3, run.err)
+                self.assertEqual(bool(run.err), status != 0)
                 self.assert_golden(f"{name}.txt", run.out)
                 self.assert_golden(f"{name}.json", as_json.out)
+                self.assert_golden(f"{name}.details.txt", details.out)
+
+    def test_layers(self):
+        for name, arguments in LAYERS.items():
+            with self.subTest(name):
+                run = sheet(*arguments)
+                self.assertEqual((run.status, run.err), (0, ""))
+                self.assert_golden(f"{name}.txt", run.out)
 
     def test_document_samples(self):
-        """Document 01, (d) to (h)."""
-        found = json.loads(sheet("rachford-rice", *PAIR, "--k", "ethanol=2,water=0.5", "--json").out)["answer"]
-        self.assertEqual((found["outcome"], found["vapor_fraction"]["value"], found["iterations"]), ("liquid and vapor", 0.5, 1))
-        self.assertEqual((found["liquid"]["ethanol"]["bits"], found["vapor"]["ethanol"]["bits"]), ("3fd5555555555555", "3fe5555555555555"))
+        """docs/FORMAT.md, (d) to (h)."""
+        found = json.loads(
+            sheet("rachford-rice", *PAIR, "--k", "ethanol=2,water=0.5", "--json", "--details").out
+        )["answer"]
+        self.assertEqual(
+            (found["outcome"], found["vapor_fraction"]["value"], found["iterations"]), ("liquid and vapor", 0.5, 1)
+        )
+        self.assertEqual(
+            (found["liquid"]["ethanol"]["bits"], found["vapor"]["ethanol"]["bits"]),
+            ("3fd5555555555555", "3fe5555555555555"),
+        )
         for k, outcome in (("0.5", "liquid"), ("1", "liquid"), ("2", "vapor")):
             found = json.loads(sheet("rachford-rice", *PAIR, "--k", f"ethanol={k},water={k}", "--json").out)["answer"]
             self.assertEqual((found["outcome"], found["liquid"], found["vapor"]), (outcome, None, None))
@@ -71,21 +104,41 @@ class Golden(InFolder):
     def test_sample_of_the_program(self):
         """The stored answer, word by word as the JSON has it."""
         still = ROOT / "crates" / "still"
-        names = ("--names", str(ROOT / "yard" / "sample.txt"))
-        run = sheet("flash", "--book", str(still / "data" / "book.bin"), *names, *PAIR, "--temperature", "351.44K", "--pressure", "90kPa", "--json")
+        names, exact = ("--names", str(ROOT / "yard" / "sample.txt")), ("--json", "--details")
+        run = sheet(
+            "flash",
+            "--book",
+            str(still / "data" / "book.bin"),
+            *names,
+            *PAIR,
+            "--temperature",
+            "351.44K",
+            "--pressure",
+            "90kPa",
+            *exact,
+        )
         found = json.loads(run.out)["answer"]
         head = split((still / "stdout").read_bytes())[0]
-        for name, at in (("temperature_K", 4), ("bubble_pressure_Pa", 6), ("dew_pressure_Pa", 7), ("residual", 9), ("balance", 10), ("vapor_fraction", 11)):
+        for name, at in (
+            ("temperature_K", 4),
+            ("bubble_pressure_Pa", 6),
+            ("dew_pressure_Pa", 7),
+            ("residual", 9),
+            ("balance", 10),
+            ("vapor_fraction", 11),
+        ):
             self.assertEqual(found[name]["bits"], f"{head[at]:016x}", name)
             self.assertEqual(bits_of(found[name]["value"]), head[at], name)
-        self.assertEqual([found["liquid"][name]["bits"] for name in ("ethanol", "water")], [f"{word:016x}" for word in head[14:16]])
+        self.assertEqual(
+            [found["liquid"][name]["bits"] for name in ("ethanol", "water")], [f"{word:016x}" for word in head[14:16]]
+        )
         self.assertEqual(found["iterations"], head[8])
         self.assertEqual(len(found["trials"]), 2)
 
     def test_gamma_is_exp_of_ln_gamma(self):
         found = sheet(*CASES["excess"]).out
-        stored = json.loads(sheet(*CASES["excess"], "--json").out)["answer"]["ln_gamma"]["water"]["value"]
-        self.assertIn(f"{2.718281828459045 ** stored:.8g}", found)
+        stored = json.loads(sheet(*CASES["excess"], "--json").out)["answer"]["ln_gamma"]["water"]
+        self.assertIn(f"{2.718281828459045 ** stored:.6g}", found)
 
 
 class Refusals(InFolder):
@@ -95,20 +148,27 @@ class Refusals(InFolder):
                 run = sheet(*arguments)
                 self.assertEqual(run.status, 1)
                 self.assertIn(f"REFUSED, number {number}\n", run.out)
-                self.assertTrue(run.err.startswith(f"sheet: refused, number {number}: {refusals.matter(number)}"), run.err)
+                self.assertTrue(
+                    run.err.startswith(f"sheet: refused, number {number}: {refusals.matter(number)}"), run.err
+                )
                 self.assertEqual(run.err.count("\n"), 1)
 
     def test_every_number_is_explained(self):
         self.assertEqual(sorted(refusals.REFUSALS), list(range(1, 31)))
-        self.assertEqual(len({matter for matter, _ in refusals.REFUSALS.values()}), 30)
+        self.assertEqual(len({refusal.matter for refusal in refusals.REFUSALS.values()}), 30)
         for number in [*range(1, 31), 77]:
-            words = f"words = [9, 7, {number}] + [0] * 60 + [16 + {number}]"
-            program = self.program([words, "sys.stdin.buffer.read()", "sys.stdout.buffer.write(struct.pack('<64Q', *words))"])
-            run = sheet("flash", *PAIR, "--temperature", "70C", "--pressure", "1bar", "--program", program, "--json")
+            answered = self.file("answer.bin", sealed([9, 7, number]))
+            program = Path(self.file("program", f"#!/bin/sh\ncat >/dev/null\nexec cat {answered}\n"))
+            program.chmod(0o755)
+            asked = ("flash", *PAIR, "--temperature", "70C", "--pressure", "1bar", "--program", str(program), "--json")
+            run = sheet(*asked)
             found = json.loads(run.out)
-            self.assertEqual((run.status, found["refusal"]["number"], found["refusal"]["matter"], found["answer"]), (1, number, refusals.matter(number), None))
+            self.assertEqual(
+                (run.status, found["refusal"]["number"], found["refusal"]["matter"], found["answer"]),
+                (1, number, refusals.matter(number), None),
+            )
         listed = sheet("refusals").out
-        self.assertTrue(all(matter in listed for matter, _ in refusals.REFUSALS.values()))
+        self.assertTrue(all(refusal.matter in listed for refusal in refusals.REFUSALS.values()))
 
 
 class Notes(unittest.TestCase):
@@ -117,6 +177,6 @@ class Notes(unittest.TestCase):
         self.assertEqual([name for name, _ in blocks.notes()], ["A7-GAMMA-PHI", "A7-LIQUID-TPD-FINITE-TRIALS"])
 
     def test_nan_has_bits_and_no_value(self):
-        from desk.jsonsheet import number_of
-
-        self.assertEqual(number_of(float_of(0x7FF8000000000000)), {"value": None, "bits": "7ff8000000000000"})
+        nan = float_of(0x7FF8000000000000)
+        self.assertEqual(Numbers(("a",), (0,), True).number(nan), {"value": None, "bits": "7ff8000000000000"})
+        self.assertIsNone(Numbers(("a",), (0,), False).number(nan))

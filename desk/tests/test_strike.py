@@ -30,7 +30,9 @@ def drums():
 
 def asked(task: tasks.Task, fractions) -> Question:
     k_values = tuple(0.4 + 0.5 * place for place in range(6)) if task.takes_k else None
-    return Question(task, fractions, 345.0 if task.takes_temperature else None, 101325.0 if task.takes_pressure else None, k_values)
+    return Question(
+        task, fractions, 345.0 if task.takes_temperature else None, 101325.0 if task.takes_pressure else None, k_values
+    )
 
 
 class Striking(InFolder):
@@ -49,7 +51,11 @@ class Striking(InFolder):
                         short = shorter.ask_block(shorter_question(question.words(), kept))
                         self.assertEqual(long.refusal, short.refusal)
                         if long.accepted:
-                            self.assertEqual([group for group in compare(long, short, kept) if group.differing], [], (task, fractions))
+                            self.assertEqual(
+                                [group for group in compare(long, short, kept) if group.differing],
+                                [],
+                                (task, fractions),
+                            )
                             compared[task.command] += 1
         self.assertTrue(all(count > 3 for command, count in compared.items() if command != "dew-temperature"), compared)
 
@@ -61,31 +67,57 @@ class Striking(InFolder):
         self.assertEqual(flag.out, run.out)
 
     def test_every_word_is_listed(self):
-        asked = ("strike", "flash", "--drum", "ethanol=0.5,water=0.5", "--temperature", "78C", "--pressure", "1bar", "--words")
+        asked = (
+            "strike",
+            "flash",
+            "--drum",
+            "ethanol=0.5,water=0.5",
+            "--temperature",
+            "78C",
+            "--pressure",
+            "1bar",
+            "--words",
+        )
         groups = json.loads(sheet(*asked, "--json").out)["strike"]["compared"]
         self.assertEqual([len(group["each"]) for group in groups], [group["count"] for group in groups])
         run = sheet(*asked)
-        rows = [line.split() for line in run.out.splitlines() if line.endswith("yes") and len(line.split()) == 6 and line.split()[0].isdigit()]
+        rows = [
+            line.split()
+            for line in run.out.splitlines()
+            if line.endswith("yes") and len(line.split()) == 6 and line.split()[0].isdigit()
+        ]
         self.assertEqual(len(rows), sum(group["count"] for group in groups))
         self.assertTrue(all(row[3] == row[4] for row in rows if row[1] != "1" or row[0] == "0"))
 
     def test_difference_is_shown(self):
         """A program that answers with the size of its book can't keep the promise."""
         answered = "words = [9, 1, 0, 0, os.path.getsize('book.bin')] + [0] * 58"
-        program = self.program(["import os", "sys.stdin.buffer.read()", answered, "sys.stdout.buffer.write(struct.pack('<64Q', *words, sum(words)))"])
+        program = self.program(
+            [
+                "import os",
+                "sys.stdin.buffer.read()",
+                answered,
+                "sys.stdout.buffer.write(struct.pack('<64Q', *words, sum(words)))",
+            ]
+        )
         run = sheet("strike", "excess", "--drum", "ethanol=1", "--temperature", "50C", "--program", program)
         self.assertEqual((run.status, run.err), (1, "sheet: the two sheets differ\n"))
         self.assertIn("THE TWO SHEETS DIFFER", run.out)
         self.assertRegex(run.out, r"0 +4 +4 +0000000000002c00 +0000000000000400 +NO")
 
     def test_whole_drum(self):
-        parts = ",".join(f"{name}=0.125" for name in ("water", "ethanol", "methanol", "acetone")) + ",2-propanol=0.25,toluene=0.25"
+        parts = (
+            ",".join(f"{name}=0.125" for name in ("water", "ethanol", "methanol", "acetone"))
+            + ",2-propanol=0.25,toluene=0.25"
+        )
         run = sheet("strike", "excess", "--drum", parts, "--temperature", "50C")
         self.assertIn("from 22 to 22 blocks", run.out)
         self.assertIn("equal, word by word", run.out)
 
     def test_refused_and_dew_temperature_are_not_compared(self):
-        for arguments in (("flash", "--temperature", "900C", "--pressure", "1bar"), ("dew-temperature", "--pressure", "1bar")):
+        for arguments in (
+            ("flash", "--temperature", "900C", "--pressure", "1bar"), ("dew-temperature", "--pressure", "1bar")
+        ):
             run = sheet("strike", *arguments, "--drum", "ethanol=0.5,water=0.5", "--json")
             found = json.loads(run.out)["strike"]
             self.assertEqual((found["equal"], found["compared"]), (None, []))
@@ -140,7 +172,9 @@ class Shorter(unittest.TestCase):
         book = open_book(str(YARD)).content
         before, after = split(book), split(shorter_book(book, [1, 4]))
         self.assertEqual(len(after), 4)
-        self.assertEqual([words[:3] for words in after], [[1, 1, 2], [2, 0, before[2][2]], [2, 1, before[5][2]], [3, 0, 1]])
+        self.assertEqual(
+            [words[:3] for words in after], [[1, 1, 2], [2, 0, before[2][2]], [2, 1, before[5][2]], [3, 0, 1]]
+        )
         pair = before[7 + due_pairs(6).index((1, 4))]
         self.assertEqual((after[1][3:63], after[3][3:63]), (before[2][3:63], pair[3:63]))
 
@@ -148,5 +182,7 @@ class Shorter(unittest.TestCase):
         words = asked(tasks.BY_COMMAND["rachford-rice"], (0.0, 0.25, 0.0, 0.0, 0.75, 0.0)).words()
         (after,) = split(shorter_question(words, [1, 4]))
         self.assertEqual(after[places.FRACTIONS : places.FRACTIONS + 2], [bits_of(0.25), bits_of(0.75)])
-        self.assertEqual(after[places.K_VALUES : places.K_VALUES + 2], [words[places.K_VALUES + 1], words[places.K_VALUES + 4]])
+        self.assertEqual(
+            after[places.K_VALUES : places.K_VALUES + 2], [words[places.K_VALUES + 1], words[places.K_VALUES + 4]]
+        )
         self.assertEqual(after[12:19], words[12:19])

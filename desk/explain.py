@@ -1,0 +1,89 @@
+"""A refusal in the words of this sheet: what the drum, the temperatures and the book themselves show about it."""
+
+import math
+from typing import Iterator, List, Tuple
+
+from . import refusals, text
+from .book import decode
+from .errors import DeskError
+from .question import Options
+from .sheet import NamedBook, Sheet, drum_words
+
+FRACTIONS_DO_NOT_SUM, SUM_TOLERANCE = 18, 1e-10
+OUT_OF_DOMAIN = 22
+
+
+def detail(sheet: Sheet) -> str:
+    """Behind the matter of the refusal, in brackets."""
+    number = sheet.blocks.refusal
+    if number == FRACTIONS_DO_NOT_SUM and not _sums(sheet):
+        return f" (as given they sum to {math.fsum(sheet.question.fractions):.12g})"
+    if number == OUT_OF_DOMAIN:
+        found = list(_violations(sheet.book, _temperatures(sheet)))
+        return f": {'; '.join(found)}" if found else ""
+    return ""
+
+
+def hint(sheet: Sheet) -> str:
+    """For the one line on standard error: what to paste."""
+    if sheet.blocks.refusal != FRACTIONS_DO_NOT_SUM or _sums(sheet):
+        return ""
+    pasted = to_paste(sheet.book, sheet.question.fractions)
+    return f"; add --normalize, or paste {pasted}" if pasted else ""
+
+
+def _sums(sheet: Sheet) -> bool:
+    return abs(sum(sheet.question.fractions) - 1) <= SUM_TOLERANCE
+
+
+def advice(sheet: Sheet) -> List[str]:
+    """Sentences: what holds instead where the liquid splits, else what the number's entry says."""
+    number = sheet.blocks.refusal
+    if sheet.judgement.mark:
+        return list(sheet.judgement.mark.advice)
+    if number == FRACTIONS_DO_NOT_SUM and not _sums(sheet):
+        pasted = to_paste(sheet.book, sheet.question.fractions)
+        return ["What to do: add --normalize, or paste", pasted] if pasted else ["What to do: look at --drum."]
+    return [f"What to do: {refusals.advice(number, sheet.question.task.command)}."]
+
+
+def normalized(fractions: Tuple[float, ...]) -> Tuple[float, ...]:
+    """Each divided by the sum; as they are where that is no positive number."""
+    total = math.fsum(fractions)
+    return tuple(x / total for x in fractions) if 0 < total < math.inf else fractions
+
+
+def to_paste(book: NamedBook, fractions: Tuple[float, ...]) -> str:
+    whole = normalized(fractions)
+    if whole == fractions or min(whole) < 0:
+        return ""
+    return f"--drum {drum_words(book, whole, 12)}"
+
+
+def _temperatures(sheet: Sheet) -> Tuple[float, ...]:
+    asked = sheet.question.temperature
+    return sheet.question.options.bracket if asked is None else (asked,)
+
+
+def _violations(book: NamedBook, kelvins: Tuple[float, ...]) -> Iterator[str]:
+    """Each range that a temperature leaves, with its bounds."""
+    for kelvin in kelvins:
+        for what, low, high in _ranges(book):
+            if not low <= kelvin <= high:
+                side = "below" if kelvin < low else "above"
+                yield (
+                    f"{text.temperature(kelvin)} lies {side} {what}, {text.interval(low, high)} ({low:g} to {high:g} K)"
+                )
+
+
+def _ranges(book: NamedBook) -> Iterator[Tuple[str, float, float]]:
+    yield ("the model's range", *Options.bracket)
+    try:
+        solvents = decode(book.content).solvents
+    except DeskError:
+        return
+    for name, solvent in zip(book.names, solvents):
+        yield f"the range of {name}'s vapor pressure", solvent.vapor_pressure.low, solvent.vapor_pressure.high
+        vapor, density = solvent.vapor_pressure, solvent.density
+        if (vapor.low, vapor.high) != (density.low, density.high):
+            yield f"the range of {name}'s density", density.low, density.high
