@@ -1,7 +1,7 @@
 //! The cuts and substitutions that make the reference out of the named Rust.
 //!
 //! `SOURCES` lists them as data: each has its anchor, how often that anchor has to be found, and its reason. An anchor that is found
-//! less or more often is an error, so that a changed source cannot pass unnoticed. docs/DIFFERENCES.md shows the same list.
+//! less or more often is an error, so that a changed source cannot pass unnoticed. CUTS.md shows the same list.
 
 /// One cut or substitution. `within` is the first line of the item that is searched; empty means the whole file.
 pub enum Edit {
@@ -39,7 +39,7 @@ const DATA: &str = "embedded data and databases are left out; the book takes the
 const CALORIC: &str = "caloric states are left out";
 const PH: &str = "the PH flash is left out";
 const DENSITY: &str = "densities are left out; of the density only its range is used";
-const HELPER: &str = "helper numbers ln, exp, powf of document 01";
+const HELPER: &str = "helper numbers ln, exp, powf of docs/FORMAT.md";
 const SUM: &str = "sums start at +0";
 const USES: &str = "the including module names its own";
 const SHAPE: &str = "shape errors cannot arise in a book";
@@ -84,9 +84,9 @@ pub const SOURCES: &[Source] = &[
             cut("", "pub struct ComponentId", STRINGS),
             cut("", "impl ComponentId", STRINGS),
             cut("", "pub enum CompositionBasis", "the feed is molar and goes through `with_fractions`"),
-            cut("", "pub enum NormalizationPolicy", "`normalize` of document 01 takes its place"),
+            cut("", "pub enum NormalizationPolicy", "`normalize` of docs/FORMAT.md takes its place"),
             cut("", "pub struct Composition ", "the feed is an array of fractions"),
-            cut("", "impl Composition ", "`normalize` of document 01 takes its place"),
+            cut("", "impl Composition ", "`normalize` of docs/FORMAT.md takes its place"),
         ],
         jet_exp: 0,
     },

@@ -1,13 +1,14 @@
-//! Assembles the reference from the named Rust and links the core's static library where a stage asks for it.
+//! Assembles the reference from the named Rust and links the core's archives where a stage asks for them.
 #[path = "assembly.rs"]
-#[allow(dead_code)] // the reasons are read by the check of docs/DIFFERENCES.md
+#[allow(dead_code)] // the reasons are read by the check of CUTS.md
 mod assembly;
 
 use std::path::{Path, PathBuf};
 use std::{env, fs};
 
-/// Features that call the core.
-const STAGES: [&str; 7] = ["NUMBERS", "FRACTIONS", "BOOK", "PRESSURE", "EXCESS", "RICE", "SHEET"];
+/// Features that call functions of the crate `exports`, and those that make the desk's call.
+const PARTS: [&str; 6] = ["NUMBERS", "FRACTIONS", "BOOK", "PRESSURE", "EXCESS", "RICE"];
+const WHOLE: [&str; 2] = ["SHEET", "DESK"];
 
 fn main() {
     println!("cargo:rerun-if-changed=assembly.rs");
@@ -15,18 +16,24 @@ fn main() {
     let here = PathBuf::from(env::var("CARGO_MANIFEST_DIR").expect("cargo sets it"));
     let out = PathBuf::from(env::var("OUT_DIR").expect("cargo sets it"));
     assemble_all(&folder(&here, "ZEKTONK_RUST", "../../shared/docs/src"), &out);
-    let asked = |feature: &str| env::var(format!("CARGO_FEATURE_{feature}")).is_ok();
+    let asked = |feature: &&str| env::var(format!("CARGO_FEATURE_{feature}")).is_ok();
     let libraries = folder(&here, "ZEKTONK_LIB", "../target/staticlib");
-    if STAGES.iter().any(|stage| asked(stage)) {
+    if PARTS.iter().any(|part| asked(part)) {
         link(&libraries, "exports");
-    } else if asked("DESK") {
-        link(&libraries, "sheet");
+    }
+    if WHOLE.iter().any(|part| asked(part)) {
+        link(&libraries, "zektonk");
     }
 }
 
+/// A relative folder is seen from where the user stands; cargo runs this in the package's folder, and leaves `PWD`.
 fn folder(here: &Path, variable: &str, default: &str) -> PathBuf {
     println!("cargo:rerun-if-env-changed={variable}");
-    here.join(env::var(variable).unwrap_or_else(|_| default.into()))
+    println!("cargo:rerun-if-env-changed=PWD");
+    match env::var_os(variable) {
+        None => here.join(default),
+        Some(given) => env::var_os("PWD").map_or_else(|| here.to_path_buf(), PathBuf::from).join(given),
+    }
 }
 
 fn assemble_all(rust: &Path, out: &Path) {

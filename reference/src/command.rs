@@ -53,3 +53,8 @@ pub fn count_and_seed(count: usize) -> Option<(usize, u64)> {
     }
     Some((count, seed))
 }
+
+/// A gate that compares nothing must not pass: under CI=true a stage that isn't built in counts as a failure.
+pub fn not_built_in_fails() -> bool {
+    std::env::var("CI").is_ok_and(|value| value == "true")
+}

@@ -11,7 +11,7 @@ pub fn table() -> String {
     let mut text = String::new();
     for source in SOURCES {
         text +=
-            &format!("\n### {}\n\n| where | what | becomes | times | reason |\n|---|---|---|---|---|\n", source.path);
+            &format!("\n## {}\n\n| where | what | becomes | times | reason |\n|---|---|---|---|---|\n", source.path);
         for row in source.rows {
             let [within, what, becomes, times] = cells(&row.edit);
             text += &format!("| {within} | {what} | {becomes} | {times} | {} |\n", reason(row.reason));
@@ -69,12 +69,9 @@ mod tests {
     use super::assembly::{assemble, SOURCES};
 
     #[test]
-    fn readme_holds_the_table() {
-        let listed = include_str!("../../docs/DIFFERENCES.md");
-        assert!(
-            listed.contains(super::table().trim()),
-            "put the output of `cargo run --bin edits` into docs/DIFFERENCES.md"
-        );
+    fn the_page_holds_the_table() {
+        let listed = include_str!("../CUTS.md");
+        assert!(listed.contains(super::table().trim()), "put the output of `cargo run --bin edits` into CUTS.md");
     }
 
     #[test]

@@ -3,6 +3,7 @@
 pub mod absent;
 pub mod books;
 pub mod cases;
+pub mod differences;
 pub mod feeds;
 pub mod numbers;
 pub mod questions;

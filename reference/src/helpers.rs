@@ -1,6 +1,6 @@
-//! Helper numbers of document 01: ln, exp, powf, sums from +0, `normalize`; max and min are Rust's own.
+//! Helper numbers of docs/FORMAT.md: ln, exp, powf, sums from +0, `normalize`; max and min are Rust's own.
 //!
-//! ln and exp follow fdlibm's `e_log.c` and `e_exp.c` in document 01's order of operations; constants are given by their bits.
+//! ln and exp follow fdlibm's `e_log.c` and `e_exp.c` in the order of operations of docs/FORMAT.md; constants are given by their bits.
 
 use std::borrow::Borrow;
 
@@ -21,7 +21,7 @@ const LG: [u64; 7] = [
     0x3fc3_9a09_d078_c69f,
     0x3fc2_f112_df3e_5244,
 ];
-/// Above it ln halves the significand; document 01's decimals.
+/// Above it ln halves the significand; the decimals of docs/FORMAT.md.
 #[allow(clippy::approx_constant)]
 const HALVED_ABOVE: f64 = 1.4142135623730951;
 /// Above it exp is +infinity, below the other it is zero.

@@ -1,4 +1,4 @@
-//! The reference: the named Rust, cut and substituted as document 01 says, behind the sheet's bytes; a generator of sheets; and the
+//! The reference: the named Rust, cut and substituted as CUTS.md lists, behind the sheet's bytes; a generator of sheets; and the
 //! comparison with the core, bit for bit.
 
 pub mod command;

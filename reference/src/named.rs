@@ -1,4 +1,4 @@
-//! The named Rust as build.rs assembles it: cut as document 01 says, its own control flow and arithmetic otherwise.
+//! The named Rust as build.rs assembles it: cut as CUTS.md lists, its own control flow and arithmetic otherwise.
 //!
 //! Each module includes one file's text; what stands beside it makes the records from a book.
 

@@ -1,4 +1,4 @@
-//! The still sheet of document 01: book and question in, answer and trial blocks or a refusal number out.
+//! The sheet of docs/FORMAT.md: book and question in, answer and trial blocks or a refusal number out.
 
 pub mod blocks;
 pub mod book;

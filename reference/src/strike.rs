@@ -1,4 +1,4 @@
-//! Demand 3 run on sheets: absent solvents struck from book and question leave an accepted answer as it was (document 01, "The
+//! Demand 3 run on sheets: absent solvents struck from book and question leave an accepted answer as it was (docs/FORMAT.md, "The
 //! shorter sheet"). Dew temperature is left out of it. Task 4's premise holds of every accepted sheet: `excess` refuses a slope of
 //! ln γ that is not finite.
 
@@ -104,7 +104,7 @@ fn same(a: u64, b: u64) -> bool {
     a == b || (f64::from_bits(a) == 0.0 && f64::from_bits(b) == 0.0)
 }
 
-/// The first word that is not as document 01 says: block and place in the longer answer.
+/// The first word that is not as docs/FORMAT.md says: block and place in the longer answer.
 pub fn difference(long: &[Words], short: &[Words], kept: &[usize]) -> Option<(usize, usize)> {
     let entries = |a: &Words, b: &Words, from: usize| {
         (0..kept.len()).find(|place| !same(a[from + kept[*place]], b[from + place])).map(|place| from + kept[place])

@@ -128,7 +128,7 @@ pub enum CalculationError {
 }
 
 impl CalculationError {
-    /// The refusal number of document 01.
+    /// The refusal number of docs/FORMAT.md.
     pub fn number(self) -> u32 {
         match self {
             Self::TemperatureNotPositive => 13,

@@ -1,4 +1,4 @@
-//! Document 01's sample sheets (a) to (m), its "Others" and its traps.
+//! The sample sheets (a) to (m) of docs/FORMAT.md, its "Others" and the traps.
 
 mod common;
 

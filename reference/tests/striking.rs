@@ -2,7 +2,7 @@
 
 use reference::generate::absent::Base;
 use reference::generate::cases::Cases;
-use reference::generate::small::dew_temperature;
+use reference::generate::differences::dew_temperature;
 use reference::generate::Rng;
 use reference::sheet::blocks::words_of;
 use reference::sheet::ANSWER_BYTES;
@@ -66,7 +66,7 @@ fn an_absent_solvent_shows_in_the_dew_temperature() {
     assert_eq!(both(10), [Err(27), Ok((350.00022942500607, 3))]);
 }
 
-/// A word that is not as it should be is found, wherever document 01 compares.
+/// A word that is not as it should be is found, wherever docs/FORMAT.md compares.
 #[test]
 fn differences_are_found() {
     let kept = [0, 2];

@@ -1,4 +1,4 @@
-//! Prints the cuts and substitutions of the named Rust as the table of docs/DIFFERENCES.md.
+//! Prints the cuts and substitutions of the named Rust as the tables of CUTS.md.
 
 fn main() {
     print!("{}", reference::edits::table());

@@ -2,6 +2,7 @@
 //!
 //! oracle STAGE [--count N] [--seed S]
 //! oracle --counts [STAGE] [--count N] [--seed S]
+//! oracle differences                             the inputs that docs/DIFFERENCES.md names
 
 use std::io::{BufWriter, Write};
 use std::process::ExitCode;
@@ -9,21 +10,28 @@ use std::process::ExitCode;
 use reference::command::{Options, USAGE};
 use reference::counts::{count_sheets, count_stage};
 use reference::generate::cases::Cases;
-use reference::stage::{hex, hex_words, Stage};
+use reference::generate::differences;
+use reference::stage::{hex, hex_words, Case, Stage};
 
 /// Lines of a stage where no count is given.
 const LINES: usize = 200;
 
 fn main() -> ExitCode {
+    if std::env::args().skip(1).eq(["differences"]) {
+        return if write(differences::cases().into_iter()).is_ok() { ExitCode::SUCCESS } else { ExitCode::FAILURE };
+    }
     let Some(options) = Options::read(std::env::args().skip(1)) else {
-        eprintln!("usage: oracle {USAGE}");
+        eprintln!("usage: oracle differences|{USAGE}");
         return ExitCode::from(2);
     };
     for stage in &options.stages {
         if options.counts {
             count(*stage, &options);
-        } else if write(*stage, &options).is_err() {
-            return ExitCode::FAILURE;
+        } else {
+            let cases = Cases::new(*stage, options.seed, true).take(options.count.unwrap_or(LINES));
+            if write(cases).is_err() {
+                return ExitCode::FAILURE;
+            }
         }
     }
     ExitCode::SUCCESS
@@ -41,9 +49,9 @@ fn count(stage: Stage, options: &Options) {
 }
 
 /// Name, inputs, `=`, outputs.
-fn write(stage: Stage, options: &Options) -> std::io::Result<()> {
+fn write(cases: impl Iterator<Item = Case>) -> std::io::Result<()> {
     let mut out = BufWriter::new(std::io::stdout().lock());
-    for case in Cases::new(stage, options.seed, true).take(options.count.unwrap_or(LINES)) {
+    for case in cases {
         let mut results = String::new();
         let words = case.stored();
         hex(&mut results, &words[..1]);

@@ -4,9 +4,9 @@
 
 use std::process::ExitCode;
 
-use reference::command::count_and_seed;
+use reference::command::{count_and_seed, not_built_in_fails};
 use reference::generate::absent::Base;
-use reference::generate::small::dew_temperature;
+use reference::generate::differences::dew_temperature;
 use reference::generate::Rng;
 use reference::sheet::ANSWER_BYTES;
 use reference::stage::{hex_bytes, Stage};
@@ -35,7 +35,7 @@ fn main() -> ExitCode {
     };
     if !Stage::Sheet.built_in() {
         println!("strike: not built in");
-        return ExitCode::SUCCESS;
+        return ExitCode::from(u8::from(not_built_in_fails()));
     }
     let mut rng = Rng::new(seed);
     let mut all = [0; 2];

@@ -1,6 +1,6 @@
 //! The cases of each stage.
 
-use super::{books, feeds, numbers, questions, rice, small, Rng};
+use super::{books, differences, feeds, numbers, questions, rice, small, Rng};
 use crate::sheet::open_book;
 use crate::stage::{Case, Function, Stage};
 
@@ -43,7 +43,9 @@ impl Cases {
     pub fn new(stage: Stage, seed: u64, compact: bool) -> Self {
         let first = match stage {
             Stage::Numbers if !compact => edge_numbers(),
-            Stage::Sheet if !compact => small::others().into_iter().map(|(case, _)| case).collect(),
+            Stage::Sheet if !compact => {
+                small::others().into_iter().map(|(case, _)| case).chain(differences::cases()).collect()
+            }
             _ => Vec::new(),
         };
         let rng = if compact { Rng::tidy(seed) } else { Rng::new(seed) };

@@ -117,7 +117,7 @@ fn halves(task: u64) -> Ask {
     Ask::new(task, &[0.5, 0.5]).k(&[2.0, 0.5])
 }
 
-/// Document 01's sheets (d) to (m).
+/// The sheets of docs/FORMAT.md (d) to (m).
 fn samples() -> Vec<Asked> {
     vec![
         (two(), halves(8), 0),
@@ -163,28 +163,8 @@ fn at_bubble() -> Vec<Asked> {
     vec![flash([0.0, 0.0], 0), flash([0.9, 0.4], 0), flash([3.0, 3.0], 29)]
 }
 
-/// Task 5 with an absent solvent that shows. At 350 K its ln γ has the slope −0.9985 and its ln p the slope −0.0029 times the largest
-/// float: their sum is −infinity, and zero times it a NaN, which drops the Newton step.
-pub fn dew_temperature(max_temperature_iterations: u64) -> (Vec<u8>, Ask) {
-    let mut all = blocks(&[4e6, 1e5], [0.0, 0.0]);
-    // T/t_r rounds to nothing, so that θ = 1: Σ n θ^e = 0 and d ln p/dT = −n/T.
-    put(&mut all[2], 3, &[1e20]);
-    all[2][7] = 2;
-    put(&mut all[2], 8, &[f64::MAX, -f64::MAX]);
-    put(&mut all[2], 16, &[1.0, 0.0]);
-    // τ_10 = −1.4e154 T, α τ_10 near −T/K.
-    put(&mut all[3], 10, &[-1.4e154]);
-    put(&mut all[3], 11, &[7.12222e-155, 0.0, 7.12222e-155, 0.0]);
-    let ask = Ask::new(5, &[1.0, 0.0]).under(26952.0).float(17, 350.0).float(18, 350.001);
-    (bytes(&all), ask.word(14, max_temperature_iterations))
-}
-
-/// Document 01's samples and "Others", and the dew temperature that does not keep demand 3.
+/// The samples of docs/FORMAT.md and "Others".
 pub fn others() -> Vec<(Case, u32)> {
     let case = |(book, ask, number): Asked| (Case::Sheet { book, question: ask.bytes(), room: ANSWER_BYTES }, number);
-    let dew = [(200, 0), (10, 27)].map(|(limit, number)| {
-        let (book, ask) = dew_temperature(limit);
-        (book, ask, number)
-    });
-    samples().into_iter().chain(ends()).chain(at_bubble()).chain(dew).map(case).collect()
+    samples().into_iter().chain(ends()).chain(at_bubble()).map(case).collect()
 }

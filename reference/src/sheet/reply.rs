@@ -83,7 +83,7 @@ fn put_all(words: &mut Words, at: usize, values: &[f64]) {
     }
 }
 
-/// Task 1. Document 01 wants every float of the answer finite.
+/// Task 1. Every float of the answer is finite (25).
 fn activity(state: &ExcessState) -> Result<Blocks, Error> {
     let energies = [
         state.reduced_excess_gibbs,
