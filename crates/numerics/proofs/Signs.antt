@@ -12,7 +12,7 @@ use lib.IntN.{ℤ, pos, negsuc, negℤ, _-ℤ_}
 use lib.Ieee.{Float, nan, inf, fin, binary64, up, down, unlike, neg, add, sub, mul, div, lt, ofBits, ofInt, toSigned, isNan, fits}
 use lib.Ieee.Fits.{up-pos, down-pos}
 use Rattle.floats.specs.Arithmetic.{#, _⊕_, _⊖_, _⊗_, _⊘_, ½, 0f, 1f, 2f}
-use Rattle.numerics.specs.Numerics.{A, B, C, float, pow2, expShift, expFrom, expOf}
+use Rattle.numerics.specs.Numerics.{A, B, C, whole, pow2, expShift, expFrom, expOf}
 use Rattle.numerics.proofs.Bounds.{Within, Plus, round-plus}
 use Rattle.numerics.proofs.Limits.{v-within}
 use Rattle.numerics.proofs.Grid.{U, Up, At, at-up, up-more, round-at, mul-at, mul-up, add-at, add-up, sub-up, sub-near, div-up, two-minus, one-plus}
@@ -164,12 +164,12 @@ shift-at false n m e l h =
     rw (above m e) (add-at false (LP n) (HP n) 536870912 536870912 (C ⊗ v) ½ (omega arith) (product-at false n v l h) half-at)
 
 -- ---- k as a float, and hi and lo
-k-at : (s : Bool) (K : ℕ) → K < 4000 → At s (suc K * U) (suc K * U) (float (cond s (negℤ (pos (suc K))) (pos (suc K))))
+k-at : (s : Bool) (K : ℕ) → K < 4000 → At s (suc K * U) (suc K * U) (whole (cond s (negℤ (pos (suc K))) (pos (suc K))))
 unfolding ofInt
 k-at true K l = round-at true (suc K) 1 (suc K * U) (suc K * U) (lit< tt) (omega arith) (omega arith) (omega arith)
 k-at false K l = round-at false (suc K) 1 (suc K * U) (suc K * U) (lit< tt) (omega arith) (omega arith) (omega arith)
 
-zero-up : (s : Bool) → Up 0 (float (cond s (negℤ (pos 0)) (pos 0)))
+zero-up : (s : Bool) → Up 0 (whole (cond s (negℤ (pos 0)) (pos 0)))
 unfolding ofInt
 zero-up true = lit≤ tt
 zero-up false = lit≤ tt
@@ -188,20 +188,20 @@ near-high n K l h = omega arith
 k-small : (n K : ℕ) → n < 801011400705 → K * U ≤ HP n + 536870912 → K < 1494
 k-small n K l h = omega arith
 
-hi-up : (s : Bool) (n K : ℕ) (v : Float) → n < 801011400705 → LP n + 536870912 < (K + 1) * U → K * U ≤ HP n + 536870912 → At s n (n + 1) v → Up 536870912 (v ⊖ float (cond s (negℤ (pos K)) (pos K)) ⊗ A)
+hi-up : (s : Bool) (n K : ℕ) (v : Float) → n < 801011400705 → LP n + 536870912 < (K + 1) * U → K * U ≤ HP n + 536870912 → At s n (n + 1) v → Up 536870912 (v ⊖ whole (cond s (negℤ (pos K)) (pos K)) ⊗ A)
 hi-up s n zero v l a b h =
-    let f = float (cond s (negℤ (pos 0)) (pos 0)) in
+    let f = whole (cond s (negℤ (pos 0)) (pos 0)) in
     let z : Up 0 (f ⊗ A) = mul-up 0 744261118 0 f A (lit≤ tt) (lit< tt) (zero-up s) (at-up false 744261117 744261118 A A-at) in
     up-more (n + 1 + 0) 536870912 (v ⊖ f ⊗ A) (omega arith) (sub-up (n + 1) 0 v (f ⊗ A) (omega arith) (at-up s n (n + 1) v h) z)
 hi-up s n (suc K) v l a b h =
-    let f = float (cond s (negℤ (pos (suc K))) (pos (suc K))) in
+    let f = whole (cond s (negℤ (pos (suc K))) (pos (suc K))) in
     let k = k-small n (suc K) l b in
     let z : At s (suc K * 744261117) (suc K * 744261118) (f ⊗ A) = rw same-sign' at (mul-at s false (suc K * U) (suc K * U) 744261117 744261118 (suc K * 744261117) (suc K * 744261118) f A (omega arith) (omega arith) (omega arith) (k-at s K (omega arith)) A-at) in
     sub-near s n (n + 1) (suc K * 744261117) (suc K * 744261118) 536870912 v (f ⊗ A) (lit< tt) (near-low n (suc K) l a) (near-high n (suc K) l b) h z
 
-lo-up : (s : Bool) (K : ℕ) → K < 1494 → Up 1494 (float (cond s (negℤ (pos K)) (pos K)) ⊗ B)
-lo-up s zero l = mul-up 0 1 1494 (float (cond s (negℤ (pos 0)) (pos 0))) B (lit≤ tt) (lit< tt) (zero-up s) B-up
-lo-up s (suc K) l = mul-up (suc K * U) 1 1494 (float (cond s (negℤ (pos (suc K))) (pos (suc K)))) B (omega arith) (lit< tt) (at-up s (suc K * U) (suc K * U) (float (cond s (negℤ (pos (suc K))) (pos (suc K)))) (k-at s K (omega arith))) B-up
+lo-up : (s : Bool) (K : ℕ) → K < 1494 → Up 1494 (whole (cond s (negℤ (pos K)) (pos K)) ⊗ B)
+lo-up s zero l = mul-up 0 1 1494 (whole (cond s (negℤ (pos 0)) (pos 0))) B (lit≤ tt) (lit< tt) (zero-up s) B-up
+lo-up s (suc K) l = mul-up (suc K * U) 1 1494 (whole (cond s (negℤ (pos (suc K))) (pos (suc K)))) B (omega arith) (lit< tt) (at-up s (suc K * U) (suc K * U) (whole (cond s (negℤ (pos (suc K))) (pos (suc K)))) (k-at s K (omega arith))) B-up
 
 -- ---- the result
 mul-plus : (y : Float) (a : ℤ) → Plus y → Plus (y ⊗ pow2 a)
@@ -211,11 +211,11 @@ mul-plus (inf true) a p = absurd (true≢false p)
 mul-plus (fin false m e) a p = round-plus binary64 (m * up e * (1 * up a)) (down e * down a)
 mul-plus (fin true m e) a p = absurd (true≢false p)
 
-at-k : (v : Float) (k : ℤ) → Up 536870912 (v ⊖ float k ⊗ A) → Up 1494 (float k ⊗ B) → Plus (expFrom v k)
+at-k : (v : Float) (k : ℤ) → Up 536870912 (v ⊖ whole k ⊗ A) → Up 1494 (whole k ⊗ B) → Plus (expFrom v k)
 unfolding expFrom
 at-k v k h l =
-    let hi = v ⊖ float k ⊗ A in
-    let lo = float k ⊗ B in
+    let hi = v ⊖ whole k ⊗ A in
+    let lo = whole k ⊗ B in
     let r = hi ⊖ lo in
     let t = r ⊗ r in
     let c = r ⊖ t ⊗ (# 0x3fc555555555553e ⊕ t ⊗ (# 0xbf66c16c16bebd93 ⊕ t ⊗ (# 0x3f11566aaf25de2c ⊕ t ⊗ (# 0xbebbbd41c5d26bf1 ⊕ t ⊗ # 0x3e66376972bea4d0)))) in

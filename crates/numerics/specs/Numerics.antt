@@ -5,8 +5,8 @@ use lib.Signed.{quotZ}
 use lib.Ieee.{Float, nan, inf, fin, binary64, lt, eq, ofInt, toSigned, minus, size, isNan}
 use Rattle.floats.specs.Arithmetic.{_⊕_, _⊖_, _⊗_, _⊘_, #, 0f, ½, 1f, 2f, ∞}
 
-abbrev pub float : ℤ → Float
-float k = ofInt binary64 k
+abbrev pub whole : ℤ → Float
+whole k = ofInt binary64 k
 
 -- 2 ^ a
 abbrev pub pow2 : ℤ → Float
@@ -52,7 +52,7 @@ lnFrom k m =
 -- if m > 1.4142135623730951, halve m and add 1 to k
 unfoldable pub lnSplit : ℤ → Float → Float
 unfolding lnFrom
-lnSplit k m = cond (lt √2 m) (lnFrom (float (k +ℤ pos 1)) (m ⊗ ½)) (lnFrom (float k) m)
+lnSplit k m = cond (lt √2 m) (lnFrom (whole (k +ℤ pos 1)) (m ⊗ ½)) (lnFrom (whole k) m)
 
 unfoldable pub lnOf : Float → Float
 unfolding lnSplit
@@ -62,8 +62,8 @@ lnOf v = cond (isNan v) nan (cond (lt v 0f) nan (cond (eq v 0f) (inf true) (cond
 
 unfoldable pub expFrom : Float → ℤ → Float
 expFrom v k =
-    let hi = v ⊖ float k ⊗ A in
-    let lo = float k ⊗ B in
+    let hi = v ⊖ whole k ⊗ A in
+    let lo = whole k ⊗ B in
     let r = hi ⊖ lo in
     let t = r ⊗ r in
     let c = r ⊖ t ⊗ (# 0x3fc555555555553e ⊕ t ⊗ (# 0xbf66c16c16bebd93 ⊕ t ⊗ (# 0x3f11566aaf25de2c ⊕ t ⊗ (# 0xbebbbd41c5d26bf1 ⊕ t ⊗ # 0x3e66376972bea4d0)))) in

@@ -12,7 +12,7 @@ use lib.Ieee.Fits.{add-fits, sub-fits, neg-fits}
 use Rattle.floats.specs.Arithmetic.{_⊖_, _⊗_, #, 0f, 1f, 2f}
 use Rattle.floats.specs.Small.{absOf}
 use Rattle.floats.specs.Fold.{foldTo, sumFrom, sumTo}
-use Rattle.numerics.specs.Numerics.{A, B, float, expFrom, expShift, expOf, lnOf}
+use Rattle.numerics.specs.Numerics.{A, B, whole, expFrom, expShift, expOf, lnOf}
 use Rattle.numerics.proofs.Signs.{NoMinus, exp-no-minus}
 use Rattle.zeros.specs.Same.{plus0, canon, _≈_}
 use Rattle.zeros.proofs.Congruence.{same, ≈refl, ≈trans, add-≈, sub-≈, mul-≈, div-≈, lt-≈, le-≈, eq-≈}
@@ -74,8 +74,8 @@ two-minus a b f g p = plain-≈ binary64 (2f ⊖ a) (2f ⊖ b) (sub-fits binary6
 from-≈ : (x y : Float) (k : ℤ) → x ≈ y → expFrom x k ≈ expFrom y k
 unfolding expFrom
 from-≈ x y k p =
-    let lo = float k ⊗ B in
-    let hi = sub-≈ p (≈refl (float k ⊗ A)) in
+    let lo = whole k ⊗ B in
+    let hi = sub-≈ p (≈refl (whole k ⊗ A)) in
     let r = sub-≈ hi (≈refl lo) in
     let t = mul-≈ r r in
     let c = sub-≈ r (mul-≈ t (add-≈ (≈refl (# 0x3fc555555555553e)) (mul-≈ t (add-≈ (≈refl (# 0xbf66c16c16bebd93)) (mul-≈ t (add-≈ (≈refl (# 0x3f11566aaf25de2c)) (mul-≈ t (add-≈ (≈refl (# 0xbebbbd41c5d26bf1)) (mul-≈ t (≈refl (# 0x3e66376972bea4d0))))))))))) in
