@@ -164,7 +164,7 @@ class Definitions(unittest.TestCase):
         outcome, validity = short("zektonk_outcome", "ZEKTONK_"), short("zektonk_validity", "ZEKTONK_")
         phases = {"Liquid": outcome["LIQUID"], "Vapor": outcome["VAPOR"], "Both": outcome["LIQUID_AND_VAPOR"]}
         self.assertEqual(cases("phaseNumber"), phases)
-        number = r"\brice\w+ \(?(\w+)[^=]*? = (?:record \{ outcome = )?(\d)"
+        number = r"\brice\w+ \(?(\w+)[^=]*? = (?:record \{ outcome = |plainBlock )?(\d)"
         split = re.findall(number, first("riceBlock", "riceNumber"))
         names = {"LiquidOnly": "LIQUID", "VaporOnly": "VAPOR", "TwoPhase": "LIQUID_AND_VAPOR"}
         self.assertEqual(dict(split), {case: str(outcome[name]) for case, name in names.items()})
