@@ -1,5 +1,6 @@
 -- Laws of the book, which callers cite. Assumes nothing.
 pub mod Bits
 pub mod Laws
+pub mod Sound
 pub mod Accepted
 pub mod Unread

@@ -1,6 +1,8 @@
 // The book: questions 1 to 9.
 ghost use mathlib.Core.Path.{_≡_};
+ghost use mathlib.Core.Bool.{_&&_};
 ghost use Prim.Native.Nat.{_≤_, _<_, _+_, _*_, _-_};
+ghost use lib.Dec.{ltb};
 ghost use lib.ListN.{length};
 ghost use Rattle.blocks.specs.Words.{word, wordFrom, block, checkRight};
 ghost use Rattle.floats.specs.Small.{isFinite, floatOf, float};
@@ -62,23 +64,23 @@ fn float_at(s: &[u8], k: usize) -> f64
     floats::float_of(word(s, k))
 }
 
-// Of a float by its bits: neither infinite nor a NaN.
-fn finite(bits: u64) -> bool
-    ensures { λ r. ⌜ r ≡ isFinite (floatOf bits) ⌝ }
+// One more in a float's exponent: where that is all ones, and only there, the carry turns bit 63.
+fn carry(bits: u64) -> u64
+    ensures { λ r. ⌜ ltb r 0x8000000000000000 ≡ isFinite (floatOf bits) ⌝ }
 {
-    bits % 0x8000000000000000 < 0x7ff0000000000000
+    bits ^ std::num::wrapping_add_u64(bits, 0x0010000000000000)
 }
 
-// No early way out: so the loop over a known count is unrolled.
+// No early way out, and no test in the loop: over a known count it is unrolled, two words to a step.
 fn floats_finite(s: &[u8], from: usize, count: usize) -> bool
     requires { ⌜ (length (now s) ≡ 512) × (from + count ≤ 64) ⌝ }
     ensures { λ r. ⌜ r ≡ floatsFinite (word (now (s .entry))) from count ⌝ }
 {
-    let mut right = true;
+    let mut carries: u64 = 0;
     for k in 0..count {
-        right = right & finite(word(s, from + k));
+        carries = carries | carry(word(s, from + k));
     }
-    right
+    carries < 0x8000000000000000
 }
 
 fn checks_right(rule: Rule, book: &[u8], count: usize) -> bool
@@ -166,11 +168,14 @@ fn record_right(s: &[u8], f: usize) -> bool
         & range_right(s, f)
 }
 
-// Vapor pressure and liquid density.
+// Vapor pressure and liquid density. As a rule the unused places are finite too, so one scan does for both records.
 fn records_right(s: &[u8]) -> bool
     requires { ⌜ length (now s) ≡ 512 ⌝ }
     ensures { λ r. ⌜ r ≡ recordsRight (word (now (s .entry))) ⌝ }
 {
+    if floats_finite(s, 3, 42) {
+        return range_right(s, 3) & range_right(s, 24);
+    }
     record_right(s, 3) & record_right(s, 24)
 }
 
@@ -306,13 +311,25 @@ fn alphas_equal(s: &[u8]) -> bool
     (float_at(s, 11) == float_at(s, 13)) & (float_at(s, 12) == float_at(s, 14))
 }
 
-fn all_alphas_equal(book: &[u8], from: usize, count: usize) -> bool
+// Questions 8 and 9 in one reading. As a rule the alphas are the same words, and unflagged bounds are finite too.
+fn pair_sound(s: &[u8]) -> bool
+    requires { ⌜ length (now s) ≡ 512 ⌝ }
+    ensures { λ r. ⌜ r ≡ (pairFinite (word (now (s .entry))) && alphasEqual (word (now (s .entry)))) ⌝ }
+{
+    let same = (word(s, 11) == word(s, 13)) & (word(s, 12) == word(s, 14));
+    if same & floats_finite(s, 3, 15) {
+        return true;
+    }
+    pair_finite(s) & alphas_equal(s)
+}
+
+fn pairs_sound(book: &[u8], from: usize, count: usize) -> bool
     requires { ⌜ 512 * (from + count) ≤ length (now book) ⌝ }
-    ensures { λ r. ⌜ r ≡ allTo (λ d. alphasEqual (words (now (book .entry)) (from + d))) count ⌝ }
+    ensures { λ r. ⌜ r ≡ allTo (λ d. pairFinite (words (now (book .entry)) (from + d)) && alphasEqual (words (now (book .entry)) (from + d))) count ⌝ }
 {
     let mut d = 0;
     while d < count {
-        if !alphas_equal(whole_block(book, from + d)) {
+        if !pair_sound(whole_block(book, from + d)) {
             return false;
         }
         d += 1;
@@ -329,13 +346,13 @@ fn open_pairs(book: &[u8], head: Head) -> Opened
         return Opened::No(7);
     }
     let count = pair_count(n);
+    if pairs_sound(book, 1 + n, count) {
+        return Opened::Book(head);
+    }
     if !pairs_finite(book, 1 + n, count) {
         return Opened::No(8);
     }
-    if !all_alphas_equal(book, 1 + n, count) {
-        return Opened::No(9);
-    }
-    Opened::Book(head)
+    Opened::No(9)
 }
 
 fn open_solvents(book: &[u8], head: Head) -> Opened

@@ -16,6 +16,8 @@ const INPUTS: usize = 64;
 /// Calls from one table, so that making it does not count.
 const REPEATS: u64 = 50;
 const SOLVENTS: [usize; 3] = [2, 4, 8];
+/// Books that are opened once each, none of them in a cache.
+const POOL: usize = 4096;
 /// Shortest run that counts, ns.
 const RUN: f64 = 2e7;
 
@@ -82,11 +84,16 @@ fn medians<const N: usize>(mut passes: [Pass; N]) -> [f64; N] {
             *time = run(*pass, count) / count as f64;
         }
     }
-    std::array::from_fn(|at| {
-        let mut runs = rounds.map(|round| round[at]);
-        runs.sort_by(f64::total_cmp);
-        runs[2]
-    })
+    std::array::from_fn(|at| median(rounds.map(|round| round[at])))
+}
+
+fn median(mut runs: [f64; 5]) -> f64 {
+    runs.sort_by(f64::total_cmp);
+    runs[2]
+}
+
+fn print_ratio(name: &str, core: f64, reference: f64) {
+    println!("{name}: core {core:.1} ns, reference {reference:.1} ns, ratio {:.2}", core / reference);
 }
 
 /// One line: core, reference, ratio. `core` says `None` where its stage is not built in.
@@ -101,7 +108,7 @@ fn line<T>(name: &str, inputs: &[T], mut core: impl FnMut(&T) -> Option<()>, mut
     }
     let mut pass = || inputs.iter().for_each(|input| drop_value(core(input)));
     let [time, own] = medians([&mut pass, &mut baseline]);
-    println!("{name}: core {:.1} ns, reference {:.1} ns, ratio {:.2}", time / calls, own / calls, time / own);
+    print_ratio(name, time / calls, own / calls);
 }
 
 fn many<T>(mut make: impl FnMut(&mut Rng) -> T) -> Vec<T> {
@@ -131,14 +138,51 @@ fn bench_book() {
     let mut wrong = right.clone();
     // The last check: every block is summed, and number 2 comes.
     *wrong.last_mut().expect("not empty") ^= 1;
-    for (name, book) in [("book, sums of 37 blocks", wrong), ("book, questions 1 to 9, n = 8", right)] {
-        line(
-            name,
-            &[book],
-            |book| rattle::open_book(black_box(book)).map(drop_value),
-            |book| drop_value(open_book(black_box(book)).is_ok()),
-        );
+    let core = |book: &Vec<u8>| rattle::open_book(black_box(book)).map(drop_value);
+    let reference = |book: &Vec<u8>| drop_value(open_book(black_box(book)).is_ok());
+    let sums = [wrong];
+    line("book, sums of 37 blocks", &sums, core, reference);
+    line("book, sums of 37 blocks, the reference a plain loop", &sums, core, |book| {
+        drop_value(sums_right(black_box(book)))
+    });
+    line("book, questions 1 to 9, n = 8", &[right], core, reference);
+    let pool: Vec<_> = (0..POOL).map(|_| books::realistic(&mut rng, 8).bytes()).collect();
+    cold_line("book, questions 1 to 9, n = 8, not in a cache", &pool, core, reference);
+}
+
+/// One line as `line` has it, but each book is sent out of the caches before it is opened.
+fn cold_line(name: &str, books: &[Vec<u8>], core: impl Fn(&Vec<u8>) -> Option<()>, reference: impl Fn(&Vec<u8>)) {
+    if core(&books[0]).is_none() {
+        return;
     }
+    let cold = |pass: Pass| {
+        books.iter().for_each(|book| flush(book));
+        run(pass, 1) / books.len() as f64
+    };
+    let rounds = [0; 5].map(|_| {
+        let time = cold(&mut || books.iter().for_each(|book| drop_value(core(book))));
+        (time, cold(&mut || books.iter().for_each(&reference)))
+    });
+    print_ratio(name, median(rounds.map(|round| round.0)), median(rounds.map(|round| round.1)));
+}
+
+/// Out of every cache, a line of 64 bytes at a time.
+fn flush(book: &[u8]) {
+    for line in book.chunks(64) {
+        // SAFETY: the line is the slice's own; x86-64 has the instruction.
+        unsafe { std::arch::x86_64::_mm_clflush(line.as_ptr()) };
+    }
+    // SAFETY: as above.
+    unsafe { std::arch::x86_64::_mm_mfence() };
+}
+
+/// As plain as Rust has it: the words of each block up to its check are summed.
+fn sums_right(book: &[u8]) -> bool {
+    let word = |bytes: &[u8]| u64::from_le_bytes(bytes.try_into().expect("eight bytes"));
+    book.chunks_exact(512).all(|block| {
+        let (words, check) = block.split_at(504);
+        words.chunks_exact(8).fold(0, |sum: u64, bytes| sum.wrapping_add(word(bytes))) == word(check)
+    })
 }
 
 fn bench_excess() {

@@ -3,18 +3,20 @@ use mathlib.Core.Path.{_≡_, refl}
 use Prim.Native.Nat.{_≤_, _-_}
 use native.Mathlib.Omega.{arith}
 use borrow.Author.Needs.{needs}
+use lib.Dec.{ltb}
 use Rattle.floats.proofs.Folds.{all-next, all-done}
 use Rattle.floats.specs.Fold.{allTo}
+use Rattle.book.proofs.Bits.{or-top}
 use Rattle.blocks.specs.Words.{word}
 use Rattle.book.specs.Book.{floatsFinite}
 use Rattle.book.proofs.floats_finite.Statement.{statement}
 use Rattle.book.proofs.floats_finite.Tie as tie
 
 abbrev Inv-loop : tie.InvT-loop
-Inv-loop s from count right₀ k₀ right k = (k ≤ count) × (right ≡ floatsFinite (word s) from k)
+Inv-loop s from count carries₀ k₀ carries k = (k ≤ count) × (ltb carries 0x8000000000000000 ≡ floatsFinite (word s) from k)
 
 abbrev μ-loop : tie.MeasureT-loop
-μ-loop s from count right₀ k₀ right k = count - k
+μ-loop s from count carries₀ k₀ carries k = count - k
 
 loop-holds : tie.Need-loop-holds Inv-loop μ-loop
 unfolding floatsFinite allTo
@@ -26,8 +28,8 @@ add-word c = omega arith
 word-requires : tie.Need-word-requires Inv-loop μ-loop
 word-requires c κs = omega arith
 
-finite-requires : tie.Need-finite-requires Inv-loop μ-loop
-finite-requires c κs = search needs
+carry-requires : tie.Need-carry-requires Inv-loop μ-loop
+carry-requires c κs = search needs
 
 add-k : tie.Need-add-k Inv-loop μ-loop
 add-k c = omega arith
@@ -37,7 +39,8 @@ loop-less c = omega arith
 
 loop-again : tie.Need-loop-again Inv-loop μ-loop
 unfolding floatsFinite
-loop-again c = (omega arith, all-next _ _ refl (rw (c .before .word .ensures) at (c .finite .ensures)) (c .before .before .before .loop .inv .1))
+loop-again c = let turn = c .before .before .before .loop in
+    (omega arith, all-next _ _ (or-top (turn .carries) (c .carry .result)) (rw (c .before .word .ensures) at (c .carry .ensures)) (turn .inv .1))
 
 returns : tie.Need-returns Inv-loop μ-loop
 unfolding floatsFinite
@@ -52,7 +55,7 @@ floats-finite-spec =
     loop-holds
     add-word
     word-requires
-    finite-requires
+    carry-requires
     add-k
     loop-less
     loop-again
