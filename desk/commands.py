@@ -225,7 +225,7 @@ def explain_numbers(arguments: argparse.Namespace) -> int:
     numbers = [units.whole(word, "refusal number") for word in arguments.number] or sorted(refusals.REFUSALS)
     for number in numbers:
         if number not in refusals.REFUSALS:
-            raise DeskError(f"{number} is no refusal number; they are 1 to {max(refusals.REFUSALS)}")
+            raise DeskError(f"{number} is no refusal number; they are {refusals.numbers()}")
     for number in numbers:
         print(f"{number:2}  {refusals.matter(number)}\n    what to do: {refusals.advice(number)}")
         for command, advice in refusals.REFUSALS[number].by_command.items():

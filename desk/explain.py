@@ -3,7 +3,7 @@
 import math
 from typing import Iterator, List, Tuple
 
-from . import refusals, text
+from . import refusals, tasks, text
 from .book import decode
 from .errors import DeskError
 from .question import Options
@@ -11,6 +11,7 @@ from .sheet import NamedBook, Sheet, drum_words
 
 FRACTIONS_DO_NOT_SUM, SUM_TOLERANCE = 18, 1e-10
 OUT_OF_DOMAIN = 22
+NOT_NORMALIZABLE = 34
 
 
 def detail(sheet: Sheet) -> str:
@@ -21,6 +22,9 @@ def detail(sheet: Sheet) -> str:
     if number == OUT_OF_DOMAIN:
         found = list(_violations(sheet.book, _temperatures(sheet)))
         return f": {'; '.join(found)}" if found else ""
+    if number == NOT_NORMALIZABLE:
+        split = ", or a phase of the flash" if sheet.question.task == tasks.FLASH else ""
+        return f": the dew point's liquid{split}"
     return ""
 
 

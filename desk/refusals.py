@@ -45,13 +45,13 @@ REFUSALS: Dict[int, Refusal] = {
     14: Refusal("the pressure is not finite and positive", "give a pressure above 0 Pa"),
     15: Refusal(
         "a fraction or a K value is not finite",
-        "look at --drum and --k; inside a calculation: a composition overflowed",
+        "look at --drum and --k; inside a calculation: a trial's composition overflowed",
     ),
     16: Refusal("a fraction is negative", "look at --drum"),
     17: Refusal("a K value is not positive", "look at --k"),
     18: Refusal(
         "the fractions don't sum to 1 within 1e-10",
-        "look at --drum, or add --normalize; inside a calculation: a composition could not be normalized",
+        "look at --drum, or add --normalize; inside a calculation: a trial's composition doesn't sum to 1",
     ),
     19: Refusal(
         "an option is out of its range: tolerances above 0 up to 1e-6, a negative threshold, "
@@ -95,9 +95,22 @@ REFUSALS: Dict[int, Refusal] = {
     30: Refusal(
         "the split's vapor fraction lies outside (0, 1)", "the drum is at its bubble or dew point; move T or p a little"
     ),
+    34: Refusal(
+        "a composition inside the calculation can't be brought to fractions that sum to 1",
+        "the drum is not to blame: vapor pressures or activity coefficients are so extreme that all parts vanish or "
+        "overflow; look at the data of its solvents and pairs with ./sheet show",
+    ),
 }
 
 UNKNOWN = Refusal("a number that this tool doesn't know", "look into docs/FORMAT.md of the core's version")
+
+
+def numbers() -> str:
+    """All of them in a row."""
+    known = sorted(REFUSALS)
+    firsts = [number for number in known if number - 1 not in REFUSALS]
+    lasts = [number for number in known if number + 1 not in REFUSALS]
+    return " and ".join(f"{first} to {last}" if first < last else f"{first}" for first, last in zip(firsts, lasts))
 
 
 def matter(number: int) -> str:

@@ -45,6 +45,7 @@ const USES: &str = "the including module names its own";
 const SHAPE: &str = "shape errors cannot arise in a book";
 const NOTES: &str = "notes are bits of word 13";
 const OPEN: &str = "called by the sheet";
+const NORMALIZE: &str = "34: `normalize` refuses a sum that isn't finite and positive; its step is noted";
 
 const fn cut(within: &'static str, anchor: &'static str, reason: &'static str) -> Row {
     Row { edit: Edit::Cut { within, anchor }, reason }
@@ -221,6 +222,22 @@ pub const SOURCES: &[Source] = &[
             put("", ".exp()", ".helper_exp()", 5, HELPER),
             put("", ".sum()", ".sum_from_zero()", 3, SUM),
             put("", ".sum::<f64>()", ".sum_from_zero()", 2, SUM),
+            put(
+                "fn dew_at(",
+                "let (p, x) = incipient(&ln_gamma);",
+                "let (p, x) = incipient(&ln_gamma); let x = steps::at(Step::DewLoop, x)?;",
+                1,
+                NORMALIZE,
+            ),
+            put(
+                "fn dew_at(",
+                "let (pressure, liquid) = incipient(&ln_gamma);",
+                "let (pressure, liquid) = incipient(&ln_gamma); let liquid = steps::at(Step::DewEnd, liquid)?;",
+                1,
+                NORMALIZE,
+            ),
+            put("fn tp_flash(", "(normalize(x), ", "(steps::at(Step::SplitLiquid, normalize(x))?, ", 1, NORMALIZE),
+            put("fn tp_flash(", " normalize(y))", " steps::at(Step::SplitVapor, normalize(y))?)", 1, NORMALIZE),
             note("\"A7-GAMMA-PHI\"", "Diagnostic::GammaPhi"),
             note("\"A7-SPLIT-AT", "Diagnostic::SplitAtSaturationBoundary"),
             note("\"A7-LIQUID-TPD", "Diagnostic::LiquidTpdFiniteTrials"),

@@ -211,7 +211,8 @@ enum zektonk_refusal {
     ZEKTONK_NOT_CONVERGED = 27,           /* within its limit, or the bracket collapsed */
     ZEKTONK_K_ONE_SIDED = 28,             /* K values are not on both sides of 1 */
     ZEKTONK_LIQUID_UNSTABLE = 29,         /* a trial of the flash's liquid found a lower tangent plane */
-    ZEKTONK_VAPOR_FRACTION_OUTSIDE = 30   /* of (0,1) */
+    ZEKTONK_VAPOR_FRACTION_OUTSIDE = 30,  /* of (0,1) */
+    ZEKTONK_NOT_NORMALIZABLE = 34         /* the sum of a composition's parts is not finite and positive */
 };
 
 /*

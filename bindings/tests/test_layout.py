@@ -180,7 +180,7 @@ class Definitions(unittest.TestCase):
             self.assertEqual(numbers_of(question), {REFUSAL[name]}, name)
         self.assertEqual({number for _, number in spent()}, {REFUSAL["NOT_CONVERGED"]})
         self.assertEqual(set(REFUSAL) - set(QUESTIONS), {"ANSWERED", "NOT_CONVERGED"})
-        self.assertEqual(sorted(REFUSAL.values()), list(range(31)))
+        self.assertEqual(sorted(REFUSAL.values()), [*range(31), 34])
         self.assertIn(f"numberOf (ok bs) = {REFUSAL['ANSWERED']}", stated("sheet::numberOf"))
 
 
@@ -232,6 +232,7 @@ QUESTIONS = {
     "K_ONE_SIDED": r"le kMax 1f",
     "LIQUID_UNSTABLE": r"s \.stable",
     "VAPOR_FRACTION_OUTSIDE": r"inside \(s \.vaporFraction\)",
+    "NOT_NORMALIZABLE": r"lt 0f \(sumTo x n\)",
 }
 
 

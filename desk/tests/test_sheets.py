@@ -154,9 +154,9 @@ class Refusals(InFolder):
                 self.assertEqual(run.err.count("\n"), 1)
 
     def test_every_number_is_explained(self):
-        self.assertEqual(sorted(refusals.REFUSALS), list(range(1, 31)))
-        self.assertEqual(len({refusal.matter for refusal in refusals.REFUSALS.values()}), 30)
-        for number in [*range(1, 31), 77]:
+        self.assertEqual(refusals.numbers(), "1 to 30 and 34")
+        self.assertEqual(len({refusal.matter for refusal in refusals.REFUSALS.values()}), 31)
+        for number in [*refusals.REFUSALS, 77]:
             answered = self.file("answer.bin", sealed([9, 7, number]))
             program = Path(self.file("program", f"#!/bin/sh\ncat >/dev/null\nexec cat {answered}\n"))
             program.chmod(0o755)

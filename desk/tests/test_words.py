@@ -201,6 +201,25 @@ class Fractions(InFolder):
             self.assertIn(f"REFUSED, number {number}\n", run.out)
 
 
+class Vanishing(InFolder):
+    def test_the_step_and_not_the_drum(self):
+        content = re.sub(r"(vapor reducing +=) \S+ kPa", r"\1 1e-315 Pa", YARD.read_text(encoding="utf-8"))
+        drum = ("--book", self.file("a.txt", content), "--drum", "ethanol=0.5,water=0.5")
+        for command, steps in (
+            (("dew-pressure", "--temperature", "80C"), "the dew point's liquid"),
+            (("dew-temperature", "--pressure", "1bar"), "the dew point's liquid"),
+            (
+                ("flash", "--temperature", "80C", "--pressure", "1bar"),
+                "the dew point's liquid, or a phase of the flash",
+            ),
+        ):
+            run = sheet(*command, *drum)
+            self.assertEqual(run.status, 1)
+            self.assertIn("REFUSED, number 34\n", run.out)
+            self.assertIn(f"can't be brought to fractions that sum to 1: {steps}\n", run.err)
+            self.assertIn("What to do: the drum is not to blame", run.out)
+
+
 class Out(InFolder):
     def test_book_to_standard_output(self):
         command = [sys.executable, str(ROOT / "sheet"), "book", str(YARD), "-o", "-"]

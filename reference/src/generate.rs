@@ -9,6 +9,7 @@ pub mod numbers;
 pub mod questions;
 pub mod rice;
 pub mod small;
+pub mod vanish;
 
 use crate::helpers;
 

@@ -4,6 +4,8 @@
 
 use std::borrow::Borrow;
 
+use crate::types::CalculationError;
+
 /// The one NaN that is ever written.
 pub const WRITTEN_NAN: u64 = 0x7ff8_0000_0000_0000;
 
@@ -113,10 +115,20 @@ pub fn sum(values: &[f64]) -> f64 {
     values.iter().sum_from_zero()
 }
 
-/// Divides each entry by the sum.
-pub fn normalize(values: Vec<f64>) -> Vec<f64> {
+/// Divides each entry by the sum, whatever that is.
+pub fn shares(values: Vec<f64>) -> Vec<f64> {
     let total = sum(&values);
     values.into_iter().map(|v| v / total).collect()
+}
+
+/// The shares of a sum that is finite and positive, else 34.
+pub fn normalize(values: Vec<f64>) -> Result<Vec<f64>, CalculationError> {
+    let total = sum(&values);
+    if total.is_finite() && total > 0.0 {
+        Ok(shares(values))
+    } else {
+        Err(CalculationError::SumNotNormalizable)
+    }
 }
 
 /// Passes over a NaN; which zero comes from +0 and −0 is open.
@@ -214,7 +226,15 @@ mod tests {
     fn sums_start_at_plus_zero() {
         assert_eq!(sum(&[]).to_bits(), 0);
         assert_eq!(sum(&[-0.0]).to_bits(), 0);
-        assert_eq!(normalize(vec![1.0, 3.0]), [0.25, 0.75]);
+        assert_eq!(normalize(vec![1.0, 3.0]), Ok(vec![0.25, 0.75]));
+    }
+
+    #[test]
+    fn sums_that_cannot_be_normalized() {
+        let sums = [vec![], vec![0.0], vec![-0.0], vec![-1.0], vec![f64::NAN], vec![f64::INFINITY], vec![f64::MAX; 2]];
+        assert!(sums.into_iter().all(|values| normalize(values) == Err(CalculationError::SumNotNormalizable)));
+        assert_eq!(normalize(vec![f64::from_bits(1)]), Ok(vec![1.0]));
+        assert!(shares(vec![0.0])[0].is_nan());
     }
 
     #[test]

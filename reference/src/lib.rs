@@ -10,5 +10,6 @@ pub mod named;
 pub mod rattle;
 pub mod sheet;
 pub mod stage;
+pub mod steps;
 pub mod strike;
 pub mod types;

@@ -14,7 +14,7 @@ extern "C" {
     fn zektonk_bits_of(v: f64) -> u64;
     fn zektonk_float_of(bits: u64) -> f64;
     fn zektonk_fractions(x: *const f64, x_len: usize, n: usize) -> u64;
-    fn zektonk_normalize(x: *mut f64, x_len: usize, n: usize);
+    fn zektonk_normalize(x: *mut f64, x_len: usize, n: usize) -> u64;
     fn zektonk_open_book(book: *const u8, book_len: usize) -> u64;
     fn zektonk_vapor_pressure(book: *const u8, book_len: usize, i: usize, t: f64, out: *mut f64, out_len: usize)
         -> u64;
@@ -122,7 +122,7 @@ pub fn fractions(x: &[f64; 8], n: usize) -> Option<u64> {
     offered!("fractions", zektonk_fractions(x.as_ptr(), x.len(), n))
 }
 
-pub fn normalize(x: &mut [f64; 8], n: usize) -> Option<()> {
+pub fn normalize(x: &mut [f64; 8], n: usize) -> Option<u64> {
     offered!("fractions", zektonk_normalize(x.as_mut_ptr(), x.len(), n))
 }
 

@@ -131,7 +131,7 @@ impl Case {
         match self {
             Case::Number { function, a, b } => answered(vec![number(*function, *a, *b)]),
             Case::Fractions { x, n } => refused_or(fractions(&x[..*n]), Vec::new()),
-            Case::Normalize { x, n } => answered(floats(&padded(&helpers::normalize(x[..*n].to_vec())))),
+            Case::Normalize { x, n } => written(normalized(&x[..*n]), *x),
             Case::Book { book } => match open_book(book) {
                 Ok(book) => answered(vec![100 + book.solvents.len() as u64]),
                 Err(number) => Found { refusal: number, words: vec![number.into()] },
@@ -154,8 +154,8 @@ impl Case {
             Case::Fractions { x, n } => Some(vec![rattle::fractions(x, *n)?]),
             Case::Normalize { x, n } => {
                 let mut out = *x;
-                rattle::normalize(&mut out, *n)?;
-                Some(floats(&out))
+                let number = rattle::normalize(&mut out, *n)?;
+                Some(with_number(number, floats(&out)))
             }
             Case::Book { book } => Some(vec![rattle::open_book(book)?]),
             Case::Pressure { book, i, t } => {
@@ -221,10 +221,10 @@ impl Case {
         let kept = match self {
             // Word 12 of the answer block is the number of trials.
             Case::Sheet { .. } if words[0] == 0 => 1 + 64 * (1 + words[1 + 12] as usize),
-            Case::Pressure { .. } | Case::Excess { .. } if words[0] == 0 => words.len(),
+            Case::Normalize { .. } | Case::Pressure { .. } | Case::Excess { .. } if words[0] == 0 => words.len(),
             Case::Rice { .. } if words[0] == 3 => words.len(),
-            Case::Sheet { .. } | Case::Pressure { .. } | Case::Excess { .. } | Case::Rice { .. } => 1,
-            _ => words.len(),
+            Case::Number { .. } | Case::Fractions { .. } | Case::Book { .. } => words.len(),
+            _ => 1,
         };
         words.truncate(kept);
         words
@@ -374,6 +374,11 @@ fn fractions(x: &[f64]) -> u32 {
     let solvent = |i| Solvent { cas: i as u64 + 1, vapor_pressure: constant.clone(), density: constant.clone() };
     let book = Book { solvents: (0..x.len()).map(solvent).collect(), pairs: Vec::new() };
     book.model().with_fractions(x).map_or_else(|error| error.number(), |_| 0)
+}
+
+/// 34, or the fractions.
+fn normalized(x: &[f64]) -> Result<[f64; 8], u32> {
+    helpers::normalize(x.to_vec()).map(|found| padded(&found)).map_err(|error| error.number())
 }
 
 /// 1 to 9; 13; the solvent's own range (22); 25.

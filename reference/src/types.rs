@@ -123,6 +123,8 @@ pub enum CalculationError {
     OneSidedK,
     UnstableLiquid,
     FractionOutside,
+    /// A sum that isn't finite and positive.
+    SumNotNormalizable,
     /// Cannot arise in a book.
     Shape,
 }
@@ -148,6 +150,7 @@ impl CalculationError {
             Self::OneSidedK => 28,
             Self::UnstableLiquid => 29,
             Self::FractionOutside => 30,
+            Self::SumNotNormalizable => 34,
             Self::Shape => unreachable!("a shape error cannot arise in a book"),
         }
     }

@@ -1,6 +1,6 @@
 //! What holds of every sheet, and which sheets the generator makes.
 
-use std::collections::BTreeMap;
+use std::collections::{BTreeMap, BTreeSet};
 
 use reference::generate::cases::Cases;
 use reference::sheet::blocks::Words;
@@ -16,7 +16,7 @@ fn bytes_written() {
         let before: Vec<u8> = (0..room).map(|k| (k % 251) as u8).collect();
         let mut after = before.clone();
         let number = sheet::answer(&book, &question, &mut after);
-        assert!(number <= 30);
+        assert!(number <= 30 || number == 34);
         let mut written = 0;
         if number == 0 {
             let first = blocks::words_of(&after[..512]);
@@ -42,14 +42,12 @@ fn seeds() {
     }
 }
 
-/// Every number from 1 to 30 arises.
+/// Every number arises: 1 to 30, and 34.
 #[test]
 fn every_number_arises() {
-    let mut seen = [false; 31];
-    for case in Cases::new(Stage::Sheet, 5, false).take(30_000) {
-        seen[case.expected().refusal as usize] = true;
-    }
-    assert!(seen.iter().all(|yes| *yes), "{seen:?}");
+    let cases = Cases::new(Stage::Sheet, 5, false).take(30_000);
+    let seen: BTreeSet<u32> = cases.map(|case| case.expected().refusal).collect();
+    assert!(seen.into_iter().eq((0..=30).chain([34])));
 }
 
 fn float(words: &Words, at: usize) -> f64 {

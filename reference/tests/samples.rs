@@ -4,6 +4,7 @@ mod common;
 
 use common::{answer, blocks, book, bytes, call, float, floats, Ask};
 use reference::helpers;
+use reference::stage::Case;
 
 const ONE_THIRD: u64 = 0x3fd5_5555_5555_5555;
 const TWO_THIRDS: u64 = 0x3fe5_5555_5555_5555;
@@ -194,16 +195,18 @@ fn the_written_nan() {
     assert_eq!([words[9], words[14], words[15]], [helpers::WRITTEN_NAN, 0, helpers::WRITTEN_NAN]);
 }
 
-/// The order of questions: composition before alpha.
+/// The order of questions: `normalize` before alpha, and in an evaluation the composition before it.
 #[test]
-fn composition_comes_before_alpha() {
+fn compositions_come_before_alpha() {
     let mut all = blocks(&[1e-312, 1e-312], [0.0, 0.0]);
     for at in [11, 13] {
         all[3][at] = (-1.0f64).to_bits();
     }
     let bad_alpha = bytes(&all);
     assert_eq!(call(&bad_alpha, halves(1)), Err(24));
-    assert_eq!(call(&bad_alpha, halves(3)), Err(15));
+    assert_eq!(call(&bad_alpha, halves(3)), Err(34));
+    let evaluation = Case::Excess { book: bad_alpha, t: 350.0, x: [f64::NAN; 8] };
+    assert_eq!(evaluation.expected().refusal, 15);
 }
 
 /// The bracket's low end is returned with no iteration.

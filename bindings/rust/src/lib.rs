@@ -22,7 +22,7 @@
 //! [`Answer`]. Who holds bytes already calls [`answer_bytes`], which copies nothing.
 //!
 //! This side tests that feed and K values have an entry for each solvent of the book, and nothing else: what a question
-//! says goes to the core as it is, and the core answers it or refuses with one of 30 numbers. What a changed rounding
+//! says goes to the core as it is, and the core answers it or refuses with one of its numbers. What a changed rounding
 //! mode does is said at [`answer_bytes`]. [`format`](mod@format) names the words of the blocks.
 #![deny(missing_docs)]
 #![deny(unsafe_code)]

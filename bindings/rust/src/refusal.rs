@@ -1,4 +1,4 @@
-//! The 30 numbers that a call is refused with, and what this crate refuses before it.
+//! The numbers that a call is refused with, 1 to 30 and 34, and what this crate refuses before it.
 
 use std::fmt;
 
@@ -30,14 +30,31 @@ macro_rules! refusals {
 
         impl Refusal {
             /// The core's, in order.
-            pub const ALL: [Self; 30] = [$(Self::$name),*];
+            pub const ALL: [Self; 31] = [$(Self::$name),*];
 
-            /// The core's number, 1 to 30; none of what this crate refuses before the call.
+            /// The core's number, 1 to 30 or 34; none of what this crate refuses before the call.
             #[must_use]
             pub fn number(self) -> Option<u64> {
                 match self {
                     $(Self::$name => Some($number),)*
                     Self::FeedLength { .. } | Self::KLength { .. } => None,
+                }
+            }
+
+            /// The refusal of a number of the core.
+            ///
+            /// ```
+            /// use zektonk::Refusal;
+            ///
+            /// assert_eq!(Refusal::from_number(18), Some(Refusal::FractionSum));
+            /// assert_eq!(Refusal::FractionSum.number(), Some(18));
+            /// assert_eq!((Refusal::from_number(0), Refusal::from_number(31)), (None, None));
+            /// ```
+            #[must_use]
+            pub fn from_number(number: u64) -> Option<Self> {
+                match number {
+                    $($number => Some(Self::$name),)*
+                    _ => None,
                 }
             }
         }
@@ -89,23 +106,7 @@ refusals! {
     28 KOneSided "the K values are not on both sides of 1"
     29 LiquidUnstable "a trial of the liquid found a lower tangent plane"
     30 VaporFractionOutside "the vapor fraction is outside (0, 1)"
-}
-
-impl Refusal {
-    /// The refusal of a number of the core.
-    ///
-    /// ```
-    /// use zektonk::Refusal;
-    ///
-    /// assert_eq!(Refusal::from_number(18), Some(Refusal::FractionSum));
-    /// assert_eq!(Refusal::FractionSum.number(), Some(18));
-    /// assert_eq!((Refusal::from_number(0), Refusal::from_number(31)), (None, None));
-    /// ```
-    #[must_use]
-    pub fn from_number(number: u64) -> Option<Self> {
-        let at = usize::try_from(number).ok()?.checked_sub(1)?;
-        Self::ALL.get(at).copied()
-    }
+    34 NotNormalizable "a composition's parts have a sum that is not finite and positive"
 }
 
 impl std::error::Error for Refusal {}
@@ -115,18 +116,18 @@ mod tests {
     use super::*;
 
     #[test]
-    fn numbers_are_1_to_30() {
-        for (number, refusal) in (1..).zip(Refusal::ALL) {
+    fn numbers_are_1_to_30_and_34() {
+        for (number, refusal) in (1..=30).chain([34]).zip(Refusal::ALL) {
             assert_eq!(refusal.number(), Some(number));
             assert_eq!(Refusal::from_number(number), Some(refusal));
         }
-        assert_eq!(Refusal::from_number(u64::MAX), None);
+        assert!([0, 31, 32, 33, 35, u64::MAX].iter().all(|number| Refusal::from_number(*number).is_none()));
     }
 
     #[test]
     fn each_has_a_text_of_its_own() {
         let texts: std::collections::BTreeSet<_> = Refusal::ALL.iter().map(ToString::to_string).collect();
-        assert_eq!(texts.len(), 30);
+        assert_eq!(texts.len(), Refusal::ALL.len());
         assert_eq!(Refusal::KOneSided.to_string(), "refused with 28: the K values are not on both sides of 1");
     }
 

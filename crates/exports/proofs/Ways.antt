@@ -1,15 +1,20 @@
 -- What the exports learn from a temperature, a book and a verdict, and what each of their ways out gives. Assumes nothing.
-use Prim.Native.Nat.{ℕ, _≤_}
+use Prim.Native.Nat.{ℕ, _≤_, _<_}
 use mathlib.Core.Path.{_≡_, refl, ap, _∙_}
 use mathlib.Core.List.{List}
 use native.Mathlib.Omega.{arith}
-use lib.ListN.{set, replicate}
+use borrow.Author.Tests.{le-leb, lt-leb}
+use lib.ListN.{set, replicate, length}
 use lib.Ieee.{Float}
 use Rattle.floats.specs.Arithmetic.{0f}
-use Rattle.floats.specs.Vector.{at, fillFrom, places}
+use Rattle.floats.specs.Vector.{at, fill, fillFrom, places}
 use Rattle.floats.specs.Outcome.{Out, ok, no, bind}
 use Rattle.thermo_types.specs.declared.Verdict.the-variants.{Passed, Refused}
+use Rattle.thermo_types.specs.declared.Normalized.{Normalized}
 use Rattle.thermo_types.specs.declared.Temperature.{Temperature}
+use Rattle.thermo_types.specs.Verdicts.{normalizedAnswer}
+use Rattle.thermo_types.specs.Composition.{normalizeOf}
+use Rattle.thermo_types.proofs.Normalizing.{normalized-passed, normalized-refused}
 use Rattle.liquid.specs.declared.VaporPressure.{VaporPressure}
 use Rattle.liquid.specs.Vapor.{Vapor, vaporAnswer}
 use Rattle.records.specs.Parameters.{parametersOf}
@@ -22,8 +27,26 @@ use Rattle.thermo_models.specs.Mixture.{mixtureOf}
 use Rattle.thermo_models.specs.Validity.{validityOf}
 use Rattle.thermo_models.proofs.Answers.{excess-fresh}
 use Rattle.thermo_models.specs.declared.Assessment.{Assessment}
-use Rattle.exports.specs.Slices.{outcomeNumber}
+use Rattle.exports.specs.Slices.{eightOf, filledFront, outcomeNumber, fractionsWritten, NormalizedGives}
 use Rattle.exports.specs.Models.{vaporWritten, VaporGives, Assessed, energiesStored, excessWritten, ExcessGives, excessIn, excessFrom}
+
+-- ---- `normalize` of the first eight entries of a slice x
+module _ (x : List Float) (n : ℕ) {a : List Float} {y : Normalized} (ea : a ≡ eightOf x) (ey : y ≡ normalizedAnswer (normalizeOf (at a) (places n))) where
+  same : y ≡ normalizedAnswer (normalizeOf (at (eightOf x)) (places n))
+  same = rw ea at ey
+
+  pub normalize-no : {m : ℕ} → y .verdict ≡ Refused m → NormalizedGives (normalizeOf (at (eightOf x)) (places n)) m x x
+  unfolding outcomeNumber fractionsWritten
+  normalize-no q = let e = normalized-refused _ same q in record { number = rw e; fractions = rw e }
+
+  module _ (q : y .verdict ≡ Passed) where
+    pub normalize-short : length x < 8 → NormalizedGives (normalizeOf (at (eightOf x)) (places n)) 0 x x
+    unfolding outcomeNumber fractionsWritten filledFront
+    normalize-short h = let e = normalized-passed _ same q in record { number = rw e; fractions = rw (e, lt-leb 8 _ h) }
+
+    pub normalize-stored : {z : List Float} → 8 ≤ length x → z ≡ fill (at (y .fractions)) 8 x → NormalizedGives (normalizeOf (at (eightOf x)) (places n)) 0 x z
+    unfolding outcomeNumber fractionsWritten filledFront
+    normalize-stored h s = let e = normalized-passed _ same q in record { number = rw e; fractions = rw (e, le-leb 8 _ h) s }
 
 -- ---- vapor pressure
 pub vapor-as : {o o′ : Out Vapor} {r : ℕ} {old new : List Float} → o ≡ o′ → VaporGives o′ r old new → VaporGives o r old new

@@ -1,5 +1,6 @@
 -- Slices of floats as C lends them, read and written as arrays of eight; outcomes as numbers. Assumes nothing.
 use Prim.Native.Nat.{ℕ, _+_}
+use mathlib.Core.Path.{_≡_}
 use mathlib.Core.Bool.{cond}
 use mathlib.Core.List.{List}
 use lib.Dec.{leb}
@@ -27,6 +28,15 @@ outcomeNumber (no r) = r
 unfoldable pub verdictNumber : Verdict → ℕ
 verdictNumber Passed = 0
 verdictNumber (Refused r) = r
+
+-- normalised fractions in a slice; a refusal leaves it as it was
+unfoldable pub fractionsWritten : Out (List Float) → List Float → List Float
+fractionsWritten (ok x) old = filledFront (at x) 8 old
+fractionsWritten (no r) old = old
+
+pub record NormalizedGives (o : Out (List Float)) (r : ℕ) (old new : List Float) : Type 0 where
+  pub number : r ≡ outcomeNumber o
+  pub fractions : new ≡ fractionsWritten o old
 
 -- 100 + n for a book of n solvents, else the refusal's number
 unfoldable pub bookNumber : Out Head → ℕ

@@ -15,7 +15,7 @@ ghost use Rattle.thermo_models.specs.Domain.{vaporRecord};
 ghost use Rattle.thermo_models.specs.Mixture.{mixtureOf};
 ghost use Rattle.book.specs.Book.{bookOf};
 ghost use Rattle.rice_exports.specs.Splits.{splitNumber, splitWritten, sized, constrainedOf, negativeOf};
-ghost use Rattle.exports.specs.Slices.{eightOf, filledFront, outcomeNumber, verdictNumber, bookNumber, repeated};
+ghost use Rattle.exports.specs.Slices.{eightOf, NormalizedGives, outcomeNumber, verdictNumber, bookNumber, repeated};
 ghost use Rattle.exports.specs.Models.{vaporFrom, vaporAt, VaporGives, excessIn, excessFrom, excessAt, ExcessGives, statusFloat, flagFloat, energiesStored};
 use book::Opened;
 use excess::Energies;
@@ -134,17 +134,23 @@ fn store(a: &[f64; 8], out: &mut [f64])
     }
 }
 
-// The first n of eight entries over their sum, 0.0 past them; a slice shorter than eight stays.
+// 0, and the first n of eight entries over their sum, 0.0 past them; or 34. With 34 the slice stays, as does one shorter than eight.
 #[no_mangle]
-pub extern "C" fn zektonk_normalize(x: &mut [f64], n: usize)
-    ensures { λ _. ⌜ now (x .exit) ≡ filledFront (at (normalizeOf (at (eightOf (now (x .entry)))) (places n))) 8 (now (x .entry)) ⌝ }
+pub extern "C" fn zektonk_normalize(x: &mut [f64], n: usize) -> u64
+    ensures { λ r. ⌜ NormalizedGives (normalizeOf (at (eightOf (now (x .entry)))) (places n)) r (now (x .entry)) (now (x .exit)) ⌝ }
 {
-    if x.len() < 8 {
-        return;
-    }
     let a = eight(x);
     let y = thermo_types::normalize(&a, n);
-    store(&y, x);
+    let verdict = y.verdict;
+    if let Verdict::Refused(number) = verdict {
+        return number;
+    }
+    if x.len() < 8 {
+        return 0;
+    }
+    let fractions = y.fractions;
+    store(&fractions, x);
+    0
 }
 
 // ---- vapor pressure

@@ -9,15 +9,16 @@ use borrow.Author.Tests.{not-true, not-false}
 use lib.Ieee.{Float, neg, lt, le, eq}
 use Rattle.floats.specs.Arithmetic.{_⊕_, _⊖_, _⊗_, _⊘_, 0f, 1f}
 use Rattle.floats.specs.Small.{isFinite, absOf}
-use Rattle.floats.specs.Fold.{foldTo, sumTo, active}
-use Rattle.floats.specs.Vector.{at, vec, zeros8, places}
+use Rattle.floats.specs.Fold.{foldTo, active}
+use Rattle.floats.specs.Vector.{at, vec, places}
 use Rattle.floats.specs.Outcome.{Out, ok, no, bind, need, choose}
-use Rattle.floats.proofs.Folds.{fold-turn, fold-done, sum-cong, was-no, was-yes}
-use Rattle.floats.proofs.Fills.{vec-at, fill-cong}
+use Rattle.floats.proofs.Folds.{fold-turn, fold-done, was-no, was-yes}
+use Rattle.floats.proofs.Fills.{vec-at}
 use Rattle.floats.proofs.Outcomes.{bind-yes, bind-no}
-use Rattle.thermo_types.specs.Composition.{allFinite, noneNegative, allPositive, sumsToOne, normalizeOf}
+use Rattle.thermo_types.specs.Composition.{allFinite, noneNegative, allPositive, sumsToOne, sharesOf}
 use Rattle.thermo_types.specs.Verdicts.{verdictOf}
 use Rattle.thermo_types.proofs.Passing.{verdict-no}
+use Rattle.thermo_types.proofs.Normalizing.{shares-cong}
 use Rattle.thermo_types.specs.declared.Verdict.{Verdict}
 use Rattle.thermo_types.specs.declared.Verdict.the-variants.{Passed, Refused}
 use Rattle.rachford_rice.specs.declared.RachfordRice.{RachfordRice}
@@ -45,12 +46,6 @@ module _ (z k : ℕ → Float) (β : Float) where
   unfolding slopeSum slopeOf
   slope-done i n e h = ap neg (fold-done _ _ i n e h)
 
-pub normalize-cong : {x f : ℕ → Float} (n : ℕ) → ((i : ℕ) → i < n → x i ≡ f i) → normalizeOf x n ≡ normalizeOf f n
-unfolding normalizeOf
-normalize-cong {x} {f} n e =
-    let s : sumTo x n ≡ sumTo f n = sum-cong 0f n e in
-    fill-cong _ _ n zeros8 (λ i l. let p : x i ≡ f i = e i l in rw (p, s))
-
 -- ---- a split: the vapor from the liquid that is not yet divided
 module _ (z k : ℕ → Float) (n : ℕ) (h : n ≤ 8) (β : Float) {x y : List Float} (px : x ≡ vec (liquidPart z k n β) n) (py : y ≡ vec (λ i. at x i ⊗ k i) n) where
   liquid-at : (i : ℕ) → i < n → at x i ≡ liquidPart z k n β i
@@ -60,11 +55,11 @@ module _ (z k : ℕ → Float) (n : ℕ) (h : n ≤ 8) (β : Float) {x y : List 
   unfolding vaporPart
   vapor-at i m = ap (λ a. at a i) py ∙ vec-at _ n i h m ∙ ap (λ (q : Float). q ⊗ k i) (liquid-at i m)
 
-  pub solution-is : (it : ℕ) {l v : List Float} {g r : Float} → l ≡ normalizeOf (at x) (places n) → v ≡ normalizeOf (at y) (places n) → r ≡ residualOf z k n β
+  pub solution-is : (it : ℕ) {l v : List Float} {g r : Float} → l ≡ sharesOf (at x) (places n) → v ≡ sharesOf (at y) (places n) → r ≡ residualOf z k n β
       → g ≡ absOf r
       → _≡_ {A = RachfordRice} (record { verdict = Passed; outcome = TwoPhase β g it; liquid = l; vapor = v }) (twoPhase (solutionAt z k n β it))
-  unfolding twoPhase solutionAt normalizeOf
-  solution-is it pl pv pr pg = rw (pl, pv, pg, pr, places-within n h, normalize-cong n liquid-at, normalize-cong n vapor-at)
+  unfolding twoPhase solutionAt sharesOf
+  solution-is it pl pv pr pg = rw (pl, pv, pg, pr, places-within n h, shares-cong n liquid-at, shares-cong n vapor-at)
 
 -- ---- the step: Newton's value where it is finite and between the bounds
 module _ (newton lo hi : Float) where

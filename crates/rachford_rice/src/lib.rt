@@ -221,9 +221,9 @@ fn solution(z: &[f64; 8], k: &[f64; 8], n: usize, beta: f64, iterations: u64) ->
     ensures { λ r. ⌜ r ≡ twoPhase (solutionAt (at (now (z .entry))) (at (now (k .entry))) n beta iterations) ⌝ }
 {
     let x = liquid_parts(z, k, n, beta);
-    let liquid = thermo_types::normalize(&x, n);
+    let liquid = thermo_types::shares(&x, n);
     let y = vapor_parts(&x, k, n);
-    let vapor = thermo_types::normalize(&y, n);
+    let vapor = thermo_types::shares(&y, n);
     let g = floats::abs(rachford_rice_residual(z, k, n, beta));
     RachfordRice {
         verdict: Verdict::Passed,

@@ -6,11 +6,11 @@ use lib.Ieee.{Float}
 use Rattle.floats.specs.Outcome.{Out}
 use Rattle.thermo_types.specs.declared.ActivityOptions.{ActivityOptions}
 use Rattle.thermo_models.specs.Model.{Activity, Activities, Liquids}
-use Rattle.tp_flash.specs.Split.{Split, turnAt, splitTurn, splitFrom}
+use Rattle.tp_flash.specs.Split.{Split, phaseOf, turnAt, splitTurn, splitFrom}
 use Rattle.tp_flash.specs.Tp.{stableLiquid, dewOf, asVapor, asLiquid, asBoth, boundaryOf, fromSplit, splitFeed, betweenOf, fromDew, phasesOf, tpFlash}
 use Rattle.refusals.specs.Numbered.{Numbered}
 use Rattle.refusals.proofs.Laws.{numbers}
-use Rattle.refusals.proofs.Models.{num-fractions}
+use Rattle.refusals.proofs.Models.{num-fractions, num-normalize}
 use Rattle.refusals.proofs.Rice.{num-negative}
 use Rattle.refusals.proofs.Saturation.{num-bubbleAt, num-dewAt}
 use Rattle.refusals.proofs.Stability.{num-stability}
@@ -21,9 +21,9 @@ num-vapor n z bubble dew notes = search (numbers, num-fractions)
 
 module _ (E : List Float → Out Activity) (h : (x : List Float) → Numbered (E x)) where
   num-split : (ps : List Float) (n : ℕ) (p : Float) (z : List Float) (tolerance : Float) (left done : ℕ) (lg : List Float) → Numbered (splitFrom E ps n p z tolerance left done lg)
-  unfolding splitFrom splitTurn turnAt
+  unfolding splitFrom splitTurn phaseOf turnAt
   num-split ps n p z tolerance zero done lg = search numbers
-  num-split ps n p z tolerance (suc left) done lg = search (numbers, num-negative, num-split ps n p z tolerance left)
+  num-split ps n p z tolerance (suc left) done lg = search (numbers, num-negative, num-normalize, num-split ps n p z tolerance left) depth 8
 
   module _ (n : ℕ) (o : ActivityOptions) (z : List Float) where
     num-liquid : (bubble dew : Float) (notes : ℕ) → Numbered (asLiquid E n o z bubble dew notes)

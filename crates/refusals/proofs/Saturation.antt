@@ -5,9 +5,10 @@ use lib.Ieee.{Float}
 use Rattle.floats.specs.Outcome.{Out}
 use Rattle.thermo_types.specs.declared.ActivityOptions.{ActivityOptions}
 use Rattle.thermo_models.specs.Model.{Activity, Activities, Liquids}
-use Rattle.saturation.specs.Saturation.{bubbleFrom, residualWith, bubbleAt, residual, dewTurn, dewPoint, dewLoop, dewAt, bubbleTask, dewTask, bubblePressure, dewPressurePoint}
+use Rattle.saturation.specs.Saturation.{bubbleFrom, residualWith, dewLiquid, bubbleAt, residual, dewTurn, dewPoint, dewLoop, dewAt, bubbleTask, dewTask, bubblePressure, dewPressurePoint}
 use Rattle.refusals.specs.Numbered.{Numbered}
 use Rattle.refusals.proofs.Laws.{numbers}
+use Rattle.refusals.proofs.Models.{num-normalize}
 
 pub num-residualWith : (lg ps : List Float) (p : Float) (x y : List Float) (n : ℕ) → Numbered (residualWith lg ps p x y n)
 unfolding residualWith
@@ -23,13 +24,13 @@ module _ (E : List Float → Out Activity) (h : (x : List Float) → Numbered (E
   num-residual p x y = search (numbers, num-residualWith)
 
   num-dewPoint : (y lg : List Float) (iteration : ℕ) → Numbered (dewPoint E ps n y lg iteration)
-  unfolding dewPoint
-  num-dewPoint y lg iteration = search (numbers, num-residualWith)
+  unfolding dewPoint dewLiquid
+  num-dewPoint y lg iteration = search (numbers, num-normalize, num-residualWith)
 
   num-dewLoop : (y : List Float) (tolerance : Float) (left done : ℕ) (lg : List Float) → Numbered (dewLoop E ps n y tolerance left done lg)
-  unfolding dewLoop dewTurn
+  unfolding dewLoop dewTurn dewLiquid
   num-dewLoop y tolerance zero done lg = search numbers
-  num-dewLoop y tolerance (suc left) done lg = search (numbers, num-dewPoint, num-dewLoop y tolerance left)
+  num-dewLoop y tolerance (suc left) done lg = search (numbers, num-normalize, num-dewPoint, num-dewLoop y tolerance left) depth 8
 
   pub num-dewAt : (o : ActivityOptions) (y : List Float) → Numbered (dewAt E ps n o y)
   unfolding dewAt

@@ -1,8 +1,7 @@
--- Every refusal of the whole call is one of the numbers 1 to 30, so the result 0 means an answer. Assumes nothing.
+-- Every refusal of the whole call is one of the numbers that there are, so the result 0 means an answer. Assumes nothing.
 use mathlib.Core.Path.{_≡_, refl}
 use mathlib.Core.List.{List}
 use Prim.Native.Nat.{ℕ}
-use native.Mathlib.Omega.{arith}
 use lib.Ieee.{Float}
 use Rattle.floats.specs.Outcome.{Out, ok, no}
 use Rattle.blocks.specs.declared.Rule.{Rule}
@@ -53,7 +52,7 @@ refusals book question room = search (numbers, num-book, num-question, num-answe
 answered : (o : Out (List ℕ)) → Numbered o → numberOf o ≡ 0 → (bs : List ℕ) × (o ≡ ok bs)
 unfolding numberOf
 answered (ok bs) h e = (bs, refl)
-answered (no r) h e = absurd (omega (arith, h .number r refl))
+answered (no r) h e = absurd (rw e at (h .number r refl))
 
 pub zero-is-answer : ZeroIsAnswer
 zero-is-answer book question room = answered (sheetOf book question room) (refusals book question room)

@@ -1,13 +1,19 @@
 -- Every refusal has one of the numbers of docs/FORMAT.md, so the result 0 means an answer. Over the definition of the whole call. Assumes nothing.
 use mathlib.Core.Path.{_≡_}
+use mathlib.Core.Bool.{Bool, _&&_, _||_}
 use mathlib.Core.List.{List}
-use Prim.Native.Nat.{ℕ, _≤_}
+use Prim.Native.Nat.{ℕ}
+use lib.Dec.{T, leb, eqb}
 use Rattle.floats.specs.Outcome.{Out, ok, no}
 use Rattle.sheet.specs.Sheet.{sheetOf, numberOf}
 
--- an outcome whose refusal, if it is one, has a number 1 to 30
+-- the numbers that there are: 1 to 30, and 34
+abbrev pub isNumber : ℕ → Bool
+isNumber r = (leb 1 r && leb r 30) || eqb r 34
+
+-- an outcome whose refusal, if it is one, has such a number
 pub record Numbered {A : Type 0} (o : Out A) : Type 0 where
-  pub number : (r : ℕ) → o ≡ no r → (1 ≤ r) × (r ≤ 30)
+  pub number : (r : ℕ) → o ≡ no r → T (isNumber r)
 
 -- every call
 abbrev pub Refusals : Type 0

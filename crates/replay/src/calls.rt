@@ -105,11 +105,15 @@ fn fractions(words: &[u64; 4096], out: &mut [u64; 640]) -> Called {
 fn normalize(words: &[u64; 4096], out: &mut [u64; 640]) -> Called {
     let x = eight(words, 1);
     let y = thermo_types::normalize(&x, word(words, 0) as usize);
-    put_eight(out, 0, &y);
-    Called {
-        inputs: 9,
-        results: 8,
-    }
+    let verdict = y.verdict;
+    let fractions = y.fractions;
+    put_eight(out, 1, &fractions);
+    put(out, 0, number(verdict));
+    let results = match verdict {
+        Verdict::Passed => 9,
+        Verdict::Refused(_) => 1,
+    };
+    Called { inputs: 9, results }
 }
 
 // The words from..from + count as bytes.

@@ -6,7 +6,7 @@ use Rattle.floats.specs.Fold.{foldTo, allTo}
 use Rattle.floats.specs.Vector.{fillFrom, fill}
 use Rattle.floats.specs.Outcome.{bind, need, choose}
 use Rattle.numerics.specs.Numerics.{expOf, lnOf}
-use Rattle.thermo_types.specs.Composition.{sumsToOne, withFractions, normalizeOf}
+use Rattle.thermo_types.specs.Composition.{sumsToOne, withFractions, sharesOf, normalizeOf}
 use Rattle.thermo_types.specs.Quantities.{positiveOf}
 use Rattle.blocks.specs.Words.{word, block, checkSum, sumBy, checkRight}
 use Rattle.blocks.specs.Bytes.{bytes, rowTo, blockBytes}
@@ -46,7 +46,7 @@ unfolding ofBits toBits add sub mul div neg lt le eq isNan ofInt toSigned size w
     parametersOf inRange constJ addJ subJ negJ mulJ scaleJ divJ expWith basisOf tauJ alphaJ exponentJ tauIJ gIJ alphaRight allRight colS colC termJ lnFrom
     gibbsFrom gibbsOf enthalpyOf heatCapacityOf entropyOf stateWith stateFrom withState nrtlOf excessOf solventCovers temperatureInDomain pureLiquidsOf positive
     toleranceRight optionsRight optionsIn questionFrom inputsRight limitsRight taskIn restOf questionOf bit statusNumber stateWords modelWords answerWords
-    answerBytes taskAt taskOf answerTo roomy sheetFrom normalizeOf ancillaryOf term slopeTerm curvatureTerm sumsOf vaporFrom vaporOf representable
+    answerBytes taskAt taskOf answerTo roomy sheetFrom sharesOf normalizeOf ancillaryOf term slopeTerm curvatureTerm sumsOf vaporFrom vaporOf representable
     vaporPressureOf puresTo pressureInDomain activityIn partialOf partialSum bubbleFrom gapOf residualWith dewTerm dewPressure dewLiquid bubbleAt dewTurn
     dewPoint dewLoop dewAt presentCount tangent startFrom othersIn totalOf trialComposition distanceOf nextOf apartOf unstable trialWith noTrial noTrials
     withTrial judge trialFrom trialsTo stabilityOf stableLiquid dewOf asLiquid betweenOf fromDew phasesOf tpFlash trialWords trialBytes phaseNumber task7

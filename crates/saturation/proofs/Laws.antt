@@ -16,17 +16,21 @@ use Rattle.floats.proofs.Fills.{fill-at, fill-cong}
 use Rattle.numerics.specs.Numerics.{lnOf}
 use Rattle.thermo_types.specs.Composition.{normalizeOf}
 use Rattle.thermo_types.specs.declared.ActivityOptions.{ActivityOptions}
+use Rattle.thermo_types.specs.declared.Normalized.{Normalized}
 use Rattle.thermo_types.specs.declared.Temperature.{Temperature}
 use Rattle.thermo_types.specs.declared.Verdict.{Verdict}
 use Rattle.thermo_types.specs.declared.Verdict.the-variants.{Passed, Refused}
+use Rattle.thermo_types.specs.Verdicts.{normalizedAnswer}
+use Rattle.thermo_types.proofs.Normalizing.{normalize-cong, normalized-passed, normalized-refused}
 use Rattle.thermo_models.specs.declared.Tabled.{Tabled}
 use Rattle.thermo_models.specs.Model.{Activity, Liquids, ActivityIs, PuresAre, pressureInDomain}
 use Rattle.thermo_models.specs.Activity.{activityOn, activityOf, Stands}
 use Rattle.thermo_models.proofs.Answers.{activity-passed, activity-refused, pures-passed, pures-refused, stands-fresh}
 use Rattle.saturation.specs.Saturation.{Dew, partialOf, partialSum, bubbleFrom, gapOf, residualWith, dewTerm, dewPressure, dewLiquid, changeOf, bubbleAt, residual, dewTurn, dewPoint, dewLoop, dewAt, bubbleTask, dewTask, bubblePressure, dewPressurePoint}
-use Rattle.saturation.specs.Answers.{bubbleAnswer, residualAnswer, Incipient, noDewTurn, dewTurnAnswer, dewAnswer, saturationAnswer}
+use Rattle.saturation.specs.Answers.{bubbleAnswer, residualAnswer, incipientOf, noDewTurn, dewTurnAnswer, dewAnswer, saturationAnswer}
 use Rattle.saturation.specs.declared.BubblePoint.{BubblePoint}
 use Rattle.saturation.specs.declared.ResidualAnswer.{ResidualAnswer}
+use Rattle.saturation.specs.declared.IncipientLiquid.{IncipientLiquid}
 use Rattle.saturation.specs.declared.DewTurn.{DewTurn}
 use Rattle.saturation.specs.declared.DewPoint.{DewPoint}
 use Rattle.saturation.specs.declared.ActivitySaturation.{ActivitySaturation}
@@ -92,54 +96,68 @@ module _ (E : List Float → Out Activity) (ps : List Float) (n : ℕ) (p : Floa
   residual-at-passed q z = rw (activity-passed (E x) a q) z
 
 -- ---- the incipient liquid of ln γ: w are the terms, s their sum
-pub incipient-is : (y ps lg : List Float) (n : ℕ) → n ≤ 8 → {w x : List Float} (s : Float) → w ≡ vec (dewTerm y ps lg) n → s ≡ sumTo (at w) (places n)
-    → x ≡ vec (λ i. at w i ⊘ s) n → Incipient y ps lg n (1f ⊘ s) x
-unfolding dewPressure dewLiquid normalizeOf
-incipient-is y ps lg n h s e q v =
-    let t : s ≡ sumTo (dewTerm y ps lg) n = stored-sum _ n h e q in
-    record { pressure = rw t; liquid = rw (← t) (stored-shares _ n h e s v) }
+pub incipient-is : (y ps lg : List Float) (n : ℕ) → n ≤ 8 → {w : List Float} {s : Float} {x : Normalized} → w ≡ vec (dewTerm y ps lg) n → s ≡ sumTo (at w) (places n)
+    → x ≡ normalizedAnswer (normalizeOf (at w) (places n)) → _≡_ {A = IncipientLiquid} (record { pressure = 1f ⊘ s; liquid = x }) (incipientOf y ps lg n)
+unfolding incipientOf dewPressure dewLiquid
+incipient-is y ps lg n h e q v = rw (stored-sum _ n h e q, v, places-is n h, normalize-cong n (entry _ n h e))
 
--- ---- a turn and the last step of the dew iteration: x is the incipient liquid, new its ln γ
-module _ (E : List Float → Out Activity) (ps : List Float) (n : ℕ) (y lg : List Float) {p : Float} {x : List Float} (i : Incipient y ps lg n p x) {v : Verdict}
-    {new sl : List Float} (a : ActivityIs (E x) v new sl) where
-  liquid-refused : {m : ℕ} → v ≡ Refused m → E (dewLiquid y ps lg n) ≡ no m
-  liquid-refused q = rw (← i .liquid) (activity-refused (E x) a q)
+-- ---- a turn and the last step of the dew iteration: i is the incipient liquid, new its ln γ
+module _ (E : List Float → Out Activity) (ps : List Float) (n : ℕ) (y lg : List Float) {i : IncipientLiquid} (ei : i ≡ incipientOf y ps lg n) where
+  pressure-is : i .pressure ≡ dewPressure y ps lg n
+  unfolding incipientOf
+  pressure-is = rw ei
 
-  liquid-passed : v ≡ Passed → E (dewLiquid y ps lg n) ≡ ok (record { lnGamma = new; slopes = sl })
-  liquid-passed q = rw (← i .liquid) (activity-passed (E x) a q)
+  liquid-is : i .liquid ≡ normalizedAnswer (dewLiquid y ps lg n)
+  unfolding incipientOf
+  liquid-is = rw ei
 
-  pub turn-refused : {m : ℕ} {r : DewTurn} → v ≡ Refused m → r ≡ noDewTurn m → r ≡ dewTurnAnswer y lg n (dewTurn E ps n y lg)
-  unfolding dewTurn bind dewTurnAnswer
-  turn-refused q z = rw (liquid-refused q) z
+  module _ {m : ℕ} (q : i .liquid .verdict ≡ Refused m) where
+    pub turn-vanished : {r : DewTurn} → r ≡ noDewTurn m → r ≡ dewTurnAnswer y lg n (dewTurn E ps n y lg)
+    unfolding dewTurn bind dewTurnAnswer
+    turn-vanished z = rw (normalized-refused _ liquid-is q) z
 
-  pub point-refused : (it : ℕ) {m : ℕ} {r : DewPoint} → v ≡ Refused m → r ≡ dewAnswer (no m) → r ≡ dewAnswer (dewPoint E ps n y lg it)
-  unfolding dewPoint bind
-  point-refused it q z = rw (liquid-refused q) z
-
-  module _ (q : v ≡ Passed) {c : Float} {f : Bool} (pc : c ≡ changeOf y new lg n) (pf : f ≡ isFinite c) where
-    pub turn-change : {r : DewTurn} → not f ≡ true → r ≡ noDewTurn 25 → r ≡ dewTurnAnswer y lg n (dewTurn E ps n y lg)
-    unfolding dewTurn bind need dewTurnAnswer
-    turn-change t z = rw (liquid-passed q, ← pc, was-no t pf) z
-
-    pub turn-pressure : {g : Bool} {r : DewTurn} → not f ≡ false → g ≡ isFinite p → not g ≡ true → r ≡ noDewTurn 25
-        → r ≡ dewTurnAnswer y lg n (dewTurn E ps n y lg)
-    unfolding dewTurn bind need dewTurnAnswer
-    turn-pressure t pg u z = rw (liquid-passed q, ← pc, was-yes t pf, ← i .pressure, was-no u pg) z
-
-    pub turn-good : {g : Bool} {r : DewTurn} → not f ≡ false → g ≡ isFinite p → not g ≡ false → r ≡ record { verdict = Passed; change = c; lg = new }
-        → r ≡ dewTurnAnswer y lg n (dewTurn E ps n y lg)
-    unfolding dewTurn bind need dewTurnAnswer
-    turn-good t pg u z = rw (liquid-passed q, ← pc, was-yes t pf, ← i .pressure, was-yes u pg, ← pc) z
-
-  module _ (q : v ≡ Passed) (l : n ≤ 8) {g : ResidualAnswer} (pg : g ≡ residualAnswer (residualWith new ps p x y (places n))) (it : ℕ) where
-    pub point-infinite : {m : ℕ} {r : DewPoint} → g .verdict ≡ Refused m → r ≡ dewAnswer (no m) → r ≡ dewAnswer (dewPoint E ps n y lg it)
+    pub point-vanished : (it : ℕ) {r : DewPoint} → r ≡ dewAnswer (no m) → r ≡ dewAnswer (dewPoint E ps n y lg it)
     unfolding dewPoint bind
-    point-infinite u z = rw (liquid-passed q, ← i .pressure, ← i .liquid, residual-refused _ (rw (places-is n l) at pg) u) z
+    point-vanished it z = rw (normalized-refused _ liquid-is q) z
 
-    pub point-good : {r : DewPoint} → g .verdict ≡ Passed
-        → r ≡ record { verdict = Passed; pressure = p; liquid = x; iterations = it; residual = g .value; lg = new; sl = sl } → r ≡ dewAnswer (dewPoint E ps n y lg it)
-    unfolding dewPoint bind dewAnswer
-    point-good u z = rw (liquid-passed q, ← i .pressure, ← i .liquid, residual-passed _ (rw (places-is n l) at pg) u) z
+  module _ (h : i .liquid .verdict ≡ Passed) {v : Verdict} {new sl : List Float} (a : ActivityIs (E (i .liquid .fractions)) v new sl) where
+    normal : dewLiquid y ps lg n ≡ ok (i .liquid .fractions)
+    normal = normalized-passed _ liquid-is h
+
+    pub turn-refused : {m : ℕ} {r : DewTurn} → v ≡ Refused m → r ≡ noDewTurn m → r ≡ dewTurnAnswer y lg n (dewTurn E ps n y lg)
+    unfolding dewTurn bind dewTurnAnswer
+    turn-refused q z = rw (normal, activity-refused _ a q) z
+
+    pub point-refused : (it : ℕ) {m : ℕ} {r : DewPoint} → v ≡ Refused m → r ≡ dewAnswer (no m) → r ≡ dewAnswer (dewPoint E ps n y lg it)
+    unfolding dewPoint bind
+    point-refused it q z = rw (normal, activity-refused _ a q) z
+
+    module _ (q : v ≡ Passed) {c : Float} {f : Bool} (pc : c ≡ changeOf y new lg n) (pf : f ≡ isFinite c) where
+      pub turn-change : {r : DewTurn} → not f ≡ true → r ≡ noDewTurn 25 → r ≡ dewTurnAnswer y lg n (dewTurn E ps n y lg)
+      unfolding dewTurn bind need dewTurnAnswer
+      turn-change t z = rw (normal, activity-passed _ a q, ← pc, was-no t pf) z
+
+      pub turn-pressure : {g : Bool} {r : DewTurn} → not f ≡ false → g ≡ isFinite (i .pressure) → not g ≡ true → r ≡ noDewTurn 25
+          → r ≡ dewTurnAnswer y lg n (dewTurn E ps n y lg)
+      unfolding dewTurn bind need dewTurnAnswer
+      turn-pressure t pg u z = rw (normal, activity-passed _ a q, ← pc, was-yes t pf, ← pressure-is, was-no u pg) z
+
+      pub turn-good : {g : Bool} {r : DewTurn} → not f ≡ false → g ≡ isFinite (i .pressure) → not g ≡ false → r ≡ record { verdict = Passed; change = c; lg = new }
+          → r ≡ dewTurnAnswer y lg n (dewTurn E ps n y lg)
+      unfolding dewTurn bind need dewTurnAnswer
+      turn-good t pg u z = rw (normal, activity-passed _ a q, ← pc, was-yes t pf, ← pressure-is, was-yes u pg, ← pc) z
+
+    module _ (q : v ≡ Passed) (l : n ≤ 8) {g : ResidualAnswer} (pg : g ≡ residualAnswer (residualWith new ps (i .pressure) (i .liquid .fractions) y (places n)))
+        (it : ℕ) where
+      pub point-infinite : {m : ℕ} {r : DewPoint} → g .verdict ≡ Refused m → r ≡ dewAnswer (no m) → r ≡ dewAnswer (dewPoint E ps n y lg it)
+      unfolding dewPoint bind
+      point-infinite u z = rw (normal, activity-passed _ a q, ← pressure-is, residual-refused _ (rw (places-is n l) at pg) u) z
+
+      pub point-good : {r : DewPoint} → g .verdict ≡ Passed
+          → r ≡ record { verdict = Passed; pressure = i .pressure; liquid = i .liquid .fractions; iterations = it; residual = g .value; lg = new; sl = sl }
+          → r ≡ dewAnswer (dewPoint E ps n y lg it)
+      unfolding dewPoint bind dewAnswer
+      point-good u z = rw (normal, activity-passed _ a q, ← pressure-is, residual-passed _ (rw (places-is n l) at pg) u) z
 
 -- ---- the dew iteration: what the struct of a turn says of its outcome
 module _ (y lg : List Float) (n : ℕ) {s : DewTurn} where

@@ -1,16 +1,17 @@
 -- What the code answers: the verdict of an outcome, and its values or zeros. Assumes nothing.
 use Prim.Native.Nat.{ℕ}
-use mathlib.Core.Path.{_≡_}
 use mathlib.Core.List.{List}
 use lib.Ieee.{Float}
 use Rattle.floats.specs.Arithmetic.{0f}
 use Rattle.floats.specs.Vector.{zeros8}
 use Rattle.floats.specs.Outcome.{Out, ok, no}
 use Rattle.thermo_types.specs.declared.Verdict.the-variants.{Passed, Refused}
+use Rattle.thermo_types.specs.Verdicts.{normalizedAnswer}
 use Rattle.thermo_models.specs.Model.{Activity}
 use Rattle.saturation.specs.Saturation.{Bubble, Dew, Saturation, dewPressure, dewLiquid, changeOf}
 use Rattle.saturation.specs.declared.BubblePoint.{BubblePoint}
 use Rattle.saturation.specs.declared.ResidualAnswer.{ResidualAnswer}
+use Rattle.saturation.specs.declared.IncipientLiquid.{IncipientLiquid}
 use Rattle.saturation.specs.declared.DewTurn.{DewTurn}
 use Rattle.saturation.specs.declared.DewPoint.{DewPoint}
 use Rattle.saturation.specs.declared.ActivitySaturation.{ActivitySaturation}
@@ -23,10 +24,9 @@ unfoldable pub residualAnswer : Out Float → ResidualAnswer
 residualAnswer (ok v) = record { verdict = Passed; value = v }
 residualAnswer (no r) = record { verdict = Refused r; value = 0f }
 
--- the pressure p and the incipient liquid x of ln γ
-pub record Incipient (y ps lg : List Float) (n : ℕ) (p : Float) (x : List Float) : Type 0 where
-  pub pressure : p ≡ dewPressure y ps lg n
-  pub liquid : x ≡ dewLiquid y ps lg n
+-- the pressure and the incipient liquid of ln γ
+unfoldable pub incipientOf : List Float → List Float → List Float → ℕ → IncipientLiquid
+incipientOf y ps lg n = record { pressure = dewPressure y ps lg n; liquid = normalizedAnswer (dewLiquid y ps lg n) }
 
 -- a turn of the dew iteration from lg: the largest change, and the new ln γ
 unfoldable pub noDewTurn : ℕ → DewTurn

@@ -65,11 +65,11 @@ residualWith lg ps p x y n = need (isFinite (gapOf lg ps p x y n)) 25 (ok (gapOf
 unfoldable pub dewTerm : List Float → List Float → List Float → ℕ → Float
 dewTerm y ps lg i = cond (lt 0f (at y i)) (at y i ⊘ (expOf (at lg i) ⊗ at ps i)) 0f
 
--- p = 1 / Σ y_i / (γ_i p_i^sat), and the incipient liquid x_i = p y_i / (γ_i p_i^sat), made by dividing the terms by their sum
+-- p = 1 / Σ y_i / (γ_i p_i^sat), and the incipient liquid x_i = p y_i / (γ_i p_i^sat), the terms brought to a sum of 1 (34)
 unfoldable pub dewPressure : List Float → List Float → List Float → ℕ → Float
 dewPressure y ps lg n = 1f ⊘ sumTo (dewTerm y ps lg) n
 
-unfoldable pub dewLiquid : List Float → List Float → List Float → ℕ → List Float
+unfoldable pub dewLiquid : List Float → List Float → List Float → ℕ → Out (List Float)
 dewLiquid y ps lg n = normalizeOf (dewTerm y ps lg) n
 
 -- the largest change of ln γ where y is positive
@@ -88,17 +88,19 @@ module _ (E : List Float → Out Activity) (ps : List Float) (n : ℕ) where
   -- one turn of the dew iteration, from ln γ: the activity at the incipient liquid (25 where the change or the pressure isn't finite)
   unfoldable pub dewTurn : List Float → List Float → Out Activity
   dewTurn y lg =
-      bind (E (dewLiquid y ps lg n)) (λ a.
+      bind (dewLiquid y ps lg n) (λ x.
+      bind (E x) (λ a.
       need (isFinite (changeOf y (a .lnGamma) lg n)) 25
       (need (isFinite (dewPressure y ps lg n)) 25
-      (ok a)))
+      (ok a))))
 
   -- the dew point from converged ln γ
   unfoldable pub dewPoint : List Float → List Float → ℕ → Out Dew
   dewPoint y lg iteration =
-      bind (E (dewLiquid y ps lg n)) (λ a.
-      bind (residualWith (a .lnGamma) ps (dewPressure y ps lg n) (dewLiquid y ps lg n) y n) (λ r.
-      ok (record { pressure = dewPressure y ps lg n; liquid = dewLiquid y ps lg n; iterations = iteration; residual = r; activity = a })))
+      bind (dewLiquid y ps lg n) (λ x.
+      bind (E x) (λ a.
+      bind (residualWith (a .lnGamma) ps (dewPressure y ps lg n) x y n) (λ r.
+      ok (record { pressure = dewPressure y ps lg n; liquid = x; iterations = iteration; residual = r; activity = a }))))
 
   -- from ln γ after `done` turns, with `left` turns left; 27 where none is left
   unfoldable pub dewLoop : List Float → Float → ℕ → ℕ → List Float → Out Dew

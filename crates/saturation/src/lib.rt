@@ -12,9 +12,10 @@ ghost use Rattle.numerics.specs.Numerics.{expOf, lnOf};
 ghost use Rattle.thermo_models.specs.Activity.{activityOn, activityOf};
 ghost use Rattle.thermo_models.specs.Domain.{pureLiquidsOf};
 ghost use Rattle.saturation.specs.Saturation.{partialOf, gapOf, residualWith, dewTerm, changeOf, bubbleAt, residual, dewTurn, dewPoint, dewAt, bubbleTask, dewTask, bubblePressure, dewPressurePoint};
-ghost use Rattle.saturation.specs.Answers.{bubbleAnswer, residualAnswer, Incipient, noDewTurn, dewTurnAnswer, dewAnswer, saturationAnswer};
+ghost use Rattle.saturation.specs.Answers.{bubbleAnswer, residualAnswer, incipientOf, noDewTurn, dewTurnAnswer, dewAnswer, saturationAnswer};
 use thermo_models::Tabled;
 use thermo_types::ActivityOptions;
+use thermo_types::Normalized;
 use thermo_types::Temperature;
 use thermo_types::Verdict;
 
@@ -29,6 +30,12 @@ pub struct BubblePoint {
 pub struct ResidualAnswer {
     pub verdict: Verdict,
     pub value: f64,
+}
+
+// Pressure in Pa, and the incipient liquid.
+struct IncipientLiquid {
+    pressure: f64,
+    liquid: Normalized,
 }
 
 // One turn of the dew iteration: the largest change of ln γ, and the new ln γ.
@@ -281,15 +288,18 @@ fn dew_terms(y: &[f64; 8], ps: &[f64; 8], lg: &[f64; 8], n: usize) -> [f64; 8]
     w
 }
 
-// The incipient liquid into x, and its pressure.
-fn incipient(y: &[f64; 8], ps: &[f64; 8], lg: &[f64; 8], n: usize, x: &mut [f64; 8]) -> f64
+// From the same terms the pressure, and the liquid (34).
+fn incipient(y: &[f64; 8], ps: &[f64; 8], lg: &[f64; 8], n: usize) -> IncipientLiquid
     requires { ⌜ n ≤ 8 ⌝ }
-    ensures { λ r. ⌜ Incipient (now (y .entry)) (now (ps .entry)) (now (lg .entry)) n r (now (x .exit)) ⌝ }
+    ensures { λ r. ⌜ r ≡ incipientOf (now (y .entry)) (now (ps .entry)) (now (lg .entry)) n ⌝ }
 {
     let w = dew_terms(y, ps, lg, n);
     let s = thermo_types::sum(&w, n);
-    *x = divided(&w, s, n);
-    1.0 / s
+    let x = thermo_types::normalize(&w, n);
+    IncipientLiquid {
+        pressure: 1.0 / s,
+        liquid: x,
+    }
 }
 
 fn larger_change(y: f64, new: f64, old: f64, r: f64) -> f64
@@ -314,7 +324,7 @@ fn largest_change(y: &[f64; 8], new: &[f64; 8], old: &[f64; 8], n: usize) -> f64
     r
 }
 
-// A turn from ln γ: what `activity` refuses at the incipient liquid, then 25 where change or pressure isn't finite.
+// A turn from ln γ: 34, what `activity` refuses at the incipient liquid, then 25 where change or pressure isn't finite.
 fn dew_turn(
     table: &[f64; 512],
     s: Tabled,
@@ -326,10 +336,16 @@ fn dew_turn(
     requires { ⌜ n ≤ 8 ⌝ }
     ensures { λ r. ⌜ r ≡ dewTurnAnswer (now (y .entry)) (now (lg .entry)) n (dewTurn (activityOn (now (table .entry)) s) (now (ps .entry)) n (now (y .entry)) (now (lg .entry))) ⌝ }
 {
-    let mut x = [0.0; 8];
+    let found = incipient(y, ps, lg, n);
+    let liquid = found.liquid;
+    let normal = liquid.verdict;
+    match normal {
+        Verdict::Refused(number) => return no_dew_turn(number),
+        Verdict::Passed => {}
+    }
+    let x = liquid.fractions;
     let mut new = [0.0; 8];
     let mut sl = [0.0; 8];
-    let p = incipient(y, ps, lg, n, &mut x);
     let verdict = thermo_models::activity(table, s, &x, &mut new, &mut sl);
     match verdict {
         Verdict::Refused(number) => return no_dew_turn(number),
@@ -339,7 +355,7 @@ fn dew_turn(
     if !floats::is_finite(r) {
         return no_dew_turn(25);
     }
-    if !floats::is_finite(p) {
+    if !floats::is_finite(found.pressure) {
         return no_dew_turn(25);
     }
     DewTurn {
@@ -362,22 +378,28 @@ fn dew_point(
     requires { ⌜ n ≤ 8 ⌝ }
     ensures { λ r. ⌜ r ≡ dewAnswer (dewPoint (activityOn (now (table .entry)) s) (now (ps .entry)) n (now (y .entry)) (now (lg .entry)) iteration) ⌝ }
 {
-    let mut x = [0.0; 8];
+    let found = incipient(y, ps, lg, n);
+    let liquid = found.liquid;
+    let normal = liquid.verdict;
+    match normal {
+        Verdict::Refused(number) => return no_dew(number),
+        Verdict::Passed => {}
+    }
+    let x = liquid.fractions;
     let mut new = [0.0; 8];
     let mut sl = [0.0; 8];
-    let p = incipient(y, ps, lg, n, &mut x);
     let verdict = thermo_models::activity(table, s, &x, &mut new, &mut sl);
     match verdict {
         Verdict::Refused(number) => return no_dew(number),
         Verdict::Passed => {}
     }
-    let r = residual_with(&new, ps, p, &x, y, n);
-    let found = r.verdict;
-    match found {
+    let r = residual_with(&new, ps, found.pressure, &x, y, n);
+    let finite = r.verdict;
+    match finite {
         Verdict::Refused(number) => no_dew(number),
         Verdict::Passed => DewPoint {
             verdict: Verdict::Passed,
-            pressure: p,
+            pressure: found.pressure,
             liquid: x,
             iterations: iteration,
             residual: r.value,
@@ -387,8 +409,8 @@ fn dew_point(
     }
 }
 
-// The dew point of y, by turns from ln γ = 0 until the change is within the tolerance: what `activity` refuses, 25, and 27
-// where the limit is used up.
+// The dew point of y, by turns from ln γ = 0 until the change is within the tolerance: 34, what `activity` refuses, 25, and
+// 27 where the limit is used up.
 pub fn dew_at(
     table: &[f64; 512],
     s: Tabled,
@@ -505,7 +527,7 @@ fn dew_pressure(
     }
 }
 
-// Dew pressure at T of the feed y: 22, 25, what `activity` refuses at an incipient liquid, 27, 23.
+// Dew pressure at T of the feed y: 22, 25, 34, what `activity` refuses at an incipient liquid, 27, 23.
 pub fn activity_dew_pressure(
     book: &[u8],
     parameters: &[f64; 384],

@@ -25,7 +25,7 @@ module _ (book question : List ℕ) {old : List ℕ} (l : length old ≡ answerR
       go (ok bs) q h u =
           let k : r ≡ length bs = e ∙ rw (h .bytes) (own-length book question answerRoom q (drop (length bs) old)) in
           record { fits = rw (h .bytes, k, length-append) (omega arith); front = rw (h .bytes, k, u) (take-at bs (drop (length bs) old) (length bs) refl) }
-      go (no m) q h u = absurd (omega (arith, h .number, refusals book question answerRoom .number m q .0))
+      go (no m) q h u = let n : m ≡ 0 = sym (h .number) ∙ z in absurd (rw n at (refusals book question answerRoom .number m q))
 
   pub sent-refusal : {rule : Rule} {mid new : List ℕ} → Answers (sheetOf book question (length old)) number old mid → (number ≡ 0 → ⊥) → rule ≡ ruleOf book
       → new ≡ stored mid 0 (refusalBytes rule question number) → Sent book question 512 new

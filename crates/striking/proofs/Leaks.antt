@@ -13,7 +13,7 @@ use Rattle.floats.specs.Fold.{foldTo, allTo}
 use Rattle.floats.specs.Vector.{at, fill, zeros8}
 use Rattle.floats.specs.Outcome.{Out, ok, bind, need, choose}
 use Rattle.numerics.specs.Numerics.{expOf, lnOf}
-use Rattle.thermo_types.specs.Composition.{sumsToOne, normalizeOf}
+use Rattle.thermo_types.specs.Composition.{sumsToOne, sharesOf, normalizeOf}
 use Rattle.thermo_types.specs.declared.ActivityOptions.{ActivityOptions}
 use Rattle.thermo_models.specs.Model.{Activity}
 use Rattle.rachford_rice.specs.Rachford.{Solution, residualOf, slopeOf, kMax, kMin, validate, turnOf, liquidPart, vaporPart, solutionAt, iterate, between, negative}
@@ -181,7 +181,7 @@ same-pressures = two (λ i. at pressures i ≡ at pressures' (cnt keep i)) refl 
 -- two turns with the longer book, one with the shorter
 pub split-leaks : SplitLaw leakySplit → ⊥
 unfolding cnt leakySplit leakyChange ideal dilute kValues phaseOf splitGap turnAt splitTurn expOf lnOf ofBits add sub mul div neg lt le eq isNan ofInt toSigned size isFinite
-    foldTo allTo fill bind need choose sumsToOne normalizeOf residualOf slopeOf kMax kMin validate turnOf liquidPart vaporPart solutionAt iterate between negative
+    foldTo allTo fill bind need choose sumsToOne sharesOf normalizeOf residualOf slopeOf kMax kMin validate turnOf liquidPart vaporPart solutionAt iterate between negative
 split-leaks law =
     subst (λ (c : ℕ). T (eqb c 2))
     (law keep 4 (omega arith) dilute ideal same-model pressures pressures' same-pressures 1f feed feed' fractions same-feed 1f 2 0 zeros8 zeros8 ln-zero .says .iterations) tt

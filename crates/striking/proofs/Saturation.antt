@@ -26,7 +26,7 @@ use Rattle.striking.proofs.Strike.{strike-fold}
 use Rattle.striking.proofs.Acc.{acc-bind, acc-need, acc-if, acc-ok, acc-no}
 use Rattle.striking.proofs.Excess.{isFinite-≈}
 use Rattle.striking.proofs.Active.{gone-not-pos, cond-off, cond-fit, zero-cond, max-≈, strike-active, cong2}
-use Rattle.striking.proofs.Vectors.{zeros-kept, parts-sum, parts-fractions, strike-normalize}
+use Rattle.striking.proofs.Vectors.{SameFractions, zeros-kept, parts-sum, parts-fractions, strike-normalize}
 
 pub record SameBubble (keep : ℕ → Bool) (n : ℕ) (a b : Bubble) : Type 0 where
   pub pressure : a .pressure ≡ b .pressure
@@ -117,16 +117,17 @@ module _ (keep : ℕ → Bool) (n : ℕ) (small : n ≤ 8) (ps ps' : List Float)
         unfolding dewPressure
         same-dewPressure = ap (λ (s : Float). 1f ⊘ s) (parts-sum keep n small (dewTerm y ps lg) (dewTerm y' ps' lg') (term-fits y ps lg) (term-fits y' ps' lg') term-kept term-gone)
 
-        same-dewLiquid : Fractions keep n (at (dewLiquid y ps lg n)) (at (dewLiquid y' ps' lg' (cnt keep n)))
+        strike-dewLiquid : Acc (SameFractions keep n) (dewLiquid y ps lg n) (dewLiquid y' ps' lg' (cnt keep n))
         unfolding dewLiquid
-        same-dewLiquid = strike-normalize keep n small (dewTerm y ps lg) (dewTerm y' ps' lg') (term-fits y ps lg) (term-fits y' ps' lg') term-kept term-gone
+        strike-dewLiquid = strike-normalize keep n small (dewTerm y ps lg) (dewTerm y' ps' lg') (term-fits y ps lg) (term-fits y' ps' lg') term-kept term-gone
 
         strike-dewPoint : (iteration : ℕ) → Acc (SameDew keep n) (dewPoint E ps n y lg iteration) (dewPoint E' ps' (cnt keep n) y' lg' iteration)
         unfolding dewPoint
         strike-dewPoint iteration =
-            acc-bind (SameActivity keep n) _ _ _ _ (hE _ _ same-dewLiquid) (λ a a' ha.
-            acc-bind _≈_ _ _ _ _ (strike-residualWith (a .lnGamma) (a' .lnGamma) (ha .lnGamma) _ _ same-dewPressure _ _ y y' same-dewLiquid hy) (λ r r' hr.
-            acc-ok (record { pressure = same-dewPressure; liquid = same-dewLiquid; iterations = refl; residual = hr; activity = ha })))
+            acc-bind (SameFractions keep n) _ _ _ _ strike-dewLiquid (λ x x' hx.
+            acc-bind (SameActivity keep n) _ _ _ _ (hE x x' hx) (λ a a' ha.
+            acc-bind _≈_ _ _ _ _ (strike-residualWith (a .lnGamma) (a' .lnGamma) (ha .lnGamma) _ _ same-dewPressure x x' y y' hx hy) (λ r r' hr.
+            acc-ok (record { pressure = same-dewPressure; liquid = hx; iterations = refl; residual = hr; activity = ha }))))
 
         same-change : (new new' : List Float) → ((i : ℕ) → i < n → T (keep i) → at new i ≈ at new' (cnt keep i)) → changeOf y new lg n ≈ changeOf y' new' lg' (cnt keep n)
         unfolding changeOf
@@ -135,10 +136,11 @@ module _ (keep : ℕ → Bool) (n : ℕ) (small : n ≤ 8) (ps ps' : List Float)
         strike-dewTurn : Acc (SameActivity keep n) (dewTurn E ps n y lg) (dewTurn E' ps' (cnt keep n) y' lg')
         unfolding dewTurn
         strike-dewTurn =
-            acc-bind (SameActivity keep n) _ _ _ _ (hE _ _ same-dewLiquid) (λ a a' ha.
+            acc-bind (SameFractions keep n) _ _ _ _ strike-dewLiquid (λ x x' hx.
+            acc-bind (SameActivity keep n) _ _ _ _ (hE x x' hx) (λ a a' ha.
             acc-need _ _ 25 _ _ (λ h. subst T (isFinite-≈ (same-change (a .lnGamma) (a' .lnGamma) (ha .lnGamma))) h) (λ b.
             acc-need _ _ 25 _ _ (λ h. subst (λ (s : Float). T (isFinite s)) same-dewPressure h) (λ c.
-            acc-ok ha)))
+            acc-ok ha))))
 
       strike-dewLoop : (tolerance : Float) (left done : ℕ) (lg lg' : List Float) → ((i : ℕ) → i < n → T (keep i) → at lg i ≈ at lg' (cnt keep i))
           → Acc (SameDew keep n) (dewLoop E ps n y tolerance left done lg) (dewLoop E' ps' (cnt keep n) y' tolerance left done lg')

@@ -24,7 +24,7 @@ use Rattle.striking.proofs.Strike.{strike-fold}
 use Rattle.striking.proofs.Acc.{acc-bind, acc-need, acc-if, acc-ok, acc-no}
 use Rattle.striking.proofs.Excess.{isFinite-≈}
 use Rattle.striking.proofs.Active.{gone-not-pos, cond-fit, zero-cond, max-≈, strike-active, cong2}
-use Rattle.striking.proofs.Vectors.{vec-kept, strike-normalize}
+use Rattle.striking.proofs.Vectors.{SameFractions, vec-kept, strike-normalize}
 use Rattle.striking.proofs.Rice.{strike-negative}
 use Rattle.striking.proofs.Saturation.{same-gapAt}
 use Rattle.striking.proofs.Sizes.{Size, size-zero, size-max, max-gone, gone-abs}
@@ -63,9 +63,9 @@ module _ (keep : ℕ → Bool) (n : ℕ) (small : n ≤ 8) (E E' : List Float �
       vec-kept keep n (λ (a b : Float). a ≡ b) _ _ small
       (λ i l q. cong2 (λ (b : Bool) (e : Float). cond b e 1f) (lt-≈ (≈refl 0f) (hz .fraction i l q)) (exp-≈ _ _ (sub-≈ (add-≈ (hl i l q) (same (ap lnOf (hps i l q)))) (≈refl (lnOf p)))))
 
-  same-phase : (l l' : List Float) → Fractions keep n (at l) (at l') → Fractions keep n (at (phaseOf z l n)) (at (phaseOf z' l' (cnt keep n)))
+  strike-phase : (l l' : List Float) → Fractions keep n (at l) (at l') → Acc (SameFractions keep n) (phaseOf z l n) (phaseOf z' l' (cnt keep n))
   unfolding phaseOf
-  same-phase l l' h =
+  strike-phase l l' h =
       strike-normalize keep n small (λ i. cond (lt 0f (at z i)) (at l i) 0f) (λ i. cond (lt 0f (at z' i)) (at l' i) 0f)
       (λ i. cond-fit (lt 0f (at z i)) _ (h .fit i)) (λ i. cond-fit (lt 0f (at z' i)) _ (h .fit' i))
       (λ i m q. pick-≈ _ _ (lt-≈ (≈refl 0f) (hz .fraction i m q)) (h .fraction i m q) (≈refl 0f))
@@ -80,12 +80,12 @@ module _ (keep : ℕ → Bool) (n : ℕ) (small : n ≤ 8) (E E' : List Float �
   unfolding splitTurn turnAt
   strike-splitTurn lg lg' hl iteration =
       acc-bind (SameSolution keep n) _ _ _ _ (strike-negative keep n small (at z) (at z') (at (kValues z ps p lg n)) (at (kValues z' ps' p lg' (cnt keep n))) hz ez (same-k lg lg' hl) riceLimit) (λ rr rr' hr.
-      let hx = same-phase (rr .liquid) (rr' .liquid) (hr .liquid) in
-      let hy = same-phase (rr .vapor) (rr' .vapor) (hr .vapor) in
-      acc-bind (SameActivity keep n) _ _ _ _ (hE _ _ hx) (λ a a' ha.
-      let g = same-splitGap (a .lnGamma) (a' .lnGamma) (ha .lnGamma) _ _ _ _ hx hy in
+      acc-bind (SameFractions keep n) _ _ _ _ (strike-phase (rr .liquid) (rr' .liquid) (hr .liquid)) (λ x x' hx.
+      acc-bind (SameFractions keep n) _ _ _ _ (strike-phase (rr .vapor) (rr' .vapor) (hr .vapor)) (λ y y' hy.
+      acc-bind (SameActivity keep n) _ _ _ _ (hE x x' hx) (λ a a' ha.
+      let g = same-splitGap (a .lnGamma) (a' .lnGamma) (ha .lnGamma) x x' y y' hx hy in
       acc-need _ _ 25 _ _ (λ h. subst T (isFinite-≈ g) h) (λ f.
-      acc-ok (record { split = record { vaporFraction = hr .vaporFraction; liquid = hx; vapor = hy; residual = g; iterations = refl }; activity = ha }))))
+      acc-ok (record { split = record { vaporFraction = hr .vaporFraction; liquid = hx; vapor = hy; residual = g; iterations = refl }; activity = ha }))))))
 
   pub strike-split : (tolerance : Float) (left done : ℕ) (lg lg' : List Float) → ((i : ℕ) → i < n → T (keep i) → at lg i ≈ at lg' (cnt keep i))
       → Acc (SameSplit keep n) (splitFrom E ps n p z tolerance left done lg) (splitFrom E' ps' (cnt keep n) p z' tolerance left done lg')

@@ -2,16 +2,17 @@
 use mathlib.Core.Path.{_≡_, sym, subst}
 use Prim.Native.Nat.{ℕ, zero, suc, _≤_, _<_}
 use native.Mathlib.Nat.{le-trans}
-use mathlib.Core.Bool.{Bool, not}
+use mathlib.Core.Bool.{Bool, not, _&&_}
 use mathlib.Core.List.{List, [], _∷_}
 use lib.ListN.{set, replicate, getD-replicate}
 use lib.Dec.{T}
-use lib.Ieee.{Float, nan, binary64, fits, ofBits}
+use lib.Ieee.{Float, nan, binary64, fits, lt, ofBits}
 use lib.Ieee.Fits.{div-fits}
 use Rattle.floats.specs.Arithmetic.{_⊘_, 0f}
+use Rattle.floats.specs.Small.{isFinite}
 use Rattle.floats.specs.Fold.{sumTo}
 use Rattle.floats.specs.Vector.{at, vec, fill, zeros8}
-use Rattle.thermo_types.specs.Composition.{normalizeOf}
+use Rattle.thermo_types.specs.Composition.{sharesOf, normalizeOf}
 use Rattle.floats.proofs.Fills.{vec-at}
 use Rattle.zeros.specs.Same.{_≈_}
 use Rattle.zeros.proofs.Congruence.{≈refl, div-≈}
@@ -19,9 +20,15 @@ use Rattle.zeros.proofs.Zero.{Zero}
 use Rattle.zeros.specs.Below.{_⊑_}
 use Rattle.zeros.proofs.Below.{⊑-refl, gone, gone-div}
 use Rattle.striking.specs.Places.{cnt}
+use Rattle.striking.specs.Accepted.{Acc}
 use Rattle.striking.specs.Related.{Fractions}
+use Rattle.striking.proofs.Acc.{acc-ok, acc-need}
 use Rattle.striking.proofs.Strike.{cnt-lt, strike-sum≡}
 use Rattle.striking.proofs.Excess.{cnt-le}
+
+-- fractions in arrays
+abbrev pub SameFractions : (ℕ → Bool) → ℕ → List Float → List Float → Type 0
+SameFractions keep n x x' = Fractions keep n (at x) (at x')
 
 fits-set : (l : List Float) (k : ℕ) (v : Float) → ((i : ℕ) → T (fits binary64 (at l i))) → T (fits binary64 v) → (i : ℕ) → T (fits binary64 (at (set l k v) i))
 fits-set [] k v h p i = h i
@@ -92,7 +99,7 @@ module _ (keep : ℕ → Bool) (n : ℕ) (small : n ≤ 8) where
     pub parts-fractions : Fractions keep n (at (vec (λ i. f i ⊘ sumTo f n) n)) (at (vec (λ i. f' i ⊘ sumTo f' (cnt keep n)) (cnt keep n)))
     parts-fractions = vec-fractions keep n _ _ small parts-share
 
-    -- `normalize`
-    pub strike-normalize : Fractions keep n (at (normalizeOf f n)) (at (normalizeOf f' (cnt keep n)))
-    unfolding normalizeOf
-    strike-normalize = parts-fractions
+    -- `normalize`: one sum in both books, so that 34 is met in both or in neither
+    pub strike-normalize : Acc (SameFractions keep n) (normalizeOf f n) (normalizeOf f' (cnt keep n))
+    unfolding normalizeOf sharesOf
+    strike-normalize = acc-need _ _ 34 _ _ (λ h. subst (λ (s : Float). T (isFinite s && lt 0f s)) parts-sum h) (λ h. acc-ok parts-fractions)

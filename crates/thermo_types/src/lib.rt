@@ -1,17 +1,24 @@
 // Typed quantities and mole fractions (thermo-types). Each function equals its definition in specs/.
 ghost use mathlib.Core.Path.{_≡_};
 ghost use Prim.Native.Nat.{_≤_};
+ghost use Rattle.floats.specs.Arithmetic.{_⊘_};
 ghost use Rattle.floats.specs.Fold.{sumTo};
-ghost use Rattle.floats.specs.Vector.{at, places};
+ghost use Rattle.floats.specs.Vector.{at, vec, places};
 ghost use Rattle.floats.specs.Outcome.{ok};
-ghost use Rattle.thermo_types.specs.Verdicts.{verdictOf};
+ghost use Rattle.thermo_types.specs.Verdicts.{verdictOf, normalizedAnswer};
 ghost use Rattle.thermo_types.specs.Quantities.{positiveOf, newTemperature, newPressure};
-ghost use Rattle.thermo_types.specs.Composition.{allFinite, noneNegative, allPositive, sumsToOne, withFractions, normalizeOf};
+ghost use Rattle.thermo_types.specs.Composition.{allFinite, noneNegative, allPositive, sumsToOne, withFractions, sharesOf, normalizeOf};
 
 // Passed, or refused with the number of the question that was answered no.
 pub enum Verdict {
     Passed,
     Refused(u64),
+}
+
+// Mole fractions that sum to 1; zeros where they are refused.
+pub struct Normalized {
+    pub verdict: Verdict,
+    pub fractions: [f64; 8],
 }
 
 // Kelvin. The field is private: `new` alone makes one.
@@ -178,11 +185,11 @@ pub fn with_fractions(x: &[f64; 8], n: usize) -> Verdict
     Verdict::Passed
 }
 
-fn shares(x: &[f64; 8], n: usize) -> [f64; 8]
+// Each of the first n entries over s.
+fn divided(x: &[f64; 8], s: f64, n: usize) -> [f64; 8]
     requires { ⌜ n ≤ 8 ⌝ }
-    ensures { λ r. ⌜ r ≡ normalizeOf (at (now (x .entry))) n ⌝ }
+    ensures { λ r. ⌜ r ≡ vec (λ i. at (now (x .entry)) i ⊘ s) n ⌝ }
 {
-    let s = total(x, n);
     let mut y = [0.0; 8];
     for i in 0..n {
         y[i] = x[i] / s;
@@ -190,9 +197,32 @@ fn shares(x: &[f64; 8], n: usize) -> [f64; 8]
     y
 }
 
-// Each of the first n entries over their sum, 0.0 past them.
-pub fn normalize(x: &[f64; 8], n: usize) -> [f64; 8]
-    ensures { λ r. ⌜ r ≡ normalizeOf (at (now (x .entry))) (places n) ⌝ }
+// Each of the first n entries over their sum, whatever that is; 0.0 past them.
+pub fn shares(x: &[f64; 8], n: usize) -> [f64; 8]
+    ensures { λ r. ⌜ r ≡ sharesOf (at (now (x .entry))) (places n) ⌝ }
 {
-    shares(x, floats::places(n))
+    let m = floats::places(n);
+    let s = total(x, m);
+    divided(x, s, m)
+}
+
+// The shares of a sum that is finite and positive, else 34.
+pub fn normalize(x: &[f64; 8], n: usize) -> Normalized
+    ensures { λ r. ⌜ r ≡ normalizedAnswer (normalizeOf (at (now (x .entry))) (places n)) ⌝ }
+{
+    let m = floats::places(n);
+    let s = total(x, m);
+    if floats::is_finite(s) & (0.0 < s) {
+        let y = divided(x, s, m);
+        Normalized {
+            verdict: Verdict::Passed,
+            fractions: y,
+        }
+    } else {
+        let zeros = [0.0; 8];
+        Normalized {
+            verdict: Verdict::Refused(34),
+            fractions: zeros,
+        }
+    }
 }

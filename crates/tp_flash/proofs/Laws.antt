@@ -15,16 +15,17 @@ use Rattle.floats.proofs.Folds.{was-no, was-yes}
 use Rattle.floats.proofs.Fills.{fill-at}
 use Rattle.floats.proofs.Outcomes.{bind-yes, bind-no, need-yes, need-no, choose-yes, choose-no}
 use Rattle.thermo_types.specs.Composition.{normalizeOf, withFractions}
-use Rattle.thermo_types.specs.Verdicts.{verdictOf}
+use Rattle.thermo_types.specs.Verdicts.{verdictOf, normalizedAnswer}
+use Rattle.thermo_types.specs.declared.Normalized.{Normalized}
 use Rattle.thermo_types.specs.declared.Verdict.{Verdict}
 use Rattle.thermo_types.specs.declared.Verdict.the-variants.{Passed, Refused}
 use Rattle.thermo_types.specs.declared.ActivityOptions.{ActivityOptions}
 use Rattle.thermo_types.proofs.Passing.{fractions-passed, fractions-refused}
+use Rattle.thermo_types.proofs.Normalizing.{normalize-cong, normalized-passed, normalized-refused}
 use Rattle.thermo_models.specs.Model.{Activity, Activities, Liquids, ActivityIs, PuresAre, pressureInDomain}
 use Rattle.thermo_models.proofs.Answers.{activity-passed, activity-refused, pures-passed, pures-refused}
 use Rattle.rachford_rice.specs.Rachford.{Solution, negative, splitOf, twoPhase, refusedWith}
 use Rattle.rachford_rice.specs.declared.RachfordRice.{RachfordRice}
-use Rattle.rachford_rice.proofs.Laws.{normalize-cong}
 use Rattle.rachford_rice.proofs.Answers.{split-no}
 use Rattle.saturation.specs.Saturation.{Dew, bubbleAt}
 use Rattle.saturation.specs.Answers.{bubbleAnswer, dewAnswer}
@@ -43,10 +44,10 @@ use Rattle.tp_flash.specs.declared.DewPressure.{DewPressure}
 use Rattle.tp_flash.specs.declared.ActivityTpFlash.{ActivityTpFlash}
 
 -- ---- a phase of the split
-pub phase-is : (z l : List Float) (n : ℕ) {w r : List Float} → n ≤ 8 → w ≡ vec (λ i. cond (lt 0f (at z i)) (at l i) 0f) n → r ≡ normalizeOf (at w) n
-    → r ≡ phaseOf z l n
+pub phase-is : (z l : List Float) (n : ℕ) {w : List Float} {r : Normalized} → n ≤ 8 → w ≡ vec (λ i. cond (lt 0f (at z i)) (at l i) 0f) n → r ≡ normalizedAnswer (normalizeOf (at w) n)
+    → r ≡ normalizedAnswer (phaseOf z l n)
 unfolding phaseOf
-phase-is z l n h e q = q ∙ normalize-cong n (λ k b. ap (λ (m : List Float). at m k) e ∙ fill-at _ n zeros8 nan k h b)
+phase-is z l n h e q = q ∙ ap normalizedAnswer (normalize-cong n (λ k b. ap (λ (m : List Float). at m k) e ∙ fill-at _ n zeros8 nan k h b))
 
 -- ---- what a verdict tells of the outcome behind it
 pub split-point-no : (o : Out Split) {s : SplitPoint} {m : ℕ} → s ≡ splitAnswer o → s .verdict ≡ Refused m → o ≡ no m
@@ -110,11 +111,24 @@ module _ (E : List Float → Out Activity) (ps : List Float) (n : ℕ) (p : Floa
     unfolding splitTurn
     rice-refused q e = rw (bind-no _ (split-no _ given q)) e
 
-    pub rice-two : {b : Float} {x y : List Float} {r : SplitTurn} → rr .verdict ≡ Passed → b ≡ fractionIn (rr .outcome) → x ≡ phaseOf z (rr .liquid) n
-        → y ≡ phaseOf z (rr .vapor) n
-        → r ≡ splitTurnAnswer (turnAt E ps n p z b x y iteration) → r ≡ splitTurnAnswer (splitTurn E ps n p z lg iteration)
-    unfolding splitTurn
-    rice-two q eb ex ey e = rw (two-is (λ β l v. turnAt E ps n p z β (phaseOf z l n) (phaseOf z v n) iteration) _ given q, ← eb, ← ex, ← ey) e
+    module _ (q : rr .verdict ≡ Passed) where
+      phases : splitTurn E ps n p z lg iteration
+          ≡ bind (phaseOf z (rr .liquid) n) (λ x. bind (phaseOf z (rr .vapor) n) (λ y. turnAt E ps n p z (fractionIn (rr .outcome)) x y iteration))
+      unfolding splitTurn
+      phases = two-is (λ β l v. bind (phaseOf z l n) (λ x. bind (phaseOf z v n) (λ y. turnAt E ps n p z β x y iteration))) _ given q
+
+      -- x and y are the code's phases
+      module _ {x : Normalized} (ex : x ≡ normalizedAnswer (phaseOf z (rr .liquid) n)) {r : SplitTurn} where
+        pub liquid-vanished : {m : ℕ} → x .verdict ≡ Refused m → r ≡ splitTurnAnswer (no m) → r ≡ splitTurnAnswer (splitTurn E ps n p z lg iteration)
+        liquid-vanished u e = rw (phases, bind-no _ (normalized-refused _ ex u)) e
+
+        module _ (u : x .verdict ≡ Passed) {y : Normalized} (ey : y ≡ normalizedAnswer (phaseOf z (rr .vapor) n)) where
+          pub vapor-vanished : {m : ℕ} → y .verdict ≡ Refused m → r ≡ splitTurnAnswer (no m) → r ≡ splitTurnAnswer (splitTurn E ps n p z lg iteration)
+          vapor-vanished v e = rw (phases, bind-yes _ (normalized-passed _ ex u), bind-no _ (normalized-refused _ ey v)) e
+
+          pub rice-two : {b : Float} → y .verdict ≡ Passed → b ≡ fractionIn (rr .outcome)
+              → r ≡ splitTurnAnswer (turnAt E ps n p z b (x .fractions) (y .fractions) iteration) → r ≡ splitTurnAnswer (splitTurn E ps n p z lg iteration)
+          rice-two v eb e = rw (phases, bind-yes _ (normalized-passed _ ex u), bind-yes _ (normalized-passed _ ey v), ← eb) e
 
 -- ---- the iteration of the split
 module _ (tolerance : Float) {turn : SplitTurn} where

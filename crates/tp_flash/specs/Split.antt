@@ -32,8 +32,8 @@ riceLimit = 200
 unfoldable pub kValues : List Float → List Float → Float → List Float → ℕ → List Float
 kValues z ps p lg n = vec (λ i. cond (lt 0f (at z i)) (expOf (at lg i ⊕ lnOf (at ps i) ⊖ lnOf p)) 1f) n
 
--- the entries of a phase at positive z_i, 0 elsewhere, over their sum
-unfoldable pub phaseOf : List Float → List Float → ℕ → List Float
+-- the entries of a phase at positive z_i, 0 elsewhere, brought to a sum of 1 (34)
+unfoldable pub phaseOf : List Float → List Float → ℕ → Out (List Float)
 phaseOf z l n = normalizeOf (λ i. cond (lt 0f (at z i)) (at l i) 0f) n
 
 -- the largest gap of ln fugacities where z is positive; a NaN is passed over
@@ -64,7 +64,9 @@ module _ (E : List Float → Out Activity) (ps : List Float) (n : ℕ) (p : Floa
   unfoldable pub splitTurn : List Float → ℕ → Out Turn
   splitTurn lg iteration =
       bind (negative (at z) (at (kValues z ps p lg n)) n riceLimit) (λ rr.
-      turnAt (rr .vaporFraction) (phaseOf z (rr .liquid) n) (phaseOf z (rr .vapor) n) iteration)
+      bind (phaseOf z (rr .liquid) n) (λ x.
+      bind (phaseOf z (rr .vapor) n) (λ y.
+      turnAt (rr .vaporFraction) x y iteration)))
 
   -- from ln γ after `done` turns, with `left` turns left; 27 where none is left
   unfoldable pub splitFrom : Float → ℕ → ℕ → List Float → Out Split

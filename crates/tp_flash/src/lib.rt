@@ -8,6 +8,7 @@ ghost use Rattle.floats.specs.Small.{maxOf, absOf};
 ghost use Rattle.floats.specs.Vector.{places};
 ghost use Rattle.floats.specs.Outcome.{ok, no};
 ghost use Rattle.numerics.specs.Numerics.{expOf, lnOf};
+ghost use Rattle.thermo_types.specs.Verdicts.{normalizedAnswer};
 ghost use Rattle.thermo_models.specs.Activity.{activityOn, activityOf};
 ghost use Rattle.thermo_models.specs.Domain.{pureLiquidsOf, temperatureInDomain};
 ghost use Rattle.tp_flash.specs.Split.{kValues, phaseOf, splitGap, balanceOf, turnAt, splitTurn, splitFrom};
@@ -18,6 +19,7 @@ use liquid_stability::LiquidStabilityTrial;
 use rachford_rice::RachfordRiceOutcome;
 use thermo_models::Tabled;
 use thermo_types::ActivityOptions;
+use thermo_types::Normalized;
 use thermo_types::Pressure;
 use thermo_types::Temperature;
 use thermo_types::Verdict;
@@ -108,9 +110,9 @@ fn present_part(z: f64, l: f64) -> f64
     if z > 0.0 { l } else { 0.0 }
 }
 
-// The entries of a phase where the feed is positive, over their sum.
-fn phase_of(z: &[f64; 8], l: &[f64; 8], n: usize) -> [f64; 8]
-    ensures { λ r. ⌜ r ≡ phaseOf (now (z .entry)) (now (l .entry)) (places n) ⌝ }
+// The entries of a phase where the feed is positive, over their sum (34).
+fn phase_of(z: &[f64; 8], l: &[f64; 8], n: usize) -> Normalized
+    ensures { λ r. ⌜ r ≡ normalizedAnswer (phaseOf (now (z .entry)) (now (l .entry)) (places n)) ⌝ }
 {
     let m = floats::places(n);
     let mut w = [0.0; 8];
@@ -261,13 +263,23 @@ fn split_turn(
     if let Verdict::Refused(number) = verdict {
         return no_split_turn(number);
     }
+    let liquid = rr.liquid;
+    let x = phase_of(z, &liquid, at.n);
+    let liquid_verdict = x.verdict;
+    if let Verdict::Refused(number) = liquid_verdict {
+        return no_split_turn(number);
+    }
+    let vapor = rr.vapor;
+    let y = phase_of(z, &vapor, at.n);
+    let vapor_verdict = y.verdict;
+    if let Verdict::Refused(number) = vapor_verdict {
+        return no_split_turn(number);
+    }
     let outcome = rr.outcome;
     let beta = vapor_fraction(outcome);
-    let liquid = rr.liquid;
-    let vapor = rr.vapor;
-    let x = phase_of(z, &liquid, at.n);
-    let y = phase_of(z, &vapor, at.n);
-    turn_at(table, at, z, p, ps, beta, x, y, iteration)
+    let xs = x.fractions;
+    let ys = y.fractions;
+    turn_at(table, at, z, p, ps, beta, xs, ys, iteration)
 }
 
 // The iteration ends at a refusal, or where the gap is within the tolerance.

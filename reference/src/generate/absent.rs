@@ -90,7 +90,7 @@ fn feed(rng: &mut Rng, n: usize) -> Vec<f64> {
         }
         if kept.len() > 1 && rng.one_in(10) {
             x[kept[0]] = 0.0;
-            x = helpers::normalize(x);
+            x = helpers::shares(x);
             x[kept[0]] = rng.decade(-323.0, -290.0);
         }
         return x;

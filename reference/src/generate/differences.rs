@@ -1,7 +1,7 @@
 //! The inputs that docs/DIFFERENCES.md names, with what it says of each. They are compared before any others and stored for
 //! the replay.
 
-use super::small::{blocks, book, bytes, put, Ask};
+use super::small::{blocks, book, bytes, constant, put, Ask};
 use crate::helpers::WRITTEN_NAN;
 use crate::sheet::blocks::{words_of, Words};
 use crate::sheet::ANSWER_BYTES;
@@ -51,7 +51,7 @@ impl Difference {
 
 /// In the order of the page.
 pub fn all() -> Vec<Difference> {
-    [books(), nrtl(), rachford_rice(), michelsen(), solvers()].into_iter().flatten().collect()
+    [books(), nrtl(), rachford_rice(), michelsen(), solvers(), vanishing()].into_iter().flatten().collect()
 }
 
 pub fn cases() -> Vec<Case> {
@@ -168,6 +168,15 @@ fn solvers() -> Vec<Difference> {
         dew(10).refused(27),
         struck(10),
     ]
+}
+
+/// Dew points whose terms y_i / (γ_i p_i^sat) are infinite, or have a sum that is; the last with an alpha that 24 would refuse.
+fn vanishing() -> Vec<Difference> {
+    let dew = |all: &[Words]| Difference::new(bytes(all), Ask::new(3, &[0.5, 0.5])).refused(34);
+    let small = |pressure| constant(&[pressure, pressure], [0.0, 0.0]);
+    let mut bad_alpha = small(1e-315);
+    put(&mut bad_alpha[3], 11, &[-1.0, 0.0, -1.0, 0.0]);
+    vec![dew(&small(1e-315)), dew(&small(4.5e-309)), dew(&bad_alpha)]
 }
 
 /// Task 5 with an absent solvent that shows. At 350 K its ln γ has the slope −0.9985 and its ln p the slope −0.0029 times

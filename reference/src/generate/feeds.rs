@@ -29,7 +29,7 @@ pub fn feed_with(rng: &mut Rng, n: usize, absent: Absent) -> Vec<f64> {
         Absent::AllButOne => i != kept,
     };
     let amounts = (0..n).map(|i| if gone(rng, i) { 0.0 } else { amount(rng) }).collect();
-    let x = if rng.one_in(8) { near(rng, amounts, kept) } else { helpers::normalize(amounts) };
+    let x = if rng.one_in(8) { near(rng, amounts, kept) } else { helpers::shares(amounts) };
     with_zeros(rng, x)
 }
 
@@ -41,7 +41,7 @@ fn amount(rng: &mut Rng) -> f64 {
 /// All but a trace of one solvent.
 fn near(rng: &mut Rng, amounts: Vec<f64>, main: usize) -> Vec<f64> {
     let trace = rng.decade(-16.0, -3.0);
-    let mut x = helpers::normalize(amounts);
+    let mut x = helpers::shares(amounts);
     x.iter_mut().for_each(|v| *v *= trace);
     x[main] = 0.0;
     x[main] = 1.0 - helpers::sum(&x);

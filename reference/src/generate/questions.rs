@@ -68,7 +68,7 @@ pub fn without(rng: &mut Rng, book: &Book, task: u64, absent: usize) -> Draft {
     let mut feed = feeds::feed_with(rng, n, Absent::None);
     if n > 1 {
         feed[absent] = 0.0;
-        feed = helpers::normalize(feed);
+        feed = helpers::shares(feed);
         feed[absent] = rng.pick(&[0.0, -0.0]);
     }
     with_feed(rng, book, task, &feed)
@@ -80,7 +80,7 @@ pub fn with_trace(rng: &mut Rng, book: &Book, task: u64, trace: usize) -> Draft 
     let mut feed = feeds::feed_with(rng, n, Absent::None);
     if n > 1 {
         feed[trace] = 0.0;
-        feed = helpers::normalize(feed);
+        feed = helpers::shares(feed);
         feed[trace] = rng.decade(-323.0, -290.0);
     }
     with_feed(rng, book, task, &feed)

@@ -24,7 +24,7 @@ fn beside_pole(rng: &mut Rng, n: usize) -> (Vec<f64>, Vec<f64>) {
     let k = (0..n).map(|i| if (i == lone) == light { above(rng) } else { 1.0 / above(rng) }).collect();
     let mut z = vec![1.0; n];
     z[lone] = 0.0;
-    z = helpers::normalize(z);
+    z = helpers::shares(z);
     z[lone] = rng.decade(-19.0, -14.0);
     (z, k)
 }

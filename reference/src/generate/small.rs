@@ -48,6 +48,15 @@ pub fn blocks(reducing: &[f64], tau: [f64; 2]) -> Vec<Words> {
     all
 }
 
+/// As `blocks`, with vapor pressures (Pa) that are the same at every temperature.
+pub fn constant(pressures: &[f64], tau: [f64; 2]) -> Vec<Words> {
+    let mut all = blocks(pressures, tau);
+    for words in &mut all[1..=pressures.len()] {
+        put(words, 8, &[0.0]);
+    }
+    all
+}
+
 pub fn bytes(blocks: &[Words]) -> Vec<u8> {
     blocks.iter().flat_map(|words| sealed(*words)).collect()
 }

@@ -10,11 +10,11 @@ liquid-parts-requires c κs = search needs
 vapor-parts-requires : tie.Need-vapor-parts-requires
 vapor-parts-requires c κs = search needs
 
-normalize-requires : tie.Need-normalize-requires
-normalize-requires c κs = search needs
+shares-requires : tie.Need-shares-requires
+shares-requires c κs = search needs
 
-normalize-requires-2 : tie.Need-normalize-requires-2
-normalize-requires-2 c κs = search needs
+shares-requires-2 : tie.Need-shares-requires-2
+shares-requires-2 c κs = search needs
 
 rachford-rice-residual-requires : tie.Need-rachford-rice-residual-requires
 rachford-rice-residual-requires c κs = search needs
@@ -30,9 +30,9 @@ solution-spec =
     tie.close
     (tie.spec
     liquid-parts-requires
-    normalize-requires
+    shares-requires
     vapor-parts-requires
-    normalize-requires-2
+    shares-requires-2
     rachford-rice-residual-requires
     abs-requires
     returns)

@@ -10,11 +10,11 @@ dew-terms-requires c κs = search needs
 sum-requires : tie.Need-sum-requires
 sum-requires c κs = search needs
 
-divided-requires : tie.Need-divided-requires
-divided-requires c κs = search needs
+normalize-requires : tie.Need-normalize-requires
+normalize-requires c κs = search needs
 
 returns : tie.Need-returns
 returns c = search incipient-is
 
 pub incipient-spec : {M : Type 1} → statement M
-incipient-spec = tie.close (tie.spec dew-terms-requires sum-requires divided-requires returns)
+incipient-spec = tie.close (tie.spec dew-terms-requires sum-requires normalize-requires returns)
