@@ -9,13 +9,6 @@ from .answer import LIQUID, TRIAL_COMPONENT, TRIAL_FRACTIONS, TRIALS, VAPOR, Blo
 from .blocks import Words, float_of, joined, sealed, split
 from .book import due_pairs
 
-WHY_NOT_DEW_TEMPERATURE = (
-    "Dew temperature is left out of the promise: its search adds zero times an absent solvent's derivative to the "
-    "slope. Where that derivative is infinite the "
-    "product is a NaN, the Newton step is dropped, and a solvent that isn't in the drum changes the steps of the "
-    "search."
-)
-
 
 def kept_places(fractions: Sequence[float]) -> List[int]:
     """A solvent is absent if its fraction is +0 or -0, otherwise kept."""

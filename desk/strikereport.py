@@ -9,8 +9,7 @@ from .answer import REFUSAL
 from .blocks import split
 from .core import Core
 from .sheet import Sheet
-from .strike import WHY_NOT_DEW_TEMPERATURE, Compared, Comparison, compare, kept_places, shorter_book, shorter_question
-from .tasks import DEW_TEMPERATURE
+from .strike import Compared, Comparison, compare, kept_places, shorter_book, shorter_question
 
 
 @dataclass(frozen=True)
@@ -32,8 +31,6 @@ def struck(sheet: Sheet, program: Path) -> Struck:
     kept = kept_places(sheet.question.fractions)
     names = [sheet.book.names[i] for i in kept]
     before = len(split(sheet.book.content))
-    if sheet.question.task is DEW_TEMPERATURE:
-        return Struck(names, before, before, None, WHY_NOT_DEW_TEMPERATURE)
     if sheet.blocks.refusal:
         return Struck(names, before, before, None, "The sheet was refused, and the promise speaks of accepted sheets.")
     book = shorter_book(sheet.book.content, kept)

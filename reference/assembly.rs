@@ -46,6 +46,7 @@ const SHAPE: &str = "shape errors cannot arise in a book";
 const NOTES: &str = "notes are bits of word 13";
 const OPEN: &str = "called by the sheet";
 const NORMALIZE: &str = "34: `normalize` refuses a sum that isn't finite and positive; its step is noted";
+const PRESENT: &str = "the slope runs over positive feed fractions only (docs/DIFFERENCES.md)";
 
 const fn cut(within: &'static str, anchor: &'static str, reason: &'static str) -> Row {
     Row { edit: Edit::Cut { within, anchor }, reason }
@@ -249,6 +250,7 @@ pub const SOURCES: &[Source] = &[
             call("fn residual_with(", FAILURE, "Error::ResultNotFinite", 1, "25"),
             call("fn dew_at(", FAILURE, "Error::ResultNotFinite", 1, "25"),
             call("fn dew_at(", NO_CONVERGENCE, "Error::NotConverged", 1, "27"),
+            put("pub fn activity_dew_temperature(", "(0..y.len())", "positive(&y)", 1, PRESENT),
             call("fn solve_temperature(", OUTSIDE, "Error::NotBracketed", 1, "26"),
             call("fn solve_temperature(", NO_CONVERGENCE, "Error::NotConverged", 2, "27"),
             call("pub fn liquid_stability(", FAILURE, "Error::ResultNotFinite", 1, "25"),

@@ -44,8 +44,6 @@ class Striking(InFolder):
                 kept = kept_places(fractions)
                 with Core(shorter_book(book.content, kept)) as shorter:
                     for task in tasks.TASKS:
-                        if task is tasks.DEW_TEMPERATURE:
-                            continue
                         question = asked(task, fractions)
                         long = longer.ask(question)
                         short = shorter.ask_block(shorter_question(question.words(), kept))
@@ -57,7 +55,7 @@ class Striking(InFolder):
                                 (task, fractions),
                             )
                             compared[task.command] += 1
-        self.assertTrue(all(count > 3 for command, count in compared.items() if command != "dew-temperature"), compared)
+        self.assertTrue(all(count > 3 for count in compared.values()), compared)
 
     def test_command(self):
         run = sheet("strike", "stability", "--drum", "acetone=0.2,methanol=0.8", "--temperature", "50C", "--json")
@@ -114,14 +112,11 @@ class Striking(InFolder):
         self.assertIn("from 22 to 22 blocks", run.out)
         self.assertIn("equal, word by word", run.out)
 
-    def test_refused_and_dew_temperature_are_not_compared(self):
-        for arguments in (
-            ("flash", "--temperature", "900C", "--pressure", "1bar"), ("dew-temperature", "--pressure", "1bar")
-        ):
-            run = sheet("strike", *arguments, "--drum", "ethanol=0.5,water=0.5", "--json")
-            found = json.loads(run.out)["strike"]
-            self.assertEqual((found["equal"], found["compared"]), (None, []))
-            self.assertTrue(found["reason"])
+    def test_a_refused_sheet_is_not_compared(self):
+        asked = ("flash", "--temperature", "900C", "--pressure", "1bar", "--drum", "ethanol=0.5,water=0.5")
+        found = json.loads(sheet("strike", *asked, "--json").out)["strike"]
+        self.assertEqual((found["equal"], found["compared"]), (None, []))
+        self.assertTrue(found["reason"])
 
     def test_negative_zero_is_absent(self):
         self.assertEqual(kept_places((0.5, -0.0, 0.0, 0.5)), [0, 3])

@@ -150,6 +150,11 @@ pub fn bits_of(v: f64) -> u64 {
     }
 }
 
+/// Indices of the positive fractions.
+pub fn positive(fractions: &[f64]) -> impl Iterator<Item = usize> + '_ {
+    (0..fractions.len()).filter(|i| fractions[*i] > 0.0)
+}
+
 /// Names that the assembled Rust calls in place of `ln`, `exp` and `powf`.
 pub trait HelperNumbers {
     fn helper_ln(self) -> f64;

@@ -1,6 +1,5 @@
 //! Demand 3 run on sheets: absent solvents struck from book and question leave an accepted answer as it was (docs/FORMAT.md, "The
-//! shorter sheet"). Dew temperature is left out of it. Task 4's premise holds of every accepted sheet: `excess` refuses a slope of
-//! ln γ that is not finite.
+//! shorter sheet"). The premise of tasks 4 and 5 holds of every accepted sheet: `excess` refuses a slope of ln γ that is not finite.
 
 use crate::generate::small::{bytes, sealed};
 use crate::generate::Rng;
@@ -10,8 +9,7 @@ use crate::sheet::question::{FRACTIONS, K_VALUES};
 use crate::sheet::reply::{LIQUID, TRIALS, VAPOR};
 use crate::sheet::ANSWER_BYTES;
 
-/// Tasks that keep demand 3.
-pub const TASKS: [u64; 8] = [1, 2, 3, 4, 6, 7, 8, 9];
+pub const TASKS: [u64; 9] = [1, 2, 3, 4, 5, 6, 7, 8, 9];
 
 /// A trial's component and fractions.
 const COMPONENT: usize = 1;

@@ -22,11 +22,8 @@ fn absent_solvents_do_not_show() {
             continue;
         }
         let task = words_of(&sheet.question)[1];
-        // Dew temperature is left out of demand 3.
-        if task != 5 {
-            assert_eq!(shown(&mut rng, reference, &sheet), Shown::Equal);
-            struck[task as usize] += 1;
-        }
+        assert_eq!(shown(&mut rng, reference, &sheet), Shown::Equal);
+        struck[task as usize] += 1;
     }
     assert!(TASKS.iter().all(|task| struck[*task as usize] > 50), "{struck:?}");
 }
@@ -49,9 +46,9 @@ fn extreme_absent_solvents_do_not_show() {
     }
 }
 
-/// Dew temperature does not keep demand 3: an absent solvent whose slopes sum to infinity costs Newton steps, or the answer.
+/// An absent solvent whose slopes sum to infinity costs no Newton step.
 #[test]
-fn an_absent_solvent_shows_in_the_dew_temperature() {
+fn an_absent_solvent_does_not_steer_the_dew_temperature() {
     let mut rng = Rng::new(1);
     let mut both = |limit: u64| {
         let (book, ask) = dew_temperature(limit);
@@ -62,8 +59,9 @@ fn an_absent_solvent_shows_in_the_dew_temperature() {
             found.map(|blocks| (f64::from_bits(blocks[0][4]), blocks[0][8]))
         })
     };
-    assert_eq!(both(200), [Ok((350.000229423523, 18)), Ok((350.00022942500607, 3))]);
-    assert_eq!(both(10), [Err(27), Ok((350.00022942500607, 3))]);
+    for limit in [200, 10] {
+        assert_eq!(both(limit), [Ok((350.00022942500607, 3)); 2]);
+    }
 }
 
 /// A word that is not as it should be is found, wherever docs/FORMAT.md compares.

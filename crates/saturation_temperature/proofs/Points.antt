@@ -8,7 +8,7 @@ use lib.ListN.{replicate}
 use lib.Ieee.{Float, lt}
 use Rattle.floats.specs.Arithmetic.{_⊕_, _⊖_, _⊗_, _⊘_, 0f}
 use Rattle.floats.specs.Small.{maxOf, absOf}
-use Rattle.floats.specs.Fold.{foldTo, sumTo}
+use Rattle.floats.specs.Fold.{foldTo, active}
 use Rattle.floats.specs.Vector.{at, places}
 use Rattle.floats.specs.Outcome.{Out, ok, no, bind, need}
 use Rattle.floats.proofs.Folds.{fold-turn, was-no, was-yes}
@@ -94,7 +94,7 @@ module _ (E : List Float → Out Activity) (ps dps : List Float) (n : ℕ) (o : 
   dew-from-none u z = rw (dew-refused _ pd u) z
 
   pub dew-from-is : {m : ℕ} {l q s : Float} → d .verdict ≡ Passed → m ≡ n
-      → s ≡ sumTo (λ i. at (d .liquid) i ⊗ (at (d .sl) i ⊕ at dps i)) m → l ≡ lnOf (d .pressure) → q ≡ lnOf p
+      → s ≡ foldTo (active (at y) (λ i a. a ⊕ at (d .liquid) i ⊗ (at (d .sl) i ⊕ at dps i))) 0f m → l ≡ lnOf (d .pressure) → q ≡ lnOf p
       → r ≡ record { verdict = Passed; value = l ⊖ q; slope = s } → r ≡ pointAnswer (dewPointFrom E (puresFrom ps dps) n o p y)
   unfolding dewPointFrom bind pointAnswer dewSlope
   dew-from-is u e h a b z = rw (dew-passed _ pd u, ← e, ← h, ← a, ← b) z

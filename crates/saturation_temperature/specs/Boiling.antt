@@ -5,7 +5,7 @@ use mathlib.Core.List.{List}
 use lib.Ieee.{Float}
 use Rattle.floats.specs.Arithmetic.{_⊕_, _⊖_, _⊗_, _⊘_, 0f}
 use Rattle.floats.specs.Small.{maxOf, absOf}
-use Rattle.floats.specs.Fold.{foldTo, sumTo, active}
+use Rattle.floats.specs.Fold.{foldTo, active}
 use Rattle.floats.specs.Vector.{at}
 use Rattle.floats.specs.Outcome.{Out, ok, bind, need}
 use Rattle.numerics.specs.Numerics.{expOf, lnOf}
@@ -31,14 +31,14 @@ unfoldable pub bubblePointFrom : Float → List Float → ℕ → Activity → O
 bubblePointFrom p x n a P =
     bind P (λ pure. ok (record { value = lnOf (weightSum x a pure n) ⊖ lnOf p; slope = weightSlope x a pure n ⊘ weightSum x a pure n }))
 
--- Σ x_i (∂ ln γ_i/∂T + d ln p_i^sat/dT) over the incipient liquid, absent solvents too
-unfoldable pub dewSlope : Dew → Pures → ℕ → Float
-dewSlope d pure n = sumTo (λ i. at (d .liquid) i ⊗ (at (d .activity .slopes) i ⊕ at (pure .slope) i)) n
+-- over positive y_i: Σ x_i (∂ ln γ_i/∂T + d ln p_i^sat/dT) of the incipient liquid
+unfoldable pub dewSlope : List Float → Dew → Pures → ℕ → Float
+dewSlope y d pure n = foldTo (active (at y) (λ i s. s ⊕ at (d .liquid) i ⊗ (at (d .activity .slopes) i ⊕ at (pure .slope) i))) 0f n
 
 -- f(T) = ln p_dew(T) - ln p, from the pure liquids on
 unfoldable pub dewPointFrom : (List Float → Out Activity) → Pures → ℕ → ActivityOptions → Float → List Float → Out Point
 dewPointFrom E pure n o p y =
-    bind (dewAt E (pure .pressure) n o y) (λ d. ok (record { value = lnOf (d .pressure) ⊖ lnOf p; slope = dewSlope d pure n }))
+    bind (dewAt E (pure .pressure) n o y) (λ d. ok (record { value = lnOf (d .pressure) ⊖ lnOf p; slope = dewSlope y d pure n }))
 
 -- ---- the answer at the temperature found, from the vapor pressures: the residual at the given pressure
 module _ (E : List Float → Out Activity) (ps : List Float) (n : ℕ) where

@@ -4,7 +4,7 @@ ghost use mathlib.Core.Bool.{cond, _&&_};
 ghost use Prim.Native.Nat.{ℕ, suc, _≤_};
 ghost use lib.Ieee.{lt};
 ghost use Rattle.floats.specs.Arithmetic.{_⊕_, _⊗_, 0f};
-ghost use Rattle.floats.specs.Fold.{sumTo};
+ghost use Rattle.floats.specs.Fold.{foldTo, active};
 ghost use Rattle.floats.specs.Vector.{at, places};
 ghost use Rattle.floats.specs.Outcome.{no};
 ghost use Rattle.numerics.specs.Numerics.{expOf};
@@ -257,14 +257,21 @@ fn bubble_with(
 
 // ---- dew temperature
 
-// Σ x_i (∂ ln γ_i/∂T + d ln p_i^sat/dT) over the incipient liquid, absent solvents too.
-fn dew_slope(liquid: &[f64; 8], sl: &[f64; 8], dps: &[f64; 8], n: usize) -> f64
+// One solvent more, if its fraction in the vapor is positive.
+fn sloped(s: f64, y: f64, x: f64, sl: f64, dps: f64) -> f64
+    ensures { λ r. ⌜ r ≡ cond (lt 0f y) (s ⊕ x ⊗ (sl ⊕ dps)) s ⌝ }
+{
+    if 0.0 < y { s + x * (sl + dps) } else { s }
+}
+
+// Σ x_i (∂ ln γ_i/∂T + d ln p_i^sat/dT) over the incipient liquid of the solvents in the vapor, 1/K.
+fn dew_slope(y: &[f64; 8], liquid: &[f64; 8], sl: &[f64; 8], dps: &[f64; 8], n: usize) -> f64
     requires { ⌜ n ≤ 8 ⌝ }
-    ensures { λ r. ⌜ r ≡ sumTo (λ i. at (now (liquid .entry)) i ⊗ (at (now (sl .entry)) i ⊕ at (now (dps .entry)) i)) n ⌝ }
+    ensures { λ r. ⌜ r ≡ foldTo (active (at (now (y .entry))) (λ i s. s ⊕ at (now (liquid .entry)) i ⊗ (at (now (sl .entry)) i ⊕ at (now (dps .entry)) i))) 0f n ⌝ }
 {
     let mut s = 0.0;
     for i in 0..n {
-        s = s + liquid[i] * (sl[i] + dps[i]);
+        s = sloped(s, y[i], liquid[i], sl[i], dps[i]);
     }
     s
 }
@@ -291,7 +298,7 @@ fn dew_point_from(
             PointAnswer {
                 verdict: Verdict::Passed,
                 value: numerics::ln(d.pressure) - numerics::ln(p),
-                slope: dew_slope(&liquid, &sl, dps, floats::places(s.n)),
+                slope: dew_slope(y, &liquid, &sl, dps, floats::places(s.n)),
             }
         }
     }

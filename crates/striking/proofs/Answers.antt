@@ -1,17 +1,13 @@
--- Every task but dew temperature is struck, up to the words of its answer, for any two mixtures that are the same for the solvents kept. Assumes nothing.
+-- Every task is struck, up to the words of its answer, for any two mixtures that are the same for the solvents kept. Assumes nothing.
 use mathlib.Core.Path.{_≡_, refl, sym, ap, subst}
-use mathlib.Core.Logic.{_≢_, inl, ⊎-elim}
+use mathlib.Core.Logic.{inl}
 use Prim.Native.Nat.{ℕ, zero, suc, _≤_, _<_}
-use native.Mathlib.Nat.{eq-or-lt-of-le}
 use native.Mathlib.Omega.{arith}
-use borrow.Author.Tests.{leb-true, eq-eqb}
-use mathlib.Core.Bool.{Bool, true, false, not, _||_}
+use mathlib.Core.Bool.{Bool}
 use mathlib.Core.List.{List, [], _∷_}
 use lib.ListN.{getD}
-use lib.Dec.{T, eqb, leb, eqb→eq}
+use lib.Dec.{T}
 use lib.Ieee.{Float}
-use lib.Ieee.Bits.{is-true}
-use lib.Ieee.Fits.{and-l, and-r}
 use Rattle.floats.specs.Arithmetic.{0f}
 use Rattle.floats.specs.Vector.{at}
 use Rattle.floats.specs.Outcome.{ok, no}
@@ -26,14 +22,13 @@ use Rattle.rachford_rice.specs.Rachford.{Solution}
 use Rattle.saturation.specs.Saturation.{Saturation}
 use Rattle.liquid_stability.specs.Stability.{Trials, noTrial, stabilityOf}
 use Rattle.tp_flash.specs.Tp.{Flash, tpFlash}
-use Rattle.question.specs.Inputs.{within, needsTemperature, needsPressure}
 use Rattle.question.specs.declared.Question.{Question}
 use Rattle.replies.specs.declared.State.{State}
 use Rattle.replies.specs.declared.ModelState.{ModelState}
 use Rattle.replies.specs.declared.AnswerBlock.{AnswerBlock}
 use Rattle.replies.specs.Blocks.{bit, statusNumber, stateWords, modelWords, Answer}
 use Rattle.replies.specs.Answers.{noModel, excessBlock, saturationBlock, stabilityBlock, phaseNumber, flashBlock, riceBlock}
-use Rattle.sheet.specs.Tasks.{alone, excessFound, saturated, task1, task2, task3, task4, task6, task7, task8, task9, taskAt, taskUnder, taskSplit, taskOf}
+use Rattle.sheet.specs.Tasks.{alone, excessFound, saturated, task1, task2, task3, task4, task5, task6, task7, task8, task9, taskAt, taskUnder, taskSplit, taskOf}
 use Rattle.liquid_stability.proofs.Counts.{stability-few}
 use Rattle.tp_flash.proofs.Counts.{flash-few}
 use Rattle.zeros.specs.Same.{_≈_}
@@ -161,19 +156,6 @@ module _ (keep : ℕ → Bool) (n : ℕ) (small : n ≤ 8) where
     trials = h .trials .trials;
   }
 
--- what is left of the tasks at a pressure: dew temperature
-or-case : {A : Type 0} (a b : Bool) → T (a || b) → (T a → A) → (T b → A) → A
-or-case true b h f g = f tt
-or-case false b h f g = g h
-
-five-left : (k : ℕ) → T (not (needsTemperature k)) → T (needsPressure k) → T (not (eqb k 4)) → k ≡ 5
-five-left k warm under four =
-    or-case (within 4 5 k) (eqb k 7) under
-    (λ w. let low : 4 ≤ k = leb-true 4 k (is-true _ (and-l (leb 4 k) (leb k 5) w)) in
-    let high : k ≤ 5 = leb-true k 5 (is-true _ (and-r (leb 4 k) (leb k 5) w)) in
-    ⊎-elim (λ (e : 4 ≡ k). absurd (subst (λ (b : Bool). T (not b)) (eq-eqb k 4 (sym e)) four)) (λ (l : 4 < k). omega arith) (eq-or-lt-of-le low))
-    (λ s. absurd (subst (λ (x : ℕ). T (not (within 1 3 x || within 6 7 x))) (eqb→eq k 7 s) warm))
-
 -- ---- the tasks, for a question a and the same with the shorter feed z' and K k'
 module _ (keep : ℕ → Bool) (n : ℕ) (small : n ≤ 8) (m m' : Mixture) (hm : SameMixture keep n m m') (a : Question) (z' k' : List Float) (s : SameFeed keep n (a .fractions) z')
     (ek : (i : ℕ) → i < n → T (keep i) → at (a .ratios) i ≡ at k' (cnt keep i)) where
@@ -204,6 +186,10 @@ module _ (keep : ℕ → Bool) (n : ℕ) (small : n ≤ 8) (m m' : Mixture) (hm 
   strike-4 : (p : Float) → Acc (SameAnswer keep n) (task4 m a p) (task4 m' b p)
   unfolding task4 saturated withFeed
   strike-4 p = acc-bind (SameSaturation keep n) _ _ _ _ (struck.task4 keep n small m m' hm z z' s (a .options) p) (λ u u' h. acc-ok (saturation-answer keep n small u u' h))
+
+  strike-5 : (p : Float) → Acc (SameAnswer keep n) (task5 m a p) (task5 m' b p)
+  unfolding task5 saturated withFeed
+  strike-5 p = acc-bind (SameSaturation keep n) _ _ _ _ (struck.task5 keep n small m m' hm z z' s (a .options) p) (λ u u' h. acc-ok (saturation-answer keep n small u u' h))
 
   strike-6 : (t : Float) → Acc (SameAnswer keep n) (task6 m a t) (task6 m' b t)
   unfolding task6 withFeed
@@ -249,16 +235,16 @@ module _ (keep : ℕ → Bool) (n : ℕ) (small : n ≤ 8) (m m' : Mixture) (hm 
       acc-then (positiveOf (a .pressure) 14) (positiveOf (a .pressure) 14) _ _ (acc-same (positiveOf (a .pressure) 14)) (λ p. strike-7 t p)))))
 
   -- by the task's number
-  strike-fed : a .task ≢ 5 → Acc (SameAnswer keep n) (taskOf m a) (taskOf m' b)
+  strike-fed : Acc (SameAnswer keep n) (taskOf m a) (taskOf m' b)
   unfolding taskOf taskUnder taskSplit withFeed
-  strike-fed other =
+  strike-fed =
       acc-if _ _ _ _ _ _ refl (λ e. acc-then (positiveOf (a .temperature) 13) (positiveOf (a .temperature) 13) _ _ (acc-same (positiveOf (a .temperature) 13)) strike-at) (λ f.
       acc-if _ _ _ _ _ _ refl (λ e. acc-then (positiveOf (a .pressure) 14) (positiveOf (a .pressure) 14) _ _ (acc-same (positiveOf (a .pressure) 14)) (λ p.
-      acc-if _ _ _ _ _ _ refl (λ four. strike-4 p) (λ five. absurd (other (five-left (a .task) f e five))))) (λ g.
+      acc-if _ _ _ _ _ _ refl (λ four. strike-4 p) (λ five. strike-5 p))) (λ g.
       acc-if _ _ _ _ _ _ refl (λ e. strike-8) (λ f8.
       acc-if _ _ _ _ _ _ refl (λ e. strike-9) (λ f9. acc-no (no 12)))))
 
-pub strike-task : (keep : ℕ → Bool) (n : ℕ) → n ≤ 8 → (m m' : Mixture) → SameMixture keep n m m' → (a b : Question) → SameQuestion keep n a b → a .task ≢ 5
+pub strike-task : (keep : ℕ → Bool) (n : ℕ) → n ≤ 8 → (m m' : Mixture) → SameMixture keep n m m' → (a b : Question) → SameQuestion keep n a b
     → Acc (SameAnswer keep n) (taskOf m a) (taskOf m' b)
-strike-task keep n small m m' hm a b h other =
-    subst (λ (c : Question). Acc (SameAnswer keep n) (taskOf m a) (taskOf m' c)) (sym (h .rest)) (strike-fed keep n small m m' hm a (b .fractions) (b .ratios) (h .feed) (h .ratios) other)
+strike-task keep n small m m' hm a b h =
+    subst (λ (c : Question). Acc (SameAnswer keep n) (taskOf m a) (taskOf m' c)) (sym (h .rest)) (strike-fed keep n small m m' hm a (b .fractions) (b .ratios) (h .feed) (h .ratios))

@@ -1,7 +1,7 @@
--- The bubble temperature is struck, for any model and pure liquids that are. No premise on NaN slopes is needed: the slopes of an accepted activity are related as they stand.
--- Assumes nothing.
+-- Bubble and dew temperatures are struck, for any model and pure liquids that are. No premise on NaN slopes is needed: the slopes of an accepted activity are related as they
+-- stand. Assumes nothing.
 use mathlib.Core.Path.{_≡_, refl, ap}
-use Prim.Native.Nat.{ℕ, _≤_, _<_}
+use Prim.Native.Nat.{ℕ, _+_, _%_, _^_, _≤_, _<_}
 use mathlib.Core.Bool.{Bool}
 use mathlib.Core.List.{List}
 use lib.Dec.{T}
@@ -13,7 +13,8 @@ use Rattle.numerics.specs.Numerics.{lnOf}
 use Rattle.thermo_types.specs.Quantities.{positiveOf}
 use Rattle.thermo_types.specs.declared.ActivityOptions.{ActivityOptions}
 use Rattle.thermo_models.specs.Model.{Activity, Pures, Activities, Liquids}
-use Rattle.saturation_temperature.specs.Boiling.{weight, weightSum, weightSlope, bubblePointFrom, bubbleSaturation, saturationTemperature, bubblePointAt, bubblePoint, bubbleFound, bubbleTemperature}
+use Rattle.saturation.specs.Saturation.{Dew}
+use Rattle.saturation_temperature.specs.Boiling.{weight, weightSum, weightSlope, bubblePointFrom, bubbleSaturation, saturationTemperature, bubblePointAt, bubblePoint, bubbleFound, bubbleTemperature, dewSlope, dewPointFrom, dewSaturation, dewPointAt, dewPoint, dewFound, dewTemperature}
 use Rattle.zeros.specs.Same.{_≈_}
 use Rattle.zeros.proofs.Congruence.{≈refl, same, add-≈, mul-≈, div-≈}
 use Rattle.zeros.proofs.Numbers.{exp-≈}
@@ -23,7 +24,7 @@ use Rattle.striking.specs.Related.{Fractions}
 use Rattle.striking.specs.Results.{SameActivity, SamePures, SameSaturation}
 use Rattle.striking.proofs.Acc.{acc-bind, acc-then, acc-need, acc-ok, acc-same}
 use Rattle.striking.proofs.Active.{max-≈, strike-active, cong2}
-use Rattle.striking.proofs.Saturation.{SameBubble, strike-bubble, strike-residual}
+use Rattle.striking.proofs.Saturation.{SameBubble, SameDew, strike-bubble, strike-residualWith, strike-residual, strike-dew}
 use Rattle.striking.proofs.Search.{SamePoint, strike-solve}
 
 module _ (keep : ℕ → Bool) (n : ℕ) (small : n ≤ 8)
@@ -78,3 +79,47 @@ module _ (keep : ℕ → Bool) (n : ℕ) (small : n ≤ 8)
       acc-need _ _ 23 _ _ (λ h. h) (λ g.
       acc-then _ _ _ _ (strike-solve (bubblePoint E L n p x) (bubblePoint E' L' (cnt keep n) p x') (strike-bubblePoint p) o) (λ root.
       acc-then _ _ _ _ (acc-same (positiveOf (root .temperature) 13)) (strike-bubbleFound p (root .iterations))))
+
+module _ (keep : ℕ → Bool) (n : ℕ) (small : n ≤ 8)
+    (E E' : Activities) (hE : (t : Float) (x x' : List Float) → Fractions keep n (at x) (at x') → Acc (SameActivity keep n) (E t x) (E' t x'))
+    (L L' : Liquids) (hL : (t : Float) → Acc (SamePures keep n) (L t) (L' t))
+    (o : ActivityOptions) (p : Float) (y y' : List Float) (hy : Fractions keep n (at y) (at y')) where
+  same-dewSlope : (d d' : Dew) → SameDew keep n d d' → (u u' : Pures) → SamePures keep n u u' → dewSlope y d u n ≈ dewSlope y' d' u' (cnt keep n)
+  unfolding dewSlope
+  same-dewSlope d d' hd u u' hu =
+      strike-active keep n _≈_ (at y) (at y') hy _ _ 0f 0f (≈refl 0f)
+      (λ i l q b c h. add-≈ h (mul-≈ (hd .liquid .fraction i l q) (add-≈ (hd .activity .slopes i l q) (same (hu .slope i l q)))))
+
+  strike-dewPointAt : (t : Float) → Acc SamePoint (dewPointAt E L n o p y t) (dewPointAt E' L' (cnt keep n) o p y' t)
+  unfolding dewPointAt dewPointFrom
+  strike-dewPointAt t =
+      acc-bind (SamePures keep n) _ _ _ _ (hL t) (λ u u' hu.
+      acc-bind (SameDew keep n) _ _ _ _ (strike-dew keep n small (u .pressure) (u' .pressure) (hu .pressure) (E t) (E' t) (hE t) y y' hy o) (λ d d' hd.
+      acc-ok (record { value = ap (λ (v : Float). lnOf v ⊖ lnOf p) (hd .pressure); slope = same-dewSlope d d' hd u u' hu })))
+
+  strike-dewPoint : (t : Float) → Acc SamePoint (dewPoint E L n o p y t) (dewPoint E' L' (cnt keep n) o p y' t)
+  unfolding dewPoint
+  strike-dewPoint t = acc-then _ _ _ _ (acc-same (positiveOf t 13)) strike-dewPointAt
+
+  strike-dewFound : (outer : ℕ) (t : Float) → Acc (SameSaturation keep n) (dewFound E L n o p y outer t) (dewFound E' L' (cnt keep n) o p y' outer t)
+  unfolding dewFound dewSaturation
+  strike-dewFound outer t =
+      acc-bind (SamePures keep n) _ _ _ _ (hL t) (λ u u' hu.
+      acc-bind (SameDew keep n) _ _ _ _ (strike-dew keep n small (u .pressure) (u' .pressure) (hu .pressure) (E t) (E' t) (hE t) y y' hy o) (λ d d' hd.
+      acc-bind _≈_ _ _ _ _ (strike-residualWith keep n small (u .pressure) (u' .pressure) (hu .pressure) _ _ (hd .activity .lnGamma) p p refl _ _ y y' (hd .liquid) hy) (λ r r' hr.
+      acc-ok (record {
+        temperature = refl;
+        pressure = refl;
+        liquid = hd .liquid;
+        vapor = hy;
+        residual = max-≈ hr (same (ap (λ (q : Float). absOf (lnOf (q ⊘ p))) (hd .pressure)));
+        iterations = ap (λ (k : ℕ). (outer + k) % 2 ^ 64) (hd .iterations);
+      }))))
+
+  -- `activity_dew_temperature`
+  pub strike-dewTemperature : Acc (SameSaturation keep n) (dewTemperature E L n o p y) (dewTemperature E' L' (cnt keep n) o p y')
+  unfolding dewTemperature saturationTemperature
+  strike-dewTemperature =
+      acc-need _ _ 23 _ _ (λ h. h) (λ g.
+      acc-then _ _ _ _ (strike-solve (dewPoint E L n o p y) (dewPoint E' L' (cnt keep n) o p y') strike-dewPoint o) (λ root.
+      acc-then _ _ _ _ (acc-same (positiveOf (root .temperature) 13)) (strike-dewFound (root .iterations))))

@@ -7,17 +7,21 @@ use mathlib.Core.Bool.{Bool, true, false, not, _||_}
 use mathlib.Core.List.{List, [], _∷_}
 use lib.Dec.{T, eqb}
 use lib.Ieee.{Float, nan, inf, fin, binary64, fits, ofBits, add, sub, mul, div, neg, lt, le, eq, isNan, ofInt, toSigned, size}
-use Rattle.floats.specs.Arithmetic.{_⊕_, _⊖_, 0f, ½, 1f, 2f}
+use Rattle.floats.specs.Arithmetic.{#, _⊕_, _⊖_, 0f, ½, 1f, 2f}
 use Rattle.floats.specs.Small.{isFinite, maxOf, absOf}
 use Rattle.floats.specs.Fold.{foldTo, allTo}
 use Rattle.floats.specs.Vector.{at, fill, zeros8}
 use Rattle.floats.specs.Outcome.{Out, ok, bind, need, choose}
 use Rattle.numerics.specs.Numerics.{expOf, lnOf}
+use Rattle.thermo_types.specs.Quantities.{positiveOf}
 use Rattle.thermo_types.specs.Composition.{sumsToOne, sharesOf, normalizeOf}
 use Rattle.thermo_types.specs.declared.ActivityOptions.{ActivityOptions}
-use Rattle.thermo_models.specs.Model.{Activity}
+use Rattle.thermo_models.specs.Model.{Activity, Pures, Activities, Liquids, pressureInDomain}
 use Rattle.rachford_rice.specs.Rachford.{Solution, residualOf, slopeOf, kMax, kMin, validate, turnOf, liquidPart, vaporPart, solutionAt, iterate, between, negative}
-use Rattle.saturation.specs.Saturation.{Bubble, bubbleFrom, gapAt}
+use Rattle.saturation.specs.Saturation.{Bubble, Saturation, bubbleFrom, gapAt, gapOf, residualWith, dewTerm, dewPressure, dewLiquid, dewTurn, dewPoint, dewLoop, dewAt}
+use Rattle.saturation_temperature.specs.Search.{stepOf, collapsed, searchFrom, solveTemperature}
+use Rattle.saturation.specs.Saturation as saturation
+use Rattle.saturation_temperature.specs.Boiling.{dewSaturation, saturationTemperature, dewFound, dewTemperature}
 use Rattle.liquid_stability.specs.Stability.{Trials, noTrials, noTrial, withTrial, trialWith, presentCount, tangent, startFrom, othersIn, totalOf, trialComposition, distanceOf, changeOf, apartOf, unstable, judge, trialFrom, stabilityOf}
 use Rattle.tp_flash.specs.Split.{Split, kValues, phaseOf, splitGap, turnAt, splitTurn, splitFrom}
 use Rattle.zeros.specs.Same.{_≈_}
@@ -28,14 +32,15 @@ use Rattle.zeros.proofs.Numbers.{ln-≈}
 use Rattle.striking.specs.Places.{cnt}
 use Rattle.striking.specs.Accepted.{Acc}
 use Rattle.striking.specs.Related.{Fractions}
-use Rattle.striking.specs.Results.{SameActivity, SameSolution, SameTrials}
-use Rattle.striking.specs.Leaks.{leakyPartial, leakyBubble, leakyMax, leakyMin, leakyNegative, leakyChange, leakySplit, leakyTrials, leakyStability}
+use Rattle.striking.specs.Results.{SameActivity, SamePures, SameSolution, SameSaturation, SameTrials}
+use Rattle.striking.specs.Leaks.{leakyPartial, leakyBubble, leakyMax, leakyMin, leakyNegative, leakyChange, leakySplit, leakyTrials, leakyStability, leakySlope, leakyPoint, leakyTemperature}
 use Rattle.striking.proofs.Strike.{strike-fold}
 use Rattle.striking.proofs.Acc.{acc-ok}
 use Rattle.striking.proofs.Active.{max-≈}
 use Rattle.striking.proofs.Rice.{strike-negative}
 use Rattle.striking.proofs.Saturation.{SameBubble, same-gapAt, strike-bubbleFrom}
 use Rattle.striking.proofs.Stability.{strike-stability}
+use Rattle.striking.proofs.Boiling.{strike-dewTemperature}
 use Rattle.striking.proofs.Split.{SameSplit, strike-split}
 
 -- ---- the sheet: of four solvents, 1 and 2 are kept
@@ -247,3 +252,61 @@ pub stability-leaks : StabilityLaw leakyStability → ⊥
 unfolding cnt once leakyTrials leakyStability ideal dilute noTrials noTrial withTrial trialWith presentCount tangent startFrom othersIn totalOf trialComposition distanceOf changeOf apartOf
     unstable judge trialFrom expOf lnOf ofBits add sub mul div neg lt le eq isNan ofInt toSigned size isFinite foldTo fill bind need choose
 stability-leaks law = law keep 4 (omega arith) dilute ideal same-model once feed feed' fractions .says .trials 0 (omega arith) .kept
+
+-- ---- 5. the dew temperature's slope
+abbrev pub DewLaw : (Activities → Liquids → ℕ → ActivityOptions → Float → List Float → Out Saturation) → Type 0
+DewLaw dew =
+    (keep : ℕ → Bool) (n : ℕ) → n ≤ 8
+    → (E E' : Activities) → ((t : Float) (x x' : List Float) → Fractions keep n (at x) (at x') → Acc (SameActivity keep n) (E t x) (E' t x'))
+    → (L L' : Liquids) → ((t : Float) → Acc (SamePures keep n) (L t) (L' t))
+    → (o : ActivityOptions) (p : Float) (y y' : List Float) → Fractions keep n (at y) (at y')
+    → Acc (SameSaturation keep n) (dew E L n o p y) (dew E' L' (cnt keep n) o p y')
+
+pub dew-law : DewLaw dewTemperature
+dew-law = strike-dewTemperature
+
+-- the largest float as both derivatives of the absent solvent 0, so that their sum is infinity; p_sat of each solvent is T, in Pa and K, with d ln p/dT = 1/128
+abbrev largest : Float
+largest = # 0x7fefffffffffffff
+
+abbrev gentle : Float
+gentle = # 0x3f80000000000000
+
+steep : Float → List Float → Out Activity
+steep t x = ok (record { lnGamma = zeros8; slopes = largest ∷ 0f ∷ 0f ∷ 0f ∷ [] })
+
+flat : Float → List Float → Out Activity
+flat t x = ideal x
+
+same-steep : (t : Float) (x x' : List Float) → Fractions keep 4 (at x) (at x') → Acc (SameActivity keep 4) (steep t x) (flat t x')
+unfolding cnt steep flat ideal
+same-steep t x x' hx = acc-ok (record {
+  lnGamma = ln-zero;
+  slopes = two (λ i. at (largest ∷ 0f ∷ 0f ∷ 0f ∷ []) i ≈ at zeros8 (cnt keep i)) (≈refl 0f) (≈refl 0f);
+})
+
+liquids : Float → Out Pures
+liquids t = ok (record { pressure = t ∷ t ∷ t ∷ t ∷ []; slope = largest ∷ gentle ∷ gentle ∷ 0f ∷ [] })
+
+liquids' : Float → Out Pures
+liquids' t = ok (record { pressure = t ∷ t ∷ []; slope = gentle ∷ gentle ∷ [] })
+
+same-liquids : (t : Float) → Acc (SamePures keep 4) (liquids t) (liquids' t)
+unfolding cnt liquids liquids'
+same-liquids t = acc-ok (record {
+  pressure = two (λ i. at (t ∷ t ∷ t ∷ t ∷ []) i ≡ at (t ∷ t ∷ []) (cnt keep i)) refl refl;
+  slope = two (λ i. at (largest ∷ gentle ∷ gentle ∷ 0f ∷ []) i ≡ at (gentle ∷ gentle ∷ []) (cnt keep i)) refl refl;
+})
+
+-- 64 to 256 K, tolerance 1/8; the root at 128 Pa is 128 K
+searched : ActivityOptions
+searched = record { «max_iterations» = 1; tolerance = # 0x3fc0000000000000; «max_temperature_iterations» = 3; «tm_threshold» = 0f; «minimum_temperature_k» = # 0x4050000000000000; «maximum_temperature_k» = # 0x4070000000000000 }
+
+-- 3 temperatures and 1 dew iteration with the longer book, where the slope is a NaN and the Newton step is dropped; 2 and 1 with the shorter
+pub dew-leaks : DewLaw leakyTemperature → ⊥
+unfolding cnt searched leakySlope leakyPoint leakyTemperature ideal flat steep liquids liquids' positiveOf pressureInDomain gapOf residualWith dewTerm dewPressure dewLiquid saturation.changeOf dewTurn
+    dewPoint dewLoop dewAt stepOf collapsed searchFrom solveTemperature dewSaturation saturationTemperature dewFound sharesOf normalizeOf expOf lnOf ofBits add sub mul div neg lt le eq isNan ofInt
+    toSigned size isFinite foldTo fill bind need choose
+dew-leaks law =
+    subst (λ (c : ℕ). T (eqb c 4))
+    (law keep 4 (omega arith) steep flat same-steep liquids liquids' same-liquids searched (# 0x4060000000000000) feed feed' fractions .says .iterations) tt

@@ -1,5 +1,5 @@
 -- The shorter question is accepted where the longer one is (questions 11 to 21), and asks the same of the solvents kept. Assumes nothing.
-use mathlib.Core.Path.{_≡_, refl, sym, ap, _∙_, subst}
+use mathlib.Core.Path.{_≡_, sym, ap, _∙_, subst}
 use Prim.Native.Nat.{ℕ, _+_, _≤_, _<_}
 use native.Mathlib.Nat.{le-trans}
 use native.Mathlib.Omega.{arith}
@@ -178,12 +178,12 @@ module _ (keep : ℕ → Bool) (n : ℕ) (small : n ≤ 8) (rule : Rule) (q q' :
 
   -- questions 13 to 21 to two feeds that are the same; a feed that passes has a solvent that is kept
   pub strike-rest : (x x' : List Float) → SameFeed keep n x x'
-      → Acc (λ (a b : Question). SameQuestion keep n a b × (0 < cnt keep n) × (a .task ≡ word q 1)) (restOf q n x) (restOf q' (cnt keep n) x')
+      → Acc (λ (a b : Question). SameQuestion keep n a b × (0 < cnt keep n)) (restOf q n x) (restOf q' (cnt keep n) x')
   unfolding restOf questionFrom
-  strike-rest x x' s = strike-inputs x x' s _ _ (λ some. strike-limits _ _ (acc-ok (from-words x x' s, some, refl)))
+  strike-rest x x' s = strike-inputs x x' s _ _ (λ some. strike-limits _ _ (acc-ok (from-words x x' s, some)))
 
   -- questions 11 to 21
   pub strike-question : ((i : ℕ) → i < n → T (not (keep i)) → Zero (fraction (word q) i))
-      → Acc (λ (a b : Question). SameQuestion keep n a b × (0 < cnt keep n) × (a .task ≡ word q 1)) (questionOf rule q n) (questionOf rule q' (cnt keep n))
+      → Acc (λ (a b : Question). SameQuestion keep n a b × (0 < cnt keep n)) (questionOf rule q n) (questionOf rule q' (cnt keep n))
   unfolding questionOf
   strike-question absent = acc-bind (λ (a b : ℕ). a ≡ b) _ _ _ _ strike-taskIn (λ a b e. strike-rest (feedOf q n) (feedOf q' (cnt keep n)) (feed-same absent))

@@ -1,4 +1,4 @@
--- The calculations of every task but dew temperature, struck, for two mixtures that are the same for the solvents kept. A feed is the same where its kept
+-- The calculations of every task, struck, for two mixtures that are the same for the solvents kept. A feed is the same where its kept
 -- fractions are those of the shorter feed as they stand and its absent ones are zeros. Assumes nothing.
 use mathlib.Core.Path.{_≡_, refl}
 use Prim.Native.Nat.{ℕ, _≤_, _<_}
@@ -12,7 +12,7 @@ use Rattle.thermo_models.specs.Activity.{activityIn, excessOf}
 use Rattle.thermo_models.specs.Mixture.{Mixture, activity, mixtureOf}
 use Rattle.rachford_rice.specs.Rachford.{constrained, negative}
 use Rattle.saturation.specs.Saturation.{bubblePressure, dewPressurePoint}
-use Rattle.saturation_temperature.specs.Boiling.{bubbleTemperature}
+use Rattle.saturation_temperature.specs.Boiling.{bubbleTemperature, dewTemperature}
 use Rattle.liquid_stability.specs.Stability.{stabilityOf}
 use Rattle.tp_flash.specs.Tp.{tpFlash}
 use Rattle.zeros.proofs.Congruence.{same}
@@ -27,7 +27,7 @@ use Rattle.striking.proofs.Acc.{acc-bind, acc-ok}
 use Rattle.striking.proofs.Rice.{strike-negative, strike-constrained}
 use Rattle.striking.proofs.Saturation.{strike-bubblePressure, strike-dewPressure}
 use Rattle.striking.proofs.Stability.{strike-stability}
-use Rattle.striking.proofs.Boiling.{strike-bubbleTemperature}
+use Rattle.striking.proofs.Boiling.{strike-bubbleTemperature, strike-dewTemperature}
 use Rattle.striking.proofs.Flash.{strike-flash}
 use Rattle.striking.proofs.Liquids.{strike-domain, strike-pureLiquids}
 use Rattle.striking.proofs.Validity.{strike-validity}
@@ -87,6 +87,10 @@ module _ (keep : ℕ → Bool) (n : ℕ) (small : n ≤ 8) (m m' : Mixture) (hm 
     -- task 4
     pub task4 : (o : ActivityOptions) (p : Float) → Acc (SameSaturation keep n) (bubbleTemperature (activity m) (m .liquids) (m .n) o p z) (bubbleTemperature (activity m') (m' .liquids) (m' .n) o p z')
     task4 o p = rw (hm .count, hm .count') (strike-bubbleTemperature keep n small (activity m) (activity m') strike-activity (m .liquids) (m' .liquids) (hm .liquids) z z' hz (s .fractions) o p)
+
+    -- task 5
+    pub task5 : (o : ActivityOptions) (p : Float) → Acc (SameSaturation keep n) (dewTemperature (activity m) (m .liquids) (m .n) o p z) (dewTemperature (activity m') (m' .liquids) (m' .n) o p z')
+    task5 o p = rw (hm .count, hm .count') (strike-dewTemperature keep n small (activity m) (activity m') strike-activity (m .liquids) (m' .liquids) (hm .liquids) o p z z' hz)
 
     -- task 6
     pub task6 : (o : ActivityOptions) (t : Float) → Acc (SameTrials keep n) (stabilityOf (activity m t) (m .n) o z) (stabilityOf (activity m' t) (m' .n) o z')

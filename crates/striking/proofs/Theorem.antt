@@ -4,14 +4,13 @@ use native.Mathlib.Nat.{le-refl}
 use native.Mathlib.Omega.{arith}
 use borrow.Author.Tests.{le-leb}
 use mathlib.Core.Path.{_≡_, refl, sym, ap, _∙_, subst}
-use mathlib.Core.Logic.{_≢_, inl, inr}
+use mathlib.Core.Logic.{inl, inr}
 use mathlib.Core.Bool.{Bool}
 use mathlib.Core.List.{List, _++_}
 use lib.ListN.{length, drop, replicate, length-replicate}
 use lib.Dec.{leb}
 use Rattle.floats.specs.Outcome.{Out, ok, no, bind, need}
 use Rattle.floats.proofs.Outcomes.{need-yes, bind-yes}
-use Rattle.blocks.specs.Words.{word}
 use Rattle.blocks.specs.declared.Rule.{Rule}
 use Rattle.book.specs.Book.{bookOf, ruleOf}
 use Rattle.book.specs.declared.Head.{Head}
@@ -29,7 +28,7 @@ use Rattle.striking.specs.Books.{ShorterBook, shorterHead}
 use Rattle.striking.specs.Words.{SameWord}
 use Rattle.striking.specs.Questions.{keptIn, ShorterQuestion, solvents, Shorter}
 use Rattle.striking.specs.Sheets.{SameEntries, SameHead, SameTrialBlock, SameSheet}
-use Rattle.striking.specs.Theorem.{Accepted, Demand3, Calls, Meet, EqualAnswer, EqualTrial, EqualSheet, SameDrum, Demand3-4}
+use Rattle.striking.specs.Theorem.{Accepted, Demand3, Calls, Meet, EqualAnswer, EqualTrial, EqualSheet, SameDrum, Worded}
 use Rattle.striking.proofs.Acc.{acc-ok, acc-no, acc-bind, acc-passed, accepted}
 use Rattle.striking.proofs.Books.{shorter-solvents, shorter-pairs, strike-book, rule-same}
 use Rattle.striking.proofs.Questions.{absent-zero, withFeed, SameQuestion, strike-question}
@@ -42,7 +41,7 @@ Alike : (ℕ → Bool) → ℕ → List ℕ → List ℕ → Type 0
 Alike keep n bs bs' = (r r' : List ℕ) → SameSheet keep n (bs ++ r) (bs' ++ r')
 
 module _ (book question book' question' : List ℕ) (h : Head) (opened : bookOf book ≡ ok h) (hb : ShorterBook (keptIn question) (h .n) book book')
-    (hq : ShorterQuestion (ruleOf book') (keptIn question) (h .n) question question') (other : word question 1 ≢ 5) (room' : ℕ) (enough : answerRoom ≤ room') where
+    (hq : ShorterQuestion (ruleOf book') (keptIn question) (h .n) question question') (room' : ℕ) (enough : answerRoom ≤ room') where
   abbrev keep : ℕ → Bool
   keep = keptIn question
 
@@ -57,11 +56,11 @@ module _ (book question book' question' : List ℕ) (h : Head) (opened : bookOf 
   unfolding sheetOf sheetFrom roomy shorterHead
   opened' q' some e = bind-yes _ (strike-book keep h book book' hb some opened) ∙ need-yes 10 _ (le-leb answerRoom room' enough) ∙ bind-yes _ e
 
-  answers : (q q' : Question) → SameQuestion keep n q q' → q .task ≡ word question 1 → Acc (Alike keep n) (answerTo book n q) (answerTo book' (cnt keep n) q')
+  answers : (q q' : Question) → SameQuestion keep n q q' → Acc (Alike keep n) (answerTo book n q) (answerTo book' (cnt keep n) q')
   unfolding answerTo Alike withFeed
-  answers q q' s e =
+  answers q q' s =
       acc-bind (SameAnswer keep n) (taskOf (mixtureOf book n) q) (taskOf (mixtureOf book' (cnt keep n)) q') _ _
-      (strike-task keep n few _ _ (strike-mixture keep n few book book' (shorter-solvents keep n book book' hb) (shorter-pairs keep n book book' hb)) q q' s (λ z. other (sym e ∙ z))) (λ a a' t.
+      (strike-task keep n few _ _ (strike-mixture keep n few book book' (shorter-solvents keep n book book' hb) (shorter-pairs keep n book book' hb)) q q' s) (λ a a' t.
       acc-ok (λ r r'. rw (← rule-same keep n book book' hb, ← same-task) (sheet-same keep n few (ruleOf book) (q .task) a a' t r r')))
     where
       same-task : q .task ≡ q' .task
@@ -71,21 +70,21 @@ module _ (book question book' question' : List ℕ) (h : Head) (opened : bookOf 
   unfolding bind
   asked =
       go (questionOf (ruleOf book) question n)
-      (subst (λ (rule : Rule). Acc (λ (a b : Question). SameQuestion keep n a b × (0 < cnt keep n) × (a .task ≡ word question 1)) (questionOf rule question n) (questionOf (ruleOf book') question' (cnt keep n)))
+      (subst (λ (rule : Rule). Acc (λ (a b : Question). SameQuestion keep n a b × (0 < cnt keep n)) (questionOf rule question n) (questionOf (ruleOf book') question' (cnt keep n)))
       (sym (rule-same keep n book book' hb)) (strike-question keep n few (ruleOf book') question question' hq (λ i l t. absent-zero question i t)))
     where
-      go : (o : Out Question) → Acc (λ (a b : Question). SameQuestion keep n a b × (0 < cnt keep n) × (a .task ≡ word question 1)) o (questionOf (ruleOf book') question' (cnt keep n))
+      go : (o : Out Question) → Acc (λ (a b : Question). SameQuestion keep n a b × (0 < cnt keep n)) o (questionOf (ruleOf book') question' (cnt keep n))
           → Acc (Alike keep n) (bind o (answerTo book n)) (sheetOf book' question' room')
       go (no r) h = acc-no _
       go (ok q) h =
           let p = accepted h in
-          subst (λ (o : Out (List ℕ)). Acc (Alike keep n) (answerTo book n q) o) (sym (opened' (p .0) (p .2 .1) (p .1))) (answers q (p .0) (p .2 .0) (p .2 .2))
+          subst (λ (o : Out (List ℕ)). Acc (Alike keep n) (answerTo book n q) o) (sym (opened' (p .0) (p .2 .1) (p .1))) (answers q (p .0) (p .2 .0))
 
 -- the whole call, for any two answer slices
-strike-sheet : (book question book' question' : List ℕ) → Shorter book question book' question' → word question 1 ≢ 5 → (room room' : ℕ) → answerRoom ≤ room'
+strike-sheet : (book question book' question' : List ℕ) → Shorter book question book' question' → (room room' : ℕ) → answerRoom ≤ room'
     → Acc (Alike (keptIn question) (solvents book)) (sheetOf book question room) (sheetOf book' question' room')
 unfolding sheetOf sheetFrom roomy bind
-strike-sheet book question book' question' h other room room' enough = go (bookOf book) refl
+strike-sheet book question book' question' h room room' enough = go (bookOf book) refl
   where
     go : (o : Out Head) → bookOf book ≡ o → Acc (Alike (keptIn question) (solvents book)) (bind o (λ g. sheetFrom book (g .n) question room)) (sheetOf book' question' room')
     go (no r) e = acc-no _
@@ -94,7 +93,7 @@ strike-sheet book question book' question' h other room room' enough = go (bookO
         subst (λ (m : ℕ). Acc (Alike (keptIn question) m) (sheetFrom book (g .n) question room) (sheetOf book' question' room')) (sym c)
         (acc-passed (leb answerRoom room) 10 _ _
         (asked book question book' question' g e (subst (λ (m : ℕ). ShorterBook (keptIn question) m book book') c (h .of-book))
-        (subst (λ (m : ℕ). ShorterQuestion (ruleOf book') (keptIn question) m question question') c (h .of-question)) other room' enough))
+        (subst (λ (m : ℕ). ShorterQuestion (ruleOf book') (keptIn question) m question question') c (h .of-question)) room' enough))
 
 -- what was written to a slice stands before what stood there
 accepted-is : {A : Type 0} (o : Out A) → Accepted o → (a : A) × (o ≡ ok a)
@@ -104,17 +103,17 @@ accepted-is (no r) h = absurd h
 
 pub striking : Demand3
 unfolding Alike Accepted written
-striking book question book' question' h other old old' enough took =
+striking book question book' question' h old old' enough took =
     let p = accepted-is (sheetOf book question (length old)) took in
-    let q = accepted (subst (λ (o : Out (List ℕ)). Acc (Alike (keptIn question) (solvents book)) o (sheetOf book' question' (length old'))) (p .1) (strike-sheet book question book' question' h other (length old) (length old') enough)) in
+    let q = accepted (subst (λ (o : Out (List ℕ)). Acc (Alike (keptIn question) (solvents book)) o (sheetOf book' question' (length old'))) (p .1) (strike-sheet book question book' question' h (length old) (length old') enough)) in
     rw (p .1, q .1) (tt, q .2 (drop (length (p .0)) old) (drop (length (q .0)) old'))
 
 -- 0 means an answer, since every refusal has a number
 pub striking-calls : Calls
 unfolding Accepted numberOf
-striking-calls book question book' question' h other old new old' new' r' enough a b =
+striking-calls book question book' question' h old new old' new' r' enough a b =
     let p = zero-is-answer book question (length old) (sym (a .number)) in
-    let q = striking book question book' question' h other old old' enough (rw (p .1) tt) in
+    let q = striking book question book' question' h old old' enough (rw (p .1) tt) in
     let o = accepted-is (sheetOf book' question' (length old')) (q .0) in
     (b .number ∙ rw (o .1), rw (a .bytes, b .bytes) (q .1))
 
@@ -176,13 +175,14 @@ unfolding room
 enough = rw (length-replicate {A = ℕ} answerRoom 0) (le-refl answerRoom)
 
 pub same-drum : SameDrum
-same-drum book question book' question' short ask h g other old old' took took' =
-    let task : word question 1 ≡ word question' 1 = h .of-question .head 1 (omega arith) ∙ sym (g .of-question .head 1 (omega arith)) in
+same-drum book question book' question' short ask h g old old' took took' =
     equal-sheet (keptIn question) (solvents book) (keptIn question') (solvents book')
-    (striking book question short ask h other old room enough took .1)
-    (striking book' question' short ask g (λ z. other (task ∙ z)) old' room enough took' .1)
+    (striking book question short ask h old room enough took .1)
+    (striking book' question' short ask g old' room enough took' .1)
 
--- demand 3 as the scope words it for bubble temperature: its premise isn't used
-pub striking-4 : Demand3-4
-striking-4 tried book question book' question' h four premise =
-    striking book question book' question' h (λ (z : word question 1 ≡ 5). let e : 4 ≡ 5 = sym four ∙ z in omega arith)
+-- demand 3 as the scope words it for bubble temperature, and for dew temperature: the premise isn't used
+pub striking-4 : Worded 4
+striking-4 tried book question book' question' h task premise = striking book question book' question' h
+
+pub striking-5 : Worded 5
+striking-5 tried book question book' question' h task premise = striking book question book' question' h

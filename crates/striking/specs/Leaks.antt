@@ -1,20 +1,23 @@
--- Four ways in which an absent solvent could show, each a definition of the core with one line changed. None is used: crates/striking/proofs/Leaks.antt refutes the law of
+-- Five ways in which an absent solvent could show, each a definition of the core with one line changed. None is used: crates/striking/proofs/Leaks.antt refutes the law of
 -- striking for each of them. Assumes nothing.
 use Prim.Native.Nat.{ℕ, zero, suc}
 use mathlib.Core.Bool.{not, cond}
 use mathlib.Core.List.{List}
 use lib.Dec.{ltb}
 use lib.Ieee.{Float, lt, le}
-use Rattle.floats.specs.Arithmetic.{_⊖_, _⊗_, _⊘_, 0f, ½, 1f, ∞, -∞}
+use Rattle.floats.specs.Arithmetic.{_⊕_, _⊖_, _⊗_, _⊘_, 0f, ½, 1f, ∞, -∞}
 use Rattle.floats.specs.Small.{isFinite, maxOf, minOf, absOf}
 use Rattle.floats.specs.Fold.{foldTo, sumTo}
 use Rattle.floats.specs.Vector.{at, vec}
 use Rattle.floats.specs.Outcome.{Out, ok, no, bind, need, choose}
-use Rattle.numerics.specs.Numerics.{expOf}
+use Rattle.numerics.specs.Numerics.{expOf, lnOf}
+use Rattle.thermo_types.specs.Quantities.{positiveOf}
 use Rattle.thermo_types.specs.declared.ActivityOptions.{ActivityOptions}
-use Rattle.thermo_models.specs.Model.{Activity}
+use Rattle.thermo_models.specs.Model.{Activity, Pures, Activities, Liquids}
 use Rattle.rachford_rice.specs.Rachford.{Solution, validate, iterate}
-use Rattle.saturation.specs.Saturation.{Bubble}
+use Rattle.saturation.specs.Saturation.{Bubble, Dew, Saturation, dewAt}
+use Rattle.saturation_temperature.specs.Search.{Point}
+use Rattle.saturation_temperature.specs.Boiling.{dewFound, saturationTemperature}
 use Rattle.liquid_stability.specs.Stability.{Trials, noTrials, withTrial, presentCount, tangent, startOf, trialFrom}
 use Rattle.tp_flash.specs.Split.{Split, splitTurn}
 
@@ -80,3 +83,21 @@ module _ (E : List Float → Out Activity) (n : ℕ) (o : ActivityOptions) (x : 
       choose (ltb (presentCount x n) 2)
       (ok noTrials)
       (leakyTrials (tangent x (a .lnGamma) n) n))
+
+-- ---- 5. the dew temperature's slope over all solvents
+-- `dewSlope` of Boiling.antt, which steps at `active (at y)` alone
+unfoldable pub leakySlope : Dew → Pures → ℕ → Float
+leakySlope d pure n = sumTo (λ i. at (d .liquid) i ⊗ (at (d .activity .slopes) i ⊕ at (pure .slope) i)) n
+
+module _ (E : Activities) (L : Liquids) (n : ℕ) (o : ActivityOptions) (p : Float) (y : List Float) where
+  -- `dewPoint` over it
+  unfoldable pub leakyPoint : Float → Out Point
+  leakyPoint t =
+      bind (positiveOf t 13) (λ T.
+      bind (L T) (λ pure.
+      bind (dewAt (E T) (pure .pressure) n o y) (λ d.
+      ok (record { value = lnOf (d .pressure) ⊖ lnOf p; slope = leakySlope d pure n }))))
+
+  -- `dewTemperature` over it
+  unfoldable pub leakyTemperature : Out Saturation
+  leakyTemperature = saturationTemperature leakyPoint (dewFound E L n o p y) o p

@@ -1,7 +1,6 @@
 -- Demand 3: nothing of a solvent that isn't in the drum shows in an answer. Over the definition of the whole call, from bytes to bytes. Assumes nothing.
 use Prim.Native.Nat.{ℕ, _+_, _≤_, _<_}
 use mathlib.Core.Path.{_≡_}
-use mathlib.Core.Logic.{_≢_}
 use mathlib.Core.Bool.{Bool}
 use mathlib.Core.List.{List}
 use lib.ListN.{length}
@@ -12,7 +11,6 @@ use Rattle.floats.specs.Outcome.{Out, ok, no}
 use Rattle.blocks.specs.Words.{word}
 use Rattle.book.specs.Places.{words}
 use Rattle.thermo_models.specs.Model.{Activity}
-use Rattle.question.specs.Asked.{feedOf}
 use Rattle.thermo_models.specs.Mixture.{activity, mixtureOf}
 use Rattle.replies.specs.Blocks.{answerRoom}
 use Rattle.sheet.specs.Sheet.{sheetOf, written, Answers}
@@ -30,17 +28,17 @@ Accepted (no r) = ⊥
 abbrev pub after : List ℕ → List ℕ → List ℕ → List ℕ
 after book question old = written (sheetOf book question (length old)) old
 
--- for every task but dew temperature (5): where the longer call is accepted, so is the shorter with any answer slice that passes question 10, and the words are equal
+-- for every task: where the longer call is accepted, so is the shorter with any answer slice that passes question 10, and the words are equal
 abbrev pub Demand3 : Type 0
 Demand3 =
-    (book question book' question' : List ℕ) → Shorter book question book' question' → word question 1 ≢ 5
+    (book question book' question' : List ℕ) → Shorter book question book' question'
     → (old old' : List ℕ) → answerRoom ≤ length old' → Accepted (sheetOf book question (length old))
     → Accepted (sheetOf book' question' (length old')) × SameSheet (keptIn question) (solvents book) (after book question old) (after book' question' old')
 
 -- the same of two calls of the entry point, by its contract: it gives 0 and leaves the slice `new`, and then it gives r' and leaves `new'`
 abbrev pub Calls : Type 0
 Calls =
-    (book question book' question' : List ℕ) → Shorter book question book' question' → word question 1 ≢ 5
+    (book question book' question' : List ℕ) → Shorter book question book' question'
     → (old new old' new' : List ℕ) (r' : ℕ) → answerRoom ≤ length old' → Answers (sheetOf book question (length old)) 0 old new → Answers (sheetOf book' question' (length old')) r' old' new'
     → (r' ≡ 0) × SameSheet (keptIn question) (solvents book) new new'
 
@@ -75,19 +73,19 @@ pub record EqualSheet (keep : ℕ → Bool) (n : ℕ) (keep' : ℕ → Bool) (n'
 -- the corollary: two accepted calls that strike down to the same shorter book and question have equal answers for the solvents kept
 abbrev pub SameDrum : Type 0
 SameDrum =
-    (book question book' question' short ask : List ℕ) → Shorter book question short ask → Shorter book' question' short ask → word question 1 ≢ 5
+    (book question book' question' short ask : List ℕ) → Shorter book question short ask → Shorter book' question' short ask
     → (old old' : List ℕ) → Accepted (sheetOf book question (length old)) → Accepted (sheetOf book' question' (length old'))
     → EqualSheet (keptIn question) (solvents book) (keptIn question') (solvents book') (after book question old) (after book' question' old')
 
--- ---- the scope's premise for bubble temperature (4), for the temperatures that `tried` names: no slope of a kept solvent's ln γ is a NaN, unless it is one with
--- the shorter book too. `striking` holds without it; `Demand3-4` is the worded form, for any `tried`
-pub record NoNewNan (tried : Float → Type 0) (book question book' question' : List ℕ) : Type 0 where
-  pub slope : (t : Float) → tried t → (a a' : Activity) → activity (mixtureOf book (solvents book)) t (feedOf question (solvents book)) ≡ ok a
-      → activity (mixtureOf book' (solvents book')) t (feedOf question' (solvents book')) ≡ ok a'
+-- ---- the scope's premise for bubble and dew temperature (4, 5), for each temperature and composition that `tried` names, with the composition of the shorter call: no slope of a
+-- kept solvent's ln γ is a NaN, unless it is one with the shorter book too. `striking` holds without it; `Worded` is the worded form, for any `tried`
+pub record NoNewNan (tried : Float → List Float → List Float → Type 0) (book question book' : List ℕ) : Type 0 where
+  pub slope : (t : Float) (x x' : List Float) → tried t x x' → (a a' : Activity) → activity (mixtureOf book (solvents book)) t x ≡ ok a
+      → activity (mixtureOf book' (solvents book')) t x' ≡ ok a'
       → (i : ℕ) → i < solvents book → T (keptIn question i) → T (isNan (at (a .slopes) i)) → T (isNan (at (a' .slopes) (cnt (keptIn question) i)))
 
-abbrev pub Demand3-4 : Type 1
-Demand3-4 =
-    (tried : Float → Type 0) (book question book' question' : List ℕ) → Shorter book question book' question' → word question 1 ≡ 4 → NoNewNan tried book question book' question'
-    → (old old' : List ℕ) → answerRoom ≤ length old' → Accepted (sheetOf book question (length old))
+abbrev pub Worded : ℕ → Type 1
+Worded task =
+    (tried : Float → List Float → List Float → Type 0) (book question book' question' : List ℕ) → Shorter book question book' question' → word question 1 ≡ task
+    → NoNewNan tried book question book' → (old old' : List ℕ) → answerRoom ≤ length old' → Accepted (sheetOf book question (length old))
     → Accepted (sheetOf book' question' (length old')) × SameSheet (keptIn question) (solvents book) (after book question old) (after book' question' old')

@@ -1,12 +1,12 @@
-//! Runs demand 3 on the core: generated sheets with absent solvents, and the same sheets with those struck.
+//! Runs demand 3 on the core: generated sheets with absent solvents, and the same sheets with those struck. Every sheet asked is
+//! compared with the reference too.
 //!
-//! strike [--count N] [--seed S]     N accepted sheets, as many of each task
+//! strike [--count N] [--seed S] [--task K]     N accepted sheets, as many of each task, or of task K
 
 use std::process::ExitCode;
 
-use reference::command::{count_and_seed, not_built_in_fails};
+use reference::command::not_built_in_fails;
 use reference::generate::absent::Base;
-use reference::generate::differences::dew_temperature;
 use reference::generate::Rng;
 use reference::sheet::ANSWER_BYTES;
 use reference::stage::{hex_bytes, Stage};
@@ -26,11 +26,12 @@ struct Counts {
     several: usize,
     alone: usize,
     failures: usize,
+    differences: usize,
 }
 
 fn main() -> ExitCode {
-    let Some((count, seed)) = count_and_seed(80_000) else {
-        eprintln!("usage: strike [--count N] [--seed S]");
+    let Some((count, seed, tasks)) = options() else {
+        eprintln!("usage: strike [--count N] [--seed S] [--task K]");
         return ExitCode::from(2);
     };
     if !Stage::Sheet.built_in() {
@@ -38,15 +39,29 @@ fn main() -> ExitCode {
         return ExitCode::from(u8::from(not_built_in_fails()));
     }
     let mut rng = Rng::new(seed);
-    let mut all = [0; 2];
-    for task in TASKS {
-        let counts = run(&mut rng, task, count.div_ceil(TASKS.len()));
-        print(task, &counts);
-        all = [all[0] + counts.accepted, all[1] + counts.failures];
+    let mut all = [0; 3];
+    for task in &tasks {
+        let counts = run(&mut rng, *task, count.div_ceil(tasks.len()));
+        print(*task, &counts);
+        all = [all[0] + counts.accepted, all[1] + counts.failures, all[2] + counts.differences];
     }
-    all[1] += dew_temperatures(&mut rng);
-    println!("strike: {} accepted with absent solvents, {} failures", all[0], all[1]);
-    ExitCode::from(u8::from(all[1] > 0))
+    println!("strike: {} accepted with absent solvents, {} failures, {} differences", all[0], all[1], all[2]);
+    ExitCode::from(u8::from(all[1] + all[2] > 0))
+}
+
+/// Count, seed and tasks; `None` where a word is not understood.
+fn options() -> Option<(usize, u64, Vec<u64>)> {
+    let (mut count, mut seed, mut tasks) = (80_000, 1, TASKS.to_vec());
+    let mut words = std::env::args().skip(1);
+    while let Some(word) = words.next() {
+        match word.as_str() {
+            "--count" => count = words.next()?.parse().ok()?,
+            "--seed" => seed = words.next()?.parse().ok()?,
+            "--task" => tasks = vec![words.next()?.parse().ok().filter(|task| TASKS.contains(task))?],
+            _ => return None,
+        }
+    }
+    Some((count, seed, tasks))
 }
 
 fn run(rng: &mut Rng, task: u64, wanted: usize) -> Counts {
@@ -56,13 +71,20 @@ fn run(rng: &mut Rng, task: u64, wanted: usize) -> Counts {
         for _ in 0..TRIES {
             let sheet = Sheet { book: base.aimed(rng), question: base.question() };
             counts.calls += 1;
-            match shown(rng, core, &sheet) {
+            if differs(&sheet) {
+                counts.differences += 1;
+                if counts.differences <= SHOWN {
+                    show("differs", &sheet);
+                }
+            }
+            // No sheet depends on the answers before it.
+            match shown(&mut rng.clone(), core, &sheet) {
                 Shown::Refused(_) => continue,
                 Shown::Equal => {}
                 failed => {
                     counts.failures += 1;
                     if counts.failures <= SHOWN {
-                        show(&sheet, failed);
+                        show(&format!("{failed:?}"), &sheet);
                     }
                 }
             }
@@ -72,22 +94,13 @@ fn run(rng: &mut Rng, task: u64, wanted: usize) -> Counts {
     counts
 }
 
-/// Dew temperature is left out of demand 3: the one that shows an absent solvent is the reference's. How often it is not.
-fn dew_temperatures(rng: &mut Rng) -> usize {
-    let differs = |limit: &&u64| {
-        let (book, ask) = dew_temperature(**limit);
-        let long = Sheet { book, question: ask.bytes() };
-        let short = long.shorter(rng, &long.kept());
-        let found = [core as Call, reference]
-            .map(|call| [&long, &short].map(|sheet| sheet.blocks(rng, call, ANSWER_BYTES).map(|blocks| blocks[0])));
-        let [a, b] = found[0].map(|blocks| blocks.map_or_else(|number| (number, 0), |words| (0, words[8])));
-        println!(
-            "task 5, at most {limit} temperatures: longer sheet number {} and {} iterations, shorter number {} and {}",
-            a.0, a.1, b.0, b.1
-        );
-        found[0] != found[1] || a == b
-    };
-    [200, 10].iter().filter(differs).count()
+/// Whether the core answers a sheet otherwise than the reference.
+fn differs(sheet: &Sheet) -> bool {
+    let [a, b] = [core as Call, reference].map(|call| {
+        let mut answer = [0xa5; ANSWER_BYTES];
+        (call(&sheet.book, &sheet.question, &mut answer), answer)
+    });
+    a != b
 }
 
 fn add(counts: &mut Counts, sheet: &Sheet) {
@@ -101,15 +114,15 @@ fn add(counts: &mut Counts, sheet: &Sheet) {
 }
 
 fn print(task: u64, counts: &Counts) {
-    let Counts { calls, accepted, zeros: [plus, minus], several, alone, failures } = counts;
+    let Counts { calls, accepted, zeros: [plus, minus], several, alone, failures, differences } = counts;
     println!(
-        "task {task}: {calls} asked, {accepted} accepted ({plus} with +0, {minus} with -0, {several} with two absent and more, {alone} with one kept), {failures} failures"
+        "task {task}: {calls} asked, {accepted} accepted ({plus} with +0, {minus} with -0, {several} with two absent and more, {alone} with one kept), {failures} failures, {differences} differences"
     );
 }
 
-fn show(sheet: &Sheet, failed: Shown) {
+fn show(what: &str, sheet: &Sheet) {
     let mut line = String::new();
     hex_bytes(&mut line, &sheet.book);
     hex_bytes(&mut line, &sheet.question);
-    println!("{failed:?}:{line}");
+    println!("{what}:{line}");
 }

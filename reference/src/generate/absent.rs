@@ -6,10 +6,12 @@ use super::feeds::{self, Absent};
 use super::questions::{self, Draft};
 use super::{numbers, Rng};
 use crate::helpers;
+use crate::named::solvers::{activity_dew_pressure, ActivityOptions};
 use crate::sheet::blocks::Words;
 use crate::sheet::book::{DENSITY, VAPOR_PRESSURE};
 use crate::sheet::open_book;
 use crate::sheet::question::{BRACKET, FRACTIONS, K_VALUES, TEMPERATURE};
+use crate::types::Temperature;
 
 /// Ends of the model's range, K.
 const COLDEST: f64 = 273.16;
@@ -20,6 +22,8 @@ pub struct Base {
     book: books::Draft,
     question: Draft,
     absent: Vec<usize>,
+    /// Task 5, built for a slope over all solvents.
+    overflows: bool,
 }
 
 impl Base {
@@ -32,16 +36,18 @@ impl Base {
         let mut question = questions::with_feed(rng, &opened, task, &feed);
         // Tasks 8 and 9 may have drawn another feed.
         question.put_all(FRACTIONS, &feed);
-        if matches!(task, 4 | 5) && rng.one_in(2) {
+        let overflows = task == 5 && rng.one_in(5);
+        if overflows || matches!(task, 4 | 5) && rng.one_in(2) {
             // So narrow that a slope near the largest float stays finite in it.
             let t = f64::from_bits(question.words[TEMPERATURE]);
-            question.put_all(BRACKET, &[t - rng.range(0.0, 0.003), t + rng.range(0.0, 0.003)]);
+            let widest = if overflows { 0.001 } else { 0.003 };
+            question.put_all(BRACKET, &[t - rng.range(0.0, widest), t + rng.range(0.0, widest)]);
         }
         for i in &absent {
             let extremes = [f64::from_bits(1), f64::MAX, 1.0, f64::MIN_POSITIVE, numbers::positive(rng)];
             question.put(K_VALUES + i, rng.pick(&extremes));
         }
-        Self { book, question, absent }
+        Self { book, question, absent, overflows }
     }
 
     pub fn question(&self) -> Vec<u8> {
@@ -50,7 +56,10 @@ impl Base {
 
     /// The book with other data for most absent solvents.
     pub fn aimed(&self, rng: &mut Rng) -> Vec<u8> {
-        let t = f64::from_bits(self.question.words[TEMPERATURE]);
+        if self.overflows {
+            return self.overflowing(rng).unwrap_or_else(|| self.book.clone()).bytes();
+        }
+        let t = self.temperature();
         let mut book = self.book.clone();
         for i in &self.absent {
             if rng.percent(90) {
@@ -61,6 +70,45 @@ impl Base {
             }
         }
         book.bytes()
+    }
+
+    /// A temperature of the question, K.
+    fn temperature(&self) -> f64 {
+        f64::from_bits(self.question.words[TEMPERATURE])
+    }
+
+    /// Near t the derivatives of ln γ and of ln p of an absent solvent, each finite, sum to −infinity. `None` where there is no
+    /// dew point at t.
+    fn overflowing(&self, rng: &mut Rng) -> Option<books::Draft> {
+        let (t, i) = (self.temperature(), rng.pick(&self.absent));
+        let mut book = self.book.clone();
+        cancelling(&mut book.blocks[1 + i], rng.decade(20.0, 100.0), f64::MAX, 1);
+        // τ_ij = −t3 T and α τ_ij = −b at t for every j: the derivative of ln γ_i is in proportion to t3.
+        let b = t * rng.range(0.998, 1.0) - 1.0;
+        let mut put_tau = |tau: f64| {
+            for at in book.pairs_of(i) {
+                let words = &mut book.blocks[at];
+                let first = words[1] == i as u64;
+                (TAU..TAU + 8).for_each(|at| put(words, at, 0.0));
+                put(words, if first { TAU + 3 } else { TAU + 7 }, tau / t);
+                put_alphas(words, b / -tau, 0.0);
+            }
+            self.slope(&book, t, i)
+        };
+        let tried = -(f64::MAX / 16.0 / helpers::exp(b));
+        let size = f64::MAX / put_tau(tried)?.abs();
+        put_tau(tried * size * rng.range(0.9972, 0.9999));
+        Some(book)
+    }
+
+    /// ∂ ln γ_i/∂T at the incipient liquid at t.
+    fn slope(&self, book: &books::Draft, t: f64, i: usize) -> Option<f64> {
+        let feed: Vec<f64> = (0..self.book.n).map(|k| f64::from_bits(self.question.words[FRACTIONS + k])).collect();
+        let kelvin = Temperature::new(t).ok()?;
+        let ordinary = open_book(&self.book.bytes()).ok()?.model().with_fractions(&feed).ok()?;
+        let liquid = activity_dew_pressure(&ordinary, kelvin, ActivityOptions::default()).ok()?.liquid;
+        let excess = open_book(&book.bytes()).ok()?.model().nrtl().excess_at(kelvin, &liquid).ok()?;
+        Some(excess.d_ln_activity_coefficients_dt[i])
     }
 }
 
@@ -121,18 +169,25 @@ fn aim_solvent(rng: &mut Rng, words: &mut Words) {
     }
 }
 
-/// θ rounds to 1 and the terms cancel in pairs: d ln p/dT = −n/T for each pair, with n near the largest float.
+/// d ln p/dT near the largest float or beyond.
 fn steep(rng: &mut Rng, words: &mut Words) {
-    let (at, sign) = (VAPOR_PRESSURE, rng.sign());
+    let sign = rng.sign();
     let large = if rng.one_in(2) { f64::MAX } else { rng.decade(290.0, 308.2) };
-    put(words, at, rng.decade(20.0, 100.0));
+    cancelling(words, rng.decade(20.0, 100.0), sign * large, rng.between(1, 4));
+    put(words, VAPOR_PRESSURE + HIGH, rng.pick(&[HOTTEST, 1e10]));
+}
+
+/// θ rounds to 1 and the terms cancel in pairs: d ln p/dT = −n/T for each pair.
+fn cancelling(words: &mut Words, t_r: f64, n: f64, pairs: usize) {
+    let at = VAPOR_PRESSURE;
+    put(words, at, t_r);
     put(words, at + LOW, COLDEST);
-    put(words, at + HIGH, rng.pick(&[HOTTEST, 1e10]));
-    words[at + COUNT] = 2 * rng.between(1, 4) as u64;
+    put(words, at + HIGH, HOTTEST);
+    words[at + COUNT] = 2 * pairs as u64;
     for pair in 0..4 {
-        put(words, at + N + 2 * pair, sign * large);
+        put(words, at + N + 2 * pair, n);
         put(words, at + EXPONENTS + 2 * pair, 1.0);
-        put(words, at + N + 2 * pair + 1, -sign * large);
+        put(words, at + N + 2 * pair + 1, -n);
         put(words, at + EXPONENTS + 2 * pair + 1, 0.0);
     }
 }
