@@ -29,7 +29,10 @@ EXAMPLES = {
 }
 
 
-DRUM_HELP = "mole fractions by name or CAS number; other solvents are absent"
+DRUM_HELP = (
+    "mole fractions by name or CAS number, or weights of all with their units (kg, g, t); other solvents are absent"
+)
+MASS_HELP = "mass fractions in place of --drum"
 TEMPERATURE_HELP = "with its unit: 351.44K, 78.29C or 78.29°C"
 PRESSURE_HELP = "with its unit: 90000Pa, 90kPa, 0.9bar, 900mbar, 1atm, 675mmHg, 675Torr or 13psi"
 BRACKET_HELP = "temperatures between which a point is looked for (default 273.16K:450K, narrowed to the book's ranges)"
@@ -37,6 +40,10 @@ LAYERS = (
     "./sheet layers --drum toluene=0.4,water=0.6 --temperature 25C",
     "./sheet layers --drum acetone=0.3,water=0.3,toluene=0.4 --pressure 1atm",
     "./sheet layers --pair toluene,water --pressure 101325Pa",
+)
+WEIGHED = (
+    "./sheet flash --drum ethanol=40kg,water=12kg --temperature 80C --pressure 1atm",
+    "./sheet bubble-temperature --mass ethanol=0.7,water=0.3 --pressure 1atm",
 )
 STATUSES = (
     "exit status: 0 an answer, 1 a refusal (of the core, or no layers that can be shown), 2 bad usage,\n"
@@ -74,7 +81,7 @@ def parser() -> Parser:
         + "\n  ".join(EXAMPLES.values())
         + "\n  ./sheet strike flash --drum ethanol=0.5,water=0.5 --temperature 78.29C --pressure 90kPa"
         + "\n  "
-        + "\n  ".join(LAYERS)
+        + "\n  ".join(WEIGHED + LAYERS)
         + "\n  ./sheet diagram txy --pair ethanol,water --pressure 101325Pa -o txy.svg"
         + f"\n\n{STATUSES}",
     )
@@ -137,7 +144,9 @@ def _add_task(commands, task: tasks.Task) -> None:
         example.replace("./sheet ", "./sheet strike ", 1),
     )
     _add_book_options(command)
-    command.add_argument("--drum", action="append", required=True, metavar="NAME=X,NAME=X", help=DRUM_HELP)
+    feed = command.add_mutually_exclusive_group(required=True)
+    feed.add_argument("--drum", action="append", metavar="NAME=X,NAME=X", help=DRUM_HELP)
+    feed.add_argument("--mass", action="append", metavar="NAME=W,NAME=W", help=MASS_HELP)
     _add_sheet_options(command)
     if task.takes_temperature:
         command.add_argument("--temperature", required=True, metavar="T", help=TEMPERATURE_HELP)
@@ -178,6 +187,7 @@ def _add_layers(commands) -> None:
     )
     _add_book_options(command)
     command.add_argument("--drum", action="append", metavar="NAME=X,NAME=X", help=DRUM_HELP)
+    command.add_argument("--mass", action="append", metavar="NAME=W,NAME=W", help=MASS_HELP)
     command.add_argument(
         "--pair", metavar="NAME,NAME", help="in place of a drum: a pair's two layers, or its heterogeneous azeotrope"
     )
@@ -300,10 +310,21 @@ def _add_diagram(commands) -> None:
 
 
 def _add_book(commands) -> None:
-    command = _add(commands, "book", "make book.bin from a yard text", "./sheet book yard/yard.txt -o book.bin")
+    command = _add(
+        commands,
+        "book",
+        "make book.bin from a yard text",
+        "./sheet book yard/yard.txt -o book.bin",
+        "./sheet book yard/yard.txt -o book.bin --book-version 1",
+    )
     command.add_argument("text", help="the yard text; docs/GUIDE.md lists its keys, yard/yard.txt is one")
     command.add_argument(
         "-o", "--output", required=True, metavar="FILE", help="the book.bin to write; - is standard output"
+    )
+    command.add_argument(
+        "--book-version",
+        choices=("1", "2"),
+        help="2 has molar masses, 1 has none, for a desk that knows no other (default: 2 where the text has them all)",
     )
 
 

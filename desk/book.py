@@ -3,17 +3,18 @@
 from dataclasses import dataclass
 from typing import List, Optional, Tuple
 
-from .blocks import BLOCK, CHECK, Words, floats_at, joined, put_floats, split
+from .blocks import BLOCK, CHECK, Words, bits_of, float_of, floats_at, joined, put_floats, split
 from .errors import DeskError
 
 MOST_SOLVENTS = 8
 MOST_TERMS = 8
-VERSION = 1
+VERSION, MASS_VERSION = 1, 2  # without molar masses, and with them
 KIND_HEAD, KIND_SOLVENT, KIND_PAIR = 1, 2, 3
 
 # first word of a solvent's two records, and the places in a record
 VAPOR_PRESSURE, DENSITY = 3, 24
 COUNT, COEFFICIENTS, EXPONENTS = 4, 5, 13
+MOLAR_MASS = 45  # of a solvent, from MASS_VERSION on
 # places in a pair block
 TAU_IJ, TAU_JI, ALPHA_IJ, ALPHA_JI, FLAG, BOUNDS, INFERRED = 3, 7, 11, 13, 15, 16, 18
 
@@ -35,6 +36,7 @@ class Solvent:
     cas: int
     vapor_pressure: Correlation
     density: Correlation
+    molar_mass: Optional[float] = None  # kg/mol
 
 
 @dataclass(frozen=True)
@@ -65,6 +67,11 @@ class Book:
     solvents: Tuple[Solvent, ...]
     pairs: Tuple[Pair, ...]  # in the order of due_pairs
 
+    @property
+    def version(self) -> int:
+        """The latest that it has the numbers for: molar masses stand in a book of all of them or of none."""
+        return VERSION if any(solvent.molar_mass is None for solvent in self.solvents) else MASS_VERSION
+
 
 def due_pairs(n: int) -> List[Tuple[int, int]]:
     """(0,1), (0,2) and on: the order of the pair blocks."""
@@ -75,21 +82,24 @@ def block_count(n: int) -> int:
     return 1 + n + n * (n - 1) // 2
 
 
-def encode(book: Book) -> bytes:
-    n = len(book.solvents)
-    head = [KIND_HEAD, VERSION, n]
-    solvents = [_solvent_words(i, solvent) for i, solvent in enumerate(book.solvents)]
+def encode(book: Book, version: Optional[int] = None) -> bytes:
+    """In the book's own version, or in an earlier one for who reads no later."""
+    n, version = len(book.solvents), version or book.version
+    head = [KIND_HEAD, version, n]
+    solvents = [_solvent_words(i, solvent, version) for i, solvent in enumerate(book.solvents)]
     pairs = [_pair_words(i, j, pair) for (i, j), pair in zip(due_pairs(n), book.pairs)]
     return joined([head] + solvents + pairs)
 
 
-def _solvent_words(index: int, solvent: Solvent) -> Words:
+def _solvent_words(index: int, solvent: Solvent, version: int) -> Words:
     words = [KIND_SOLVENT, index, solvent.cas] + [0] * (CHECK - 3)
     for at, record in ((VAPOR_PRESSURE, solvent.vapor_pressure), (DENSITY, solvent.density)):
         put_floats(words, at, (record.t_r, record.reducing, record.low, record.high))
         words[at + COUNT] = len(record.terms)
         put_floats(words, at + COEFFICIENTS, (n for n, _ in record.terms))
         put_floats(words, at + EXPONENTS, (exponent for _, exponent in record.terms))
+    if version != VERSION:
+        words[MOLAR_MASS] = bits_of(solvent.molar_mass)
     return words
 
 
@@ -110,8 +120,8 @@ def solvent_count(content: bytes) -> int:
     if not blocks or len(content) % BLOCK:
         raise DeskError(f"it has {len(content)} bytes, and a book is whole blocks of {BLOCK}")
     n = blocks[0][2]
-    if blocks[0][:2] != [KIND_HEAD, VERSION] or not 1 <= n <= MOST_SOLVENTS:
-        raise DeskError("its first block is not that of a book of version 1 with 1 to 8 solvents")
+    if blocks[0][0] != KIND_HEAD or blocks[0][1] not in (VERSION, MASS_VERSION) or not 1 <= n <= MOST_SOLVENTS:
+        raise DeskError("its first block is not that of a book of version 1 or 2 with 1 to 8 solvents")
     if len(blocks) != block_count(n):
         raise DeskError(f"it has {len(blocks)} blocks, and a book of {n} solvents has {block_count(n)}")
     return n
@@ -122,11 +132,19 @@ def cas_numbers(content: bytes) -> List[int]:
     return [words[2] for words in split(content)[1 : 1 + n]]
 
 
+def molar_masses(content: bytes) -> Optional[Tuple[float, ...]]:
+    """In kg/mol, as they stand there; None of a book that has none."""
+    n = solvent_count(content)
+    head, *blocks = split(content)
+    return None if head[1] == VERSION else tuple(float_of(words[MOLAR_MASS]) for words in blocks[:n])
+
+
 def decode(content: bytes) -> Book:
     """The records of an accepted book. Words that docs/FORMAT.md doesn't name are passed over."""
     n = solvent_count(content)
     blocks = split(content)
-    return Book(tuple(map(_solvent, blocks[1 : 1 + n])), tuple(map(_pair, blocks[1 + n :])))
+    masses = molar_masses(content) or (None,) * n
+    return Book(tuple(map(_solvent, blocks[1 : 1 + n], masses)), tuple(map(_pair, blocks[1 + n :])))
 
 
 def common_range(book: Book) -> Tuple[float, float]:
@@ -135,8 +153,8 @@ def common_range(book: Book) -> Tuple[float, float]:
     return max(record.low for record in records), min(record.high for record in records)
 
 
-def _solvent(words: Words) -> Solvent:
-    return Solvent(words[2], _correlation(words, VAPOR_PRESSURE), _correlation(words, DENSITY))
+def _solvent(words: Words, molar_mass: Optional[float]) -> Solvent:
+    return Solvent(words[2], _correlation(words, VAPOR_PRESSURE), _correlation(words, DENSITY), molar_mass)
 
 
 def _correlation(words: Words, at: int) -> Correlation:

@@ -3,6 +3,7 @@
 import argparse
 import os
 import sys
+from dataclasses import replace
 from typing import Optional, Tuple
 
 from . import (
@@ -10,16 +11,18 @@ from . import (
 )
 from . import tasks, text, units, yardcheck
 from .arguments import commands_of, options_of, parser
-from .book import encode
+from .book import MASS_VERSION, encode
 from .errors import DeskError, quoted, suggestion
+from .feed import Feed
 from .judgement import judged
 from .layersheet import layers_sheet
-from .openbook import bracket_of, fractions_of, is_binary, k_values_of, open_book, open_yard, place_of, yard_of
+from .openbook import bracket_of, feed_of, is_binary, k_values_of, open_book, open_yard, place_of, yard_of
 from .question import Question
 from .ranges import Ranges, ranges_at
 from .sheet import SHORT, NamedBook, Sheet, checksum, today
 from .showbook import listing
 from .sweep import Setting, curves
+from .yard import Yard
 from .yardwrite import write
 
 MOST_POINTS = 2001
@@ -40,15 +43,12 @@ DEMO = (
 def ask(arguments: argparse.Namespace) -> int:
     """One of the nine tasks."""
     book = open_book(arguments.book, arguments.names)
-    drum = fractions_of(book, ",".join(arguments.drum))
-    fractions = explain.normalized(drum) if arguments.normalize else drum
-    question = _question(arguments, book, fractions)
+    feed = feed_of(book, arguments.drum, arguments.mass, arguments.normalize)
+    question = _question(arguments, book, feed)
     with core.Core(book.content, arguments.program) as program:
         blocks = program.ask(question)
-        judgement = judged(program, book, question, blocks)
-        found = _ranges(program, book, question, blocks)
-    given = drum if fractions != drum else None
-    sheet = Sheet(book, question, blocks, judgement, found, _label(arguments), today(), given)
+        sheet = Sheet(book, feed, question, blocks, judged(program, book, question, blocks, feed=feed))
+        sheet = replace(sheet, ranges=_ranges(program, sheet), label=_label(arguments), date=today())
     if arguments.strike:
         return _strike(arguments, sheet)
     sys.stdout.write((jsonsheet if arguments.json else report).render(sheet, arguments.details))
@@ -59,23 +59,25 @@ def _label(arguments: argparse.Namespace) -> str:
     return " ".join(arguments.label.split())
 
 
-def _ranges(program: core.Core, book: NamedBook, question: Question, blocks: answer.Blocks) -> Optional[Ranges]:
+def _ranges(program: core.Core, sheet: Sheet) -> Optional[Ranges]:
     """At the temperature found or asked; none of a refusal, and of a split by given K values."""
-    if question.task.takes_k or blocks.refusal:
+    if sheet.question.task.takes_k or sheet.blocks.refusal:
         return None
-    kelvin = blocks.real(answer.T) if question.temperature is None else question.temperature
-    return ranges_at(program, book, question.fractions, kelvin)
+    asked = sheet.question.temperature
+    kelvin = sheet.blocks.real(answer.T) if asked is None else asked
+    return ranges_at(program, sheet.book, sheet.moles, kelvin)
 
 
-def _question(arguments: argparse.Namespace, book: NamedBook, fractions: Tuple[float, ...]) -> Question:
+def _question(arguments: argparse.Namespace, book: NamedBook, feed: Feed) -> Question:
     task = tasks.BY_COMMAND[arguments.command]
     return Question(
         task,
-        fractions,
+        feed.fractions,
         units.temperature(arguments.temperature, "--temperature") if task.takes_temperature else None,
         units.pressure(arguments.pressure, "--pressure") if task.takes_pressure else None,
-        k_values_of(book, ",".join(arguments.k), fractions) if task.takes_k else None,
+        k_values_of(book, ",".join(arguments.k), feed.fractions) if task.takes_k else None,
         options_of(arguments, bracket_of(book)),
+        feed.by_mass,
     )
 
 
@@ -106,19 +108,17 @@ def _strike(arguments: argparse.Namespace, sheet: Sheet) -> int:
 def layers(arguments: argparse.Namespace) -> int:
     """Two layers at T, or where they boil at p."""
     book = open_book(arguments.book, arguments.names)
-    if (arguments.drum is None) == (arguments.pair is None):
-        raise DeskError("layers takes --drum or --pair, and one of them alone")
+    if sum(given is not None for given in (arguments.drum, arguments.mass, arguments.pair)) != 1:
+        raise DeskError("layers takes --drum, --mass or --pair, and one of them alone")
     if arguments.temperature is None and arguments.pressure is None:
         raise DeskError("layers takes --temperature, --pressure or both")
     kelvin = units.temperature(arguments.temperature, "--temperature") if arguments.temperature else None
     pascals = units.pressure(arguments.pressure, "--pressure") if arguments.pressure else None
-    drum = fractions_of(book, ",".join(arguments.drum)) if arguments.drum else None
-    pair = _pair(arguments.pair, book) if arguments.pair else None
+    pair = _pair(arguments.pair, book) if arguments.pair is not None else None
+    feed = None if pair else feed_of(book, arguments.drum, arguments.mass, arguments.normalize)
     bracket = options_of(arguments, bracket_of(book)).bracket
     with core.Core(book.content, arguments.program) as program:
-        sheet = layers_sheet(
-            program, book, drum, pair, kelvin, pascals, bracket, _label(arguments), arguments.normalize
-        )
+        sheet = layers_sheet(program, book, feed, pair, kelvin, pascals, bracket, _label(arguments))
     if arguments.json:
         sys.stdout.write(jsonsheet.dumped(layersreport.document(sheet, arguments.details)))
     else:
@@ -196,10 +196,14 @@ def make_book(arguments: argparse.Namespace) -> int:
     yard = yard_of(arguments.text, content)
     if os.path.realpath(arguments.output) == os.path.realpath(arguments.text):
         raise DeskError(f"{arguments.output} is the text itself; give the book another name")
-    book = encode(yard.book)
+    version = _book_version(arguments.book_version, yard)
+    book = encode(yard.book, version)
     said = (
-        f"{text.counted(len(yard.names), 'solvent')}, {text.counted(len(yard.book.pairs), 'pair')}, {len(book)} bytes"
+        f"{text.counted(len(yard.names), 'solvent')}, {text.counted(len(yard.book.pairs), 'pair')}, {len(book)} bytes, "
+        f"version {version}"
     )
+    if yard.lacking and len(yard.lacking) < len(yard.names):
+        said += f" (no molar mass of {', '.join(yard.lacking)})"
     if arguments.output == picture.STANDARD_OUTPUT:
         sys.stdout.flush()
         sys.stdout.buffer.write(book)
@@ -207,6 +211,16 @@ def make_book(arguments: argparse.Namespace) -> int:
     files.write_whole(arguments.output, book)
     print(f"{arguments.output}: {said}, SHA-256 {checksum(book)[:SHORT]}")
     return 0
+
+
+def _book_version(asked: Optional[str], yard: Yard) -> int:
+    """The one asked for, or the latest that the text has the numbers for."""
+    if asked == str(MASS_VERSION) and yard.lacking:
+        raise DeskError(
+            "--book-version: version 2 needs the molar mass of every solvent, and the text lacks that of "
+            + ", ".join(yard.lacking)
+        )
+    return int(asked) if asked else yard.book.version
 
 
 def show(arguments: argparse.Namespace) -> int:

@@ -1,43 +1,62 @@
 """A refusal in the words of this sheet: what the drum, the temperatures and the book themselves show about it."""
 
 import math
-from typing import Iterator, List, Tuple
+from typing import Iterable, Iterator, List, Tuple
 
 from . import refusals, tasks, text
 from .book import decode
 from .errors import DeskError
+from .feed import Feed, normalized
 from .question import Options
 from .sheet import NamedBook, Sheet, drum_words
 
 FRACTIONS_DO_NOT_SUM, SUM_TOLERANCE = 18, 1e-10
 OUT_OF_DOMAIN = 22
-NOT_NORMALIZABLE = 34
+NOT_NORMALIZABLE, MOLAR_MASS = 34, 35
 
 
 def detail(sheet: Sheet) -> str:
     """Behind the matter of the refusal, in brackets."""
     number = sheet.blocks.refusal
     if number == FRACTIONS_DO_NOT_SUM and not _sums(sheet):
-        return f" (as given they sum to {math.fsum(sheet.question.fractions):.12g})"
+        return f" (as given they sum to {math.fsum(sheet.feed.fractions):.12g})"
     if number == OUT_OF_DOMAIN:
         found = list(_violations(sheet.book, _temperatures(sheet)))
         return f": {'; '.join(found)}" if found else ""
+    if number == NOT_NORMALIZABLE and sheet.feed.by_mass and sheet.by_mass is None:
+        return _listed(f"the moles of {name} at {mass:g} kg/mol" for name, mass in _too_light(sheet))
     if number == NOT_NORMALIZABLE:
         split = ", or a phase of the flash" if sheet.question.task == tasks.FLASH else ""
         return f": the dew point's liquid{split}"
+    if number == MOLAR_MASS:
+        return _listed(f"{name} {mass:g} kg/mol" for name, mass in _masses(sheet.book) if not 0 < mass < math.inf)
     return ""
+
+
+def _listed(found: Iterable[str]) -> str:
+    words = ", ".join(found)
+    return f": {words}" if words else ""
+
+
+def _masses(book: NamedBook) -> List[Tuple[str, float]]:
+    return list(zip(book.names, book.molar_masses or ()))
+
+
+def _too_light(sheet: Sheet) -> Iterator[Tuple[str, float]]:
+    """The solvents whose moles overflow."""
+    return (pair for pair, w in zip(_masses(sheet.book), sheet.feed.fractions) if not math.isfinite(w / pair[1]))
 
 
 def hint(sheet: Sheet) -> str:
     """For the one line on standard error: what to paste."""
     if sheet.blocks.refusal != FRACTIONS_DO_NOT_SUM or _sums(sheet):
         return ""
-    pasted = to_paste(sheet.book, sheet.question.fractions)
+    pasted = to_paste(sheet.book, sheet.feed)
     return f"; add --normalize, or paste {pasted}" if pasted else ""
 
 
 def _sums(sheet: Sheet) -> bool:
-    return abs(sum(sheet.question.fractions) - 1) <= SUM_TOLERANCE
+    return abs(sum(sheet.feed.fractions) - 1) <= SUM_TOLERANCE
 
 
 def advice(sheet: Sheet) -> List[str]:
@@ -46,22 +65,21 @@ def advice(sheet: Sheet) -> List[str]:
     if sheet.judgement.mark:
         return list(sheet.judgement.mark.advice)
     if number == FRACTIONS_DO_NOT_SUM and not _sums(sheet):
-        pasted = to_paste(sheet.book, sheet.question.fractions)
-        return ["What to do: add --normalize, or paste", pasted] if pasted else ["What to do: look at --drum."]
+        pasted = to_paste(sheet.book, sheet.feed)
+        look = f"What to do: look at {_option(sheet.feed)}."
+        return ["What to do: add --normalize, or paste", pasted] if pasted else [look]
     return [f"What to do: {refusals.advice(number, sheet.question.task.command)}."]
 
 
-def normalized(fractions: Tuple[float, ...]) -> Tuple[float, ...]:
-    """Each divided by the sum; as they are where that is no positive number."""
-    total = math.fsum(fractions)
-    return tuple(x / total for x in fractions) if 0 < total < math.inf else fractions
-
-
-def to_paste(book: NamedBook, fractions: Tuple[float, ...]) -> str:
-    whole = normalized(fractions)
-    if whole == fractions or min(whole) < 0:
+def to_paste(book: NamedBook, feed: Feed) -> str:
+    whole = normalized(feed.fractions)
+    if whole == feed.fractions or min(whole) < 0:
         return ""
-    return f"--drum {drum_words(book, whole, 12)}"
+    return f"{_option(feed)} {drum_words(book, whole, 12)}"
+
+
+def _option(feed: Feed) -> str:
+    return "--mass" if feed.by_mass else "--drum"
 
 
 def _temperatures(sheet: Sheet) -> Tuple[float, ...]:

@@ -8,7 +8,9 @@ from typing import Any, Dict, Iterable, List, Optional, Sequence
 
 from . import answer, explain, refusals, units
 from .blocks import bits_of, float_of, floats_at
+from .feed import RECKONED, ByMass, Feed
 from .ranges import Ranges
+from .report import phase_amounts
 from .sheet import NamedBook, Sheet
 from .version import VERSION
 
@@ -92,6 +94,7 @@ class Document:
             "one_liquid_layer": judgement.one_layer,
             "refusal": self._refusal(number) if number else None,
             "answer": None if number else self._answer(),
+            "by_mass": self._by_mass() if sheet.by_mass else None,
             "pairs": pairs_document(sheet.ranges),
         }
 
@@ -109,8 +112,7 @@ class Document:
         return {
             "temperature_K": number(question.temperature),
             "pressure_Pa": number(question.pressure),
-            "fractions": self.numbers.by_name(question.fractions),
-            "fractions_given": self.numbers.by_name(self.sheet.given) if self.sheet.given else None,
+            **feed_document(self.sheet.feed, self.numbers),
             "k_values": self.numbers.by_name(question.k_values) if question.k_values else None,
             "max_iterations": options.max_iterations,
             "tolerance": number(options.tolerance),
@@ -119,6 +121,17 @@ class Document:
             "tm_threshold": number(options.tm_threshold),
             "bracket_K": [number(end) for end in options.bracket],
         }
+
+    def _by_mass(self) -> Dict[str, Any]:
+        """Of a refusal the drum alone."""
+        sheet = self.sheet
+        amounts = {} if sheet.blocks.refusal else dict(phase_amounts(sheet))
+        there = (False, False)
+        if sheet.blocks.accepted and "liquid" in FIELDS[sheet.question.task.command]:
+            there = answer.phases(sheet.question.task, sheet.blocks)
+        entries = (("liquid", answer.LIQUID), ("vapor", answer.VAPOR))
+        phases = {name: sheet.entries(at) if here else None for (name, at), here in zip(entries, there)}
+        return mass_document(sheet.by_mass, sheet.feed, phases, amounts, self.numbers)
 
     def _answer(self) -> Dict[str, Any]:
         """The words that belong to the task; a phase that isn't there is null."""
@@ -171,6 +184,40 @@ class Document:
             "trivial": bool(words[answer.TRIAL_TRIVIAL]),
             "stopped_at": self.numbers.by_name(floats_at(words, answer.TRIAL_FRACTIONS, len(self.sheet.book.names))),
         }
+
+
+def feed_document(feed: Feed, numbers: Numbers) -> Dict[str, Any]:
+    """What goes to the core, and what that comes from."""
+    return {
+        "feed": "mass" if feed.by_mass else "moles",
+        "fractions": numbers.by_name(feed.fractions),
+        "fractions_given": numbers.by_name(feed.given) if feed.given else None,
+        "kilograms": numbers.by_name(feed.kilograms) if feed.kilograms else None,
+    }
+
+
+def mass_document(
+    mass: ByMass,
+    feed: Feed,
+    phases: Dict[str, Optional[Sequence[float]]],
+    amounts: Dict[str, float],
+    numbers: Numbers,
+) -> Dict[str, Any]:
+    """Not the core's: the drum's mole fractions, and mass fractions and kg of the phases."""
+
+    def phase(name: str, moles: Sequence[float]) -> Dict[str, Any]:
+        weighed = feed.kilograms and name in amounts
+        return {
+            "mass_fractions": numbers.by_name(mass.fractions(moles)),
+            "kilograms": numbers.by_name(mass.kilograms(moles, amounts[name])) if weighed else None,
+        }
+
+    return {
+        "reckoned_by": RECKONED,
+        "molar_masses_kg_per_mol": numbers.by_name(mass.masses),
+        "drum_mole_fractions": numbers.by_name(mass.moles),
+        **{name: phase(name, moles) if moles is not None else None for name, moles in phases.items()},
+    }
 
 
 def book_document(book: NamedBook, details: bool) -> Dict[str, Any]:

@@ -10,12 +10,13 @@ from typing import Callable, Dict, Iterator, List, Optional, Tuple
 from . import answer, tasks, text
 from .core import Core
 from .drops import Drop, drop_at, drop_under
+from .feed import Feed, by_mass
 from .layers import Boiling, boiling_at, boiling_of, layers_of
 from .liquids import ONE_LAYER, OUT_OF_PRESSURES, SPLITS, UNTESTED, Fractions, Liquids, Refused, Verdict, spread
 from .question import Question
 from .refusals import matter
 from .search import NotShown
-from .sheet import DEFAULT_BOOK, NamedBook, drum_words
+from .sheet import DEFAULT_BOOK, NamedBook, feed_words
 
 MAY_SPLIT = (26, 27, 28, 29, 30)  # refusals that a liquid in two layers can lead to
 NO_RESIDUAL = 1e-5
@@ -43,16 +44,34 @@ class Judgement:
     dew_holds: bool = True
 
 
-def judged(core: Core, book: NamedBook, question: Question, blocks: answer.Blocks, advise: bool = True) -> Judgement:
-    """With `advise` false the verdict alone: what holds instead isn't searched."""
-    return Judge(core, book, question, blocks, advise).judgement()
+def judged(
+    core: Core,
+    book: NamedBook,
+    question: Question,
+    blocks: answer.Blocks,
+    advise: bool = True,
+    feed: Optional[Feed] = None,
+) -> Judgement:
+    """With `advise` false the verdict alone: what holds instead isn't searched. `feed` is the question's as it was
+    given, for a command to paste."""
+    return Judge(core, book, question, blocks, advise, feed).judgement()
 
 
 class Judge:
-    def __init__(self, core: Core, book: NamedBook, question: Question, blocks: answer.Blocks, advise: bool = True):
+    def __init__(
+        self,
+        core: Core,
+        book: NamedBook,
+        question: Question,
+        blocks: answer.Blocks,
+        advise: bool = True,
+        feed: Optional[Feed] = None,
+    ):
         self.liquids = Liquids(core)
         self.book, self.question, self.blocks, self._advise = book, question, blocks, advise
-        self.drum = question.fractions
+        self._feed = feed or Feed(question.fractions, question.by_mass)
+        mass = by_mass(book.molar_masses, self._feed)
+        self.drum = mass.moles if mass else question.fractions  # mole fractions, wherever the core has converted
 
     def judgement(self) -> Judgement:
         task = self.question.task
@@ -168,7 +187,7 @@ class Judge:
 
     def _command(self, *options: str) -> str:
         book = [f"--book {self.book.file}"] if self.book.file != DEFAULT_BOOK else []
-        return " ".join(["./sheet layers", f"--drum {drum_words(self.book, self.drum)}", *options, *book])
+        return " ".join(["./sheet layers", feed_words(self.book, self._feed), *options, *book])
 
     def _at_temperature(self) -> str:
         return self._command(f"--temperature {text.exact(self.question.temperature)}K")
@@ -251,8 +270,9 @@ class Judge:
         yield self._certificate(drop)
 
     def _listed(self, values: Fractions) -> str:
-        names = self.book.names
-        return ", ".join(f"{names[i]} {text.fraction(value)}" for i, value in enumerate(values) if self.drum[i] != 0)
+        names, of_moles = self.book.names, " (mole fractions)" if self._feed.by_mass else ""
+        listed = (f"{names[i]} {text.fraction(value)}" for i, value in enumerate(values) if self.drum[i] != 0)
+        return ", ".join(listed) + of_moles
 
     # a split by given K values
 

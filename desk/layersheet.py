@@ -4,7 +4,8 @@ from typing import Iterator, Optional, Tuple
 
 from . import answer, tasks, text
 from .core import Core
-from .explain import FRACTIONS_DO_NOT_SUM, normalized, to_paste
+from .explain import FRACTIONS_DO_NOT_SUM, to_paste
+from .feed import Feed, by_mass
 from .layers import NO_ROOT, Boiling, Layers, boiling_at, boiling_of, in_domain, layers_of
 from .layersreport import COMPOSITIONS, LayersSheet
 from .liquids import OUT_OF_PRESSURES, SPLITS, Fractions, Liquids, Refused
@@ -19,31 +20,34 @@ from .sheet import NamedBook, today
 def layers_sheet(
     core: Core,
     book: NamedBook,
-    drum: Optional[Fractions],
+    feed: Optional[Feed],
     pair: Optional[Tuple[int, int]],
     kelvin: Optional[float],
     pascals: Optional[float],
     bracket: Tuple[float, float],
     label: str = "",
-    normalize: bool = False,
 ) -> LayersSheet:
     liquids = Liquids(core)
     asked = {
         "book": book, "pair": pair, "kelvin": kelvin, "pascals": pascals, "label": label, "date": today()
     }
-    given = None
-    if drum is not None:
-        whole = normalized(drum) if normalize else drum
-        drum, given = whole, drum if whole != drum else None
-    else:
-        drum = splitting(liquids, len(book.names), pair, kelvin, pascals, bracket)
-    found = _found(liquids, drum, kelvin, pascals, bracket)
-    if f"number {FRACTIONS_DO_NOT_SUM}:" in found.get("reason", "") and to_paste(book, drum):
-        found["reason"] += f"; add --normalize, or paste {to_paste(book, drum)}"
+    feed = feed or Feed(splitting(liquids, len(book.names), pair, kelvin, pascals, bracket))
+    mass = by_mass(book.molar_masses, feed)
+    drum = mass.moles if mass else feed.fractions
+    refused = _feed_refused(core, feed, bracket[0] if kelvin is None else kelvin) if feed.by_mass else ""
+    found = {"reason": refused} if refused else _found(liquids, drum, kelvin, pascals, bracket)
+    if f"number {FRACTIONS_DO_NOT_SUM}:" in found.get("reason", "") and to_paste(book, feed):
+        found["reason"] += f"; add --normalize, or paste {to_paste(book, feed)}"
     layers = found.get("layers")
     at = layers.kelvin if layers else kelvin if pair else found.get("one_layer_at") or kelvin
     ranges = ranges_at(core, book, drum, at) if at is not None and not found.get("reason") else None
-    return LayersSheet(**asked, drum=drum, given=given, ranges=ranges, **found)
+    return LayersSheet(**asked, drum=drum, feed=feed, ranges=ranges, **found)
+
+
+def _feed_refused(core: Core, feed: Feed, kelvin: float) -> str:
+    """The core's own questions to a feed by mass, which the search below it is asked in moles."""
+    blocks = core.ask(Question(tasks.EXCESS, feed.fractions, kelvin, by_mass=True))
+    return _refused(blocks) if blocks.refusal else ""
 
 
 def _found(
@@ -98,7 +102,11 @@ def _at_pressure(liquids: Liquids, drum: Fractions, pascals: float, bracket: Tup
 
 def _expect(blocks: answer.Blocks) -> None:
     if blocks.refusal:
-        raise NotShown(f"the core refused, number {blocks.refusal}: {matter(blocks.refusal)}")
+        raise NotShown(_refused(blocks))
+
+
+def _refused(blocks: answer.Blocks) -> str:
+    return f"the core refused, number {blocks.refusal}: {matter(blocks.refusal)}"
 
 
 def splitting(

@@ -4,13 +4,15 @@ from dataclasses import dataclass
 from typing import Any, Dict, List, Optional, Tuple
 
 from . import jsonsheet, ranges, text
+from .feed import ByMass, Feed, by_mass
 from .layers import Boiling, Layers
 from .ranges import Ranges
-from .report import marked
+from .report import drum_rows, marked, mass_tables
 from .sheet import SHORT, NamedBook
 from .version import VERSION
 
 COMPOSITIONS = 127  # of a pair that are tried
+NO_FEED = dict.fromkeys(("feed", "fractions", "fractions_given", "kilograms"))
 Lines = List[str]
 Fractions = Tuple[float, ...]
 
@@ -18,6 +20,7 @@ Fractions = Tuple[float, ...]
 @dataclass(frozen=True)
 class LayersSheet:
     """What was asked (a drum, or a pair whose heterogeneous azeotrope or solubilities are wanted) and what was found.
+    `drum` are mole fractions, `feed` is the drum as it was given.
 
     `layers` is None for a drum of one layer, and where nothing can be shown, which `reason` then says."""
 
@@ -28,7 +31,7 @@ class LayersSheet:
     pascals: Optional[float]
     label: str
     date: str
-    given: Optional[Fractions]
+    feed: Feed
     layers: Optional[Layers] = None
     boiling: Optional[Boiling] = None
     reason: str = ""  # no layers can be shown
@@ -44,7 +47,12 @@ class LayersSheet:
     @property
     def present(self) -> List[int]:
         """In the book's order, of a pair in the order asked."""
-        return list(self.pair) if self.pair else [i for i, x in enumerate(self.drum) if x != 0]
+        return list(self.pair) if self.pair else [i for i, x in enumerate(self.feed.fractions) if x != 0]
+
+    @property
+    def by_mass(self) -> Optional[ByMass]:
+        """None too where nothing can be shown."""
+        return None if self.reason else by_mass(self.book.molar_masses, self.feed)
 
     def heteroazeotrope(self) -> Optional[bool]:
         """Whether a pair's vapor lies between its layers, so that it boils to the end with one vapor."""
@@ -68,10 +76,9 @@ def render(sheet: LayersSheet, details: bool = False) -> str:
 
 
 def _head(sheet: LayersSheet, details: bool) -> Lines:
-    def listed(values: Fractions) -> str:
-        return ", ".join(
-            f"{sheet.book.names[i]} {(text.exact if details else text.plain)(values[i])}" for i in sheet.present
-        )
+    def listed(values: Fractions, unit: str = "") -> str:
+        written = text.exact if details else text.plain
+        return ", ".join(f"{sheet.book.names[i]} {written(values[i])}{unit}" for i in sheet.present)
 
     rows = [("Label", sheet.label)] if sheet.label else []
     digest = sheet.book.checksum if details else sheet.book.checksum[:SHORT]
@@ -82,9 +89,8 @@ def _head(sheet: LayersSheet, details: bool) -> Lines:
     if sheet.is_pair:
         rows.append(("Pair", " and ".join(sheet.book.names[i] for i in sheet.present)))
     else:
-        rows += [("Given", listed(sheet.given))] if sheet.given else []
-        rows.append(("Drum", listed(sheet.drum) + (", normalized" if sheet.given else "") + " (mole fractions)"))
-    absent = [name for name, x in zip(sheet.book.names, sheet.drum) if x == 0]
+        rows += drum_rows(sheet.feed, sheet.by_mass, listed)
+    absent = [name for name, x in zip(sheet.book.names, sheet.feed.fractions) if x == 0]
     rows += [("Absent", ", ".join(absent))] if absent else []
     if sheet.kelvin is not None:
         rows.append(("T asked", text.temperature(sheet.kelvin, details)))
@@ -156,8 +162,8 @@ def _compositions(sheet: LayersSheet, layers: Layers, details: bool) -> Lines:
     columns += [("layer 1", layers.first), ("layer 2", layers.second)]
     columns += [("first bubble", sheet.boiling.vapor)] if sheet.boiling else []
     rows = []
-    if not sheet.is_pair:
-        amounts = {"drum": 1.0, "layer 1": 1 - layers.amount, "layer 2": layers.amount}
+    amounts = {} if sheet.is_pair else {"drum": 1.0, "layer 1": 1 - layers.amount, "layer 2": layers.amount}
+    if amounts:
         rows.append(
             ["moles per mole of drum"]
             + [text.fraction(amounts[name], details) if name in amounts else "" for name, _ in columns]
@@ -165,7 +171,9 @@ def _compositions(sheet: LayersSheet, layers: Layers, details: bool) -> Lines:
     rows += [
         [sheet.book.names[i]] + [text.fraction(values[i], details) for _, values in columns] for i in sheet.present
     ]
-    return text.table(["mole fractions"] + [name for name, _ in columns], rows)
+    lines = text.table(["mole fractions"] + [name for name, _ in columns], rows)
+    names = [sheet.book.names[i] for i in sheet.present]
+    return lines + mass_tables(sheet.by_mass, sheet.feed, columns, amounts, sheet.present, names, details)
 
 
 def document(sheet: LayersSheet, details: bool = False) -> Dict[str, Any]:
@@ -178,8 +186,7 @@ def document(sheet: LayersSheet, details: bool = False) -> Dict[str, Any]:
         "book": jsonsheet.book_document(sheet.book, details),
         "question": {
             "pair": [sheet.book.names[i] for i in sheet.present] if sheet.is_pair else None,
-            "fractions": None if sheet.is_pair else numbers.by_name(sheet.drum),
-            "fractions_given": numbers.by_name(sheet.given) if sheet.given else None,
+            **(NO_FEED if sheet.is_pair else jsonsheet.feed_document(sheet.feed, numbers)),
             "temperature_K": numbers.number(sheet.kelvin),
             "pressure_Pa": numbers.number(sheet.pascals),
         },
@@ -191,8 +198,17 @@ def document(sheet: LayersSheet, details: bool = False) -> Dict[str, Any]:
         "boiling_point_at_the_pressure_asked_K": numbers.number(sheet.boils_at),
         "layers": _layers_document(sheet, sheet.layers, numbers) if sheet.layers else None,
         "boiling": _boiling_document(sheet, sheet.boiling, numbers) if sheet.boiling else None,
+        "by_mass": _mass_document(sheet, sheet.by_mass, numbers) if sheet.by_mass else None,
         "pairs": jsonsheet.pairs_document(sheet.ranges),
     }
+
+
+def _mass_document(sheet: LayersSheet, mass: ByMass, numbers: jsonsheet.Numbers) -> Dict[str, Any]:
+    layers, phases, amounts = sheet.layers, dict.fromkeys(("layer_1", "layer_2", "vapor")), {}
+    if layers:
+        phases.update(layer_1=layers.first, layer_2=layers.second, vapor=sheet.boiling.vapor if sheet.boiling else None)
+        amounts = {"layer_1": 1 - layers.amount, "layer_2": layers.amount}
+    return jsonsheet.mass_document(mass, sheet.feed, phases, amounts, numbers)
 
 
 def _layers_document(sheet: LayersSheet, layers: Layers, numbers: jsonsheet.Numbers) -> Dict[str, Any]:

@@ -16,7 +16,7 @@ FOLDER = ROOT / "target" / "staticlib"
 ANSWER_ROOM = 9 * BLOCK
 # as much as the program reads: one block more than any book has, one byte more than a question
 BOOK_MOST, QUESTION_MOST = 38 * BLOCK, BLOCK + 1
-LAST_WITHOUT_TASK = 12  # a refusal up to here was found before the task was known
+WITHOUT_TASK = (*range(1, 13), 35)  # refusals that are found before the task is known
 
 
 def folder() -> Path:
@@ -58,7 +58,7 @@ class Library:
         room = ctypes.create_string_buffer(ANSWER_ROOM)
         number = self._call(self._book, len(self._book), asked, len(asked), room, ANSWER_ROOM)
         if number:
-            task = 0 if number <= LAST_WITHOUT_TASK else words_of(asked)[answer.TASK]
+            task = 0 if number in WITHOUT_TASK else words_of(asked)[answer.TASK]
             return sealed([answer.KIND_ANSWER, task, number])
         trials = int.from_bytes(room[8 * answer.TRIALS : 8 * answer.TRIALS + 8], "little")
         return room[: BLOCK * (1 + trials)]

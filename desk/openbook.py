@@ -1,12 +1,13 @@
 """Opening a book for asking: a yard text, encoded on the fly, or a book.bin with names from a text or by CAS number."""
 
 import os
-from typing import Any, Callable, Dict, Optional, Tuple
+from typing import Any, Callable, Dict, List, NamedTuple, Optional, Tuple
 
 from . import core, files, units
 from .blocks import BLOCK
 from .book import cas_numbers, common_range, decode, encode
 from .errors import DeskError, quoted, suggestion
+from .feed import Feed, Fractions, normalized
 from .question import Options
 from .sheet import NamedBook
 from .yard import Yard
@@ -27,7 +28,8 @@ def open_book(path: str, names_from: Optional[str] = None) -> NamedBook:
 
 
 def named(yard: Yard, path: str) -> NamedBook:
-    return NamedBook(encode(yard.book), yard.names, tuple(solvent.cas for solvent in yard.book.solvents), shown(path))
+    cas = tuple(solvent.cas for solvent in yard.book.solvents)
+    return NamedBook(encode(yard.book), yard.names, cas, shown(path), yard.lacking)
 
 
 def shown(path: str) -> str:
@@ -89,9 +91,16 @@ def _as_cas(text: str) -> Optional[int]:
         return None
 
 
-def amounts(book: NamedBook, text: str, option: str) -> Dict[int, float]:
+class Amount(NamedTuple):
+    """NAME=NUMBER, as it was written."""
+
+    name: str
+    value: str
+
+
+def _amounts(book: NamedBook, text: str, option: str) -> Dict[int, Amount]:
     """NAME=NUMBER,NAME=NUMBER by the solvents' places."""
-    found: Dict[int, float] = {}
+    found: Dict[int, Amount] = {}
     for part in text.split(","):
         name, equals, value = part.partition("=")
         if not equals or not name.strip():
@@ -99,8 +108,14 @@ def amounts(book: NamedBook, text: str, option: str) -> Dict[int, float]:
         place = place_of(book, name.strip())
         if place in found:
             raise DeskError(f"{option}: {book.names[place]} stands there twice")
-        found[place] = units.number(value, f"{option}: {name.strip()}")
+        found[place] = Amount(name.strip(), value.strip())
     return found
+
+
+def _numbers(book: NamedBook, amounts: Dict[int, Amount], option: str, otherwise: float = 0.0) -> Fractions:
+    """One for each solvent of the book, in its order."""
+    read = {place: units.number(given.value, f"{option}: {given.name}") for place, given in amounts.items()}
+    return tuple(read.get(place, otherwise) for place in range(len(book.names)))
 
 
 def bracket_of(book: NamedBook) -> Tuple[float, float]:
@@ -117,14 +132,64 @@ def bracket_of(book: NamedBook) -> Tuple[float, float]:
 
 def fractions_of(book: NamedBook, drum: str) -> Tuple[float, ...]:
     """Solvents of the book that the drum doesn't name are absent, +0."""
-    given = amounts(book, drum, "--drum")
-    return tuple(given.get(place, 0.0) for place in range(len(book.names)))
+    return _numbers(book, _amounts(book, drum, "--drum"), "--drum")
+
+
+def feed_of(book: NamedBook, drum: Optional[List[str]], mass: Optional[List[str]], normalize: bool = False) -> Feed:
+    """From --drum, mole fractions or weights, or from --mass, mass fractions."""
+    option, words = ("--drum", drum) if drum is not None else ("--mass", mass or [])
+    amounts = _amounts(book, ",".join(words), option)
+    with_unit = [given for given in amounts.values() if units.has_unit(given.value)]
+    if with_unit and option == "--mass":
+        name, value = with_unit[0]
+        raise DeskError(f"--mass: {name} {value}: mass fractions have no unit; weights go to --drum {name}={value}")
+    weighed = _weighed(book, amounts) if with_unit else None
+    if weighed or option == "--mass":
+        _expect_masses(book)
+    if weighed:
+        return weighed
+    numbers = _numbers(book, amounts, option)
+    fractions = normalized(numbers) if normalize else numbers
+    return Feed(fractions, option == "--mass", numbers if fractions != numbers else None)
+
+
+def _weighed(book: NamedBook, amounts: Dict[int, Amount]) -> Feed:
+    """Weights, each by their sum: exact as they are written, and rounded once."""
+    bare = [given.name for given in amounts.values() if not units.has_unit(given.value)]
+    if bare:
+        raise DeskError(
+            f"--drum: {', '.join(bare)} has no unit where another solvent has one; "
+            f"give weights of all ({units.WEIGHTS}), or mole fractions of all"
+        )
+    weights = {place: units.weight(given.value, f"--drum: {given.name}") for place, given in amounts.items()}
+    total = sum(weights.values())
+    if total <= 0:
+        raise DeskError(f"--drum: the weights sum to {float(total):g} kg, and fractions are parts of a positive sum")
+    for place, weight in weights.items():
+        if weight and float(weight / total) == 0:
+            raise DeskError(f"--drum: {amounts[place].name} {amounts[place].value} is too little beside the others")
+    everything = [weights.get(place, 0) for place in range(len(book.names))]
+    return Feed(tuple(float(w / total) for w in everything), True, None, tuple(map(float, everything)))
+
+
+def _expect_masses(book: NamedBook) -> None:
+    """The core takes a feed by mass where every solvent of the book has a molar mass, absent ones too."""
+    if book.lacking:
+        raise DeskError(
+            f"a drum by mass needs the molar mass of every solvent of {book.file}, which lacks that of "
+            f"{', '.join(book.lacking)}: add 'molar mass = ... g/mol' there, or give mole fractions"
+        )
+    if book.molar_masses is None:
+        raise DeskError(
+            f"a drum by mass needs molar masses, and {book.file} is a book of version 1, which has none: make it again "
+            "with ./sheet book from a text that has them, or give mole fractions"
+        )
 
 
 def k_values_of(book: NamedBook, text: str, fractions: Tuple[float, ...]) -> Tuple[float, ...]:
     """An absent solvent without a K value gets 1, which no sum reads."""
-    given = amounts(book, text, "--k")
+    given = _amounts(book, text, "--k")
     for place, fraction in enumerate(fractions):
         if fraction != 0 and place not in given:
             raise DeskError(f"--k: {book.names[place]} is in the drum and has no K value")
-    return tuple(given.get(place, 1.0) for place in range(len(book.names)))
+    return _numbers(book, given, "--k", 1.0)

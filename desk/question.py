@@ -9,7 +9,8 @@ from .tasks import Task
 
 KIND = 8
 TASK, TEMPERATURE, PRESSURE, FRACTIONS, MAX_ITERATIONS, TOLERANCE, MAX_TEMPERATURE_ITERATIONS = 1, 2, 3, 4, 12, 13, 14
-ENERGY_TOLERANCE, TM_THRESHOLD, BRACKET, K_VALUES = 15, 16, 17, 19
+ENERGY_TOLERANCE, TM_THRESHOLD, BRACKET, K_VALUES, FEED = 15, 16, 17, 19, 27
+MOLES, MASS = 0, 1  # what the fractions are of
 
 
 @dataclass(frozen=True)
@@ -26,7 +27,8 @@ class Options:
 
 @dataclass(frozen=True)
 class Question:
-    """Fractions and K stand in the book's order. What a task doesn't take is None, and +0 in its word."""
+    """Fractions, of moles or of mass, and K stand in the book's order. What a task doesn't take is None, and +0 in its
+    word."""
 
     task: Task
     fractions: Tuple[float, ...]
@@ -34,6 +36,7 @@ class Question:
     pressure: Optional[float] = None  # Pa
     k_values: Optional[Tuple[float, ...]] = None
     options: Options = field(default_factory=Options)
+    by_mass: bool = False
 
     def words(self) -> Words:
         words = [0] * CHECK
@@ -42,6 +45,7 @@ class Question:
             words[at] = 0 if value is None else bits_of(value)
         put_floats(words, FRACTIONS, eight(self.fractions))
         put_floats(words, K_VALUES, eight(self.k_values or ()))
+        words[FEED] = MASS if self.by_mass else MOLES
         self._put_options(words)
         return words
 

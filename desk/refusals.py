@@ -19,7 +19,7 @@ REFUSALS: Dict[int, Refusal] = {
     1: Refusal("the book is empty or not made of whole blocks of 512 bytes", MAKE_AGAIN),
     2: Refusal("a block of the book has a wrong check word", f"the file was damaged; {MAKE_AGAIN}"),
     3: Refusal(
-        "the head of the book is wrong: kind 1, version 1, 1 to 8 solvents, and as many blocks as these need",
+        "the head of the book is wrong: kind 1, version 1 or 2, 1 to 8 solvents, and as many blocks as these need",
         MAKE_AGAIN,
     ),
     4: Refusal("a solvent block is wrong: its kind, its place, a CAS number of 0, or not 1 to 8 terms", MAKE_AGAIN),
@@ -45,13 +45,13 @@ REFUSALS: Dict[int, Refusal] = {
     14: Refusal("the pressure is not finite and positive", "give a pressure above 0 Pa"),
     15: Refusal(
         "a fraction or a K value is not finite",
-        "look at --drum and --k; inside a calculation: a trial's composition overflowed",
+        "look at --drum, --mass and --k; inside a calculation: a trial's composition overflowed",
     ),
-    16: Refusal("a fraction is negative", "look at --drum"),
+    16: Refusal("a fraction is negative", "look at --drum or --mass"),
     17: Refusal("a K value is not positive", "look at --k"),
     18: Refusal(
         "the fractions don't sum to 1 within 1e-10",
-        "look at --drum, or add --normalize; inside a calculation: a trial's composition doesn't sum to 1",
+        "look at --drum or --mass, or add --normalize; inside a calculation: a trial's composition doesn't sum to 1",
     ),
     19: Refusal(
         "an option is out of its range: tolerances above 0 up to 1e-6, a negative threshold, "
@@ -96,9 +96,16 @@ REFUSALS: Dict[int, Refusal] = {
         "the split's vapor fraction lies outside (0, 1)", "the drum is at its bubble or dew point; move T or p a little"
     ),
     34: Refusal(
-        "a composition inside the calculation can't be brought to fractions that sum to 1",
+        "a composition inside the calculation, or a drum by mass, can't be brought to fractions that sum to 1",
         "the drum is not to blame: vapor pressures or activity coefficients are so extreme that all parts vanish or "
-        "overflow; look at the data of its solvents and pairs with ./sheet show",
+        "overflow, or a molar mass is far too small; look at the data of its solvents and pairs with ./sheet show",
+    ),
+    35: Refusal(
+        "a solvent's molar mass is not finite and positive", "correct it in the yard text, and make the book again"
+    ),
+    36: Refusal(
+        "the fractions are neither of moles nor of mass, or they are of mass and the book has no molar masses",
+        "add 'molar mass = ... g/mol' to every solvent of the yard text and make the book again, or ask by moles",
     ),
 }
 

@@ -1,12 +1,13 @@
 """The sheet as text, to lay beside the drum label."""
 
 import math
-from typing import Callable, Dict, List, Sequence, Tuple
+from typing import Callable, Dict, List, Optional, Sequence, Tuple
 
 from . import answer, explain, ranges, refusals, text
 from .blocks import float_of, floats_at
+from .feed import RECKONED, ByMass, Feed, Fractions
 from .sheet import SHORT, Sheet
-from .tasks import BUBBLE_PRESSURE, BUBBLE_TEMPERATURE, DEW_PRESSURE, DEW_TEMPERATURE
+from .tasks import BUBBLE_PRESSURE, BUBBLE_TEMPERATURE, DEW_PRESSURE, DEW_TEMPERATURE, FLASH, NEGATIVE_SPLIT, SPLIT
 
 ENERGY_NAMES = (
     ("excess Gibbs energy / RT", ""),
@@ -54,14 +55,7 @@ class Report:
         sheet, question, task = self.sheet, self.sheet.question, self.sheet.question.task
         rows = [("Label", sheet.label)] if sheet.label else []
         rows += [("Date", sheet.date), ("Book", book_words(sheet, self.details))]
-        rows += (
-            [("Given", self._listed(sheet.given) + ", which sums to " + f"{math.fsum(sheet.given):.12g}")]
-            if sheet.given
-            else []
-        )
-        rows.append(
-            ("Drum", self._listed(question.fractions) + (", normalized" if sheet.given else "") + " (mole fractions)")
-        )
+        rows += drum_rows(sheet.feed, sheet.by_mass, self._listed)
         if sheet.absent():
             rows.append(("Absent", ", ".join(sheet.book.names[i] for i in sheet.absent())))
         if question.temperature is not None:
@@ -75,9 +69,9 @@ class Report:
         rows += [("Task", f"{task.number}, {task.function}")] if self.details else []
         return [f"{task.title.upper()}: {task.about}"] + text.fields(rows)
 
-    def _listed(self, values: Sequence[float]) -> str:
+    def _listed(self, values: Sequence[float], unit: str = "") -> str:
         written = text.exact if self.details else text.plain
-        return ", ".join(f"{self.sheet.book.names[i]} {written(values[i])}" for i in self.sheet.present())
+        return ", ".join(f"{self.sheet.book.names[i]} {written(values[i])}{unit}" for i in self.sheet.present())
 
     # above the numbers
 
@@ -118,7 +112,7 @@ class Report:
         logs, slopes = sheet.entries(answer.LIQUID), sheet.entries(answer.VAPOR)
         rows = [
             self._coefficients(name, *values)
-            for name, *values in zip(sheet.book.names, sheet.question.fractions, logs, slopes)
+            for name, *values in zip(sheet.book.names, sheet.moles, logs, slopes)
         ]
         lines = text.table(("solvent", "x", "gamma", "ln gamma", "d ln gamma/dT, 1/K"), rows)
         if sheet.absent():
@@ -153,16 +147,19 @@ class Report:
         return rows if self.details else []
 
     def _phases(self) -> Lines:
-        """Mole fractions of the solvents in the drum; a phase that isn't there has no column."""
+        """Mole fractions of the solvents in the drum; a phase that isn't there has no column. Of a drum by mass the
+        mass fractions too, and the kg of a flash's phases where the drum was weighed."""
         sheet, task = self.sheet, self.sheet.question.task
         liquid, vapor = answer.phases(task, sheet.blocks)
-        columns = [("drum", sheet.question.fractions)]
+        columns = [("drum", sheet.moles)]
         if liquid and task not in BUBBLE_POINTS:
             columns.append(("first drop" if task in DEW_POINTS else "liquid", sheet.entries(answer.LIQUID)))
         if vapor and task not in DEW_POINTS:
             columns.append(("first bubble" if task in BUBBLE_POINTS else "vapor", sheet.entries(answer.VAPOR)))
         rows = [[sheet.book.names[i]] + [self.fraction(values[i]) for _, values in columns] for i in sheet.present()]
-        return text.table(["mole fractions"] + [name for name, _ in columns], rows)
+        lines = text.table(["mole fractions"] + [name for name, _ in columns], rows)
+        names, amounts = [sheet.book.names[i] for i in sheet.present()], dict(phase_amounts(sheet))
+        return lines + mass_tables(sheet.by_mass, sheet.feed, columns, amounts, sheet.present(), names, self.details)
 
     def _one_layer(self) -> Lines:
         words = {True: "yes", False: "NO, it splits in two", None: "not tested"}
@@ -237,6 +234,50 @@ class Report:
         for name, words in self.sheet.blocks.notes():
             lines += text.wrapped(f"{name}: {words}." if self.details else f"{words[0].upper()}{words[1:]}.")
         return lines
+
+
+def drum_rows(feed: Feed, mass: Optional[ByMass], listed: Callable[..., str]) -> List[Tuple[str, str]]:
+    """The drum as it was given, and what goes to the core; of a drum by mass also its mole fractions."""
+    rows = [("Given", f"{listed(feed.given)}, which sums to {math.fsum(feed.given):.12g}")] if feed.given else []
+    sent = listed(feed.fractions) + (", normalized" if feed.given else "") + f" ({feed.kind})"
+    if feed.kilograms:
+        rows.append(("Drum", f"{listed(feed.kilograms, ' kg')}; {text.plain(feed.total)} kg in all"))
+        rows.append(("By mass", sent))
+    else:
+        rows.append(("Drum", sent))
+    return rows + ([("By moles", f"{listed(mass.moles)} (mole fractions)")] if mass else [])
+
+
+def phase_amounts(sheet: Sheet) -> List[Tuple[str, float]]:
+    """Moles of liquid and vapor per mole of drum, where the core gives them and both can be there."""
+    fraction = sheet.blocks.real(answer.VAPOR_FRACTION)
+    if sheet.question.task not in (FLASH, SPLIT, NEGATIVE_SPLIT) or not 0 <= fraction <= 1:
+        return []
+    return [("drum", 1.0), ("liquid", 1 - fraction), ("vapor", fraction)]
+
+
+def mass_tables(
+    mass: Optional[ByMass],
+    feed: Feed,
+    columns: Sequence[Tuple[str, Fractions]],
+    amounts: Dict[str, float],
+    places: Sequence[int],
+    names: Sequence[str],
+    details: bool,
+) -> Lines:
+    """Mass fractions of the columns' phases, and their kg where a phase's amount and the drum's weight are known."""
+    if mass is None:
+        return []
+    found = [(name, feed.fractions if name == "drum" else mass.fractions(moles)) for name, moles in columns]
+    rows = [[name] + [text.fraction(values[i], details) for _, values in found] for i, name in zip(places, names)]
+    lines = [""] + text.table(["mass fractions"] + [name for name, _ in found], rows)
+    weighed = [(name, moles) for name, moles in columns if name in amounts] if feed.kilograms else []
+    if weighed:
+        kilograms = [feed.kilograms if name == "drum" else mass.kilograms(x, amounts[name]) for name, x in weighed]
+        rows = [["all"] + [text.plain(math.fsum(values), details) for values in kilograms]]
+        rows += [[name] + [text.plain(values[i], details) for values in kilograms] for i, name in zip(places, names)]
+        lines += [""] + text.table(["kg"] + [name for name, _ in weighed], rows)
+    return lines + text.wrapped(f"Reckoned by {RECKONED}.")
 
 
 def marked(line: str) -> Lines:

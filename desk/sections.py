@@ -9,6 +9,7 @@ HEADINGS = {"solvent": 2, "pair": 3}  # words of a heading
 KEYS = tuple(f"{record} {key}" for record in ("vapor", "density") for key in ("t_r", "reducing", "range", "term"))
 KEYS += (
     "cas",
+    "molar mass",
     "source",
     "boiling point",
     "azeotrope",

@@ -8,6 +8,8 @@ from typing import TYPE_CHECKING, List, Optional, Sequence, Tuple
 
 from .answer import Blocks
 from .blocks import floats_at
+from .book import molar_masses
+from .feed import ByMass, Feed, Fractions, by_mass
 from .question import Question
 
 if TYPE_CHECKING:  # both need the names below
@@ -16,17 +18,25 @@ if TYPE_CHECKING:  # both need the names below
 
 DEFAULT_BOOK = "yard/yard.txt"  # from the root of the repository
 SHORT = 12  # hex digits of a checksum that are enough to tell two books apart
+UNCONVERTED = (*range(1, 19), 35, 36)  # refusals that stand ahead of the conversion of a feed by mass
 DATE_SETTING = "SOURCE_DATE_EPOCH"  # seconds since 1970; fixes the date (UTC), as reproducible builds have it
 
 
 @dataclass(frozen=True)
 class NamedBook:
-    """The bytes of a book, the names and CAS numbers of its solvents in order, and the file that it came from."""
+    """The bytes of a book, the names and CAS numbers of its solvents in order, the file that it came from, and those
+    solvents whose molar mass its text lacks."""
 
     content: bytes
     names: Tuple[str, ...]
     cas: Tuple[int, ...]
     file: str
+    lacking: Tuple[str, ...] = ()
+
+    @property
+    def molar_masses(self) -> Optional[Fractions]:
+        """In kg/mol; None of a book that has none."""
+        return molar_masses(self.content)
 
     @property
     def checksum(self) -> str:
@@ -46,16 +56,27 @@ def today() -> str:
 
 @dataclass(frozen=True)
 class Sheet:
-    """`given` are the fractions before --normalize; `ranges` is None where there is no temperature."""
+    """`ranges` is None where there is no temperature."""
 
     book: NamedBook
+    feed: Feed
     question: Question
     blocks: Blocks
     judgement: "Judgement"
     ranges: Optional["Ranges"] = None
     label: str = ""
     date: str = ""
-    given: Optional[Tuple[float, ...]] = None
+
+    @property
+    def by_mass(self) -> Optional[ByMass]:
+        """None too where the core refused before it converted."""
+        return None if self.blocks.refusal in UNCONVERTED else by_mass(self.book.molar_masses, self.feed)
+
+    @property
+    def moles(self) -> Fractions:
+        """Mole fractions of the drum; of one by mass that the core can't convert the mass fractions."""
+        found = self.by_mass
+        return found.moles if found else self.feed.fractions
 
     def present(self) -> List[int]:
         """Places of the solvents in the drum: fraction neither +0 nor -0."""
@@ -69,10 +90,17 @@ class Sheet:
         return floats_at(self.blocks.head, at, len(self.book.names))
 
 
-def drum_words(book: NamedBook, fractions: Sequence[float], digits: int = 17) -> str:
+def feed_words(book: NamedBook, feed: Feed) -> str:
+    """The option that gives a drum again."""
+    if feed.kilograms:
+        return f"--drum {drum_words(book, feed.kilograms, unit='kg')}"
+    return f"{'--mass' if feed.by_mass else '--drum'} {drum_words(book, feed.fractions)}"
+
+
+def drum_words(book: NamedBook, fractions: Sequence[float], digits: int = 17, unit: str = "") -> str:
     """As --drum takes it; no more digits than the float needs."""
 
     def written(value: float) -> str:
         return f"{value:.12g}" if digits == 12 or float(f"{value:.12g}") == value else repr(value)
 
-    return ",".join(f"{book.names[i]}={written(x)}" for i, x in enumerate(fractions) if x != 0)
+    return ",".join(f"{book.names[i]}={written(x)}{unit}" for i, x in enumerate(fractions) if x != 0)

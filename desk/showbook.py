@@ -7,7 +7,7 @@ from .yard import Yard
 
 def listing(yard: Yard) -> str:
     n = len(yard.names)
-    lines = [text.counted(n, "solvent")] + _solvents(yard)
+    lines = [f"{text.counted(n, 'solvent')}, a book of version {yard.book.version}"] + _solvents(yard)
     pairs = [(yard.names[i], yard.names[j], pair) for (i, j), pair in zip(due_pairs(n), yard.book.pairs)]
     if pairs:
         lines += (
@@ -25,8 +25,9 @@ def _solvents(yard: Yard):
     rows = []
     for name, solvent in zip(yard.names, yard.book.solvents):
         ranges = [f"{record.low:g} to {record.high:g}" for record in (solvent.vapor_pressure, solvent.density)]
-        rows.append((name, units.cas_text(solvent.cas), *ranges, str(len(solvent.vapor_pressure.terms))))
-    return text.table(("solvent", "CAS", "vapor pressure, K", "density, K", "terms"), rows)
+        mass = f"{1000 * solvent.molar_mass:.10g}" if solvent.molar_mass is not None else "none"
+        rows.append((name, units.cas_text(solvent.cas), mass, *ranges, str(len(solvent.vapor_pressure.terms))))
+    return text.table(("solvent", "CAS", "g/mol", "vapor pressure, K", "density, K", "terms"), rows)
 
 
 def _pair_row(first: str, second: str, pair: Pair):

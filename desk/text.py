@@ -8,7 +8,7 @@ from typing import List, Sequence, Tuple
 from . import units
 
 WIDTH = 78
-_WITH_UNIT = re.compile(r"(\d) (°C|K|kPa|bar|mmHg|Pa)\b")
+_WITH_UNIT = re.compile(r"(\d) (°C|K|kPa|bar|mmHg|Pa|kg)\b")
 RULE = "-" * WIDTH
 
 
@@ -130,5 +130,5 @@ def sentences(all_words: Sequence[str]) -> List[str]:
     """Each wrapped on its own; a command to paste stays on one line, however long."""
     lines: List[str] = []
     for words in all_words:
-        lines += [f"    {words}"] if words.startswith(("./sheet", "--drum")) else wrapped(words)
+        lines += [f"    {words}"] if words.startswith(("./sheet", "--drum", "--mass")) else wrapped(words)
     return lines

@@ -1,4 +1,5 @@
-"""Temperatures and pressures with their units, read as decimals and rounded once to a float; CAS numbers."""
+"""Temperatures, pressures, weights and molar masses with their units, read as decimals and rounded once to a float; CAS
+numbers."""
 
 import math
 import re
@@ -20,10 +21,16 @@ PRESSURE_UNITS: Dict[str, Fraction] = {
     "Torr": Fraction(101325, 760),
     "psi": Fraction("4.4482216152605") / Fraction("0.0254") ** 2,
 }
+MOLAR_MASS_UNITS: Dict[str, Fraction] = {
+    "kg/mol": Fraction(1), "g/mol": Fraction(1, 1000), "kg/kmol": Fraction(1, 1000)
+}  # kg/mol
+WEIGHT_UNITS: Dict[str, Fraction] = {"kg": Fraction(1), "g": Fraction(1, 1000), "t": Fraction(1000)}  # kg
 KELVIN_UNITS = ("K",)
 CELSIUS_UNITS = ("C", "°C", "degC")
 TEMPERATURES = "K, C or °C"
-PRESSURES = ", ".join(list(PRESSURE_UNITS)[:-1]) + f" or {list(PRESSURE_UNITS)[-1]}"
+PRESSURES, MOLAR_MASSES, WEIGHTS = (
+    ", ".join(list(units)[:-1]) + f" or {list(units)[-1]}" for units in (PRESSURE_UNITS, MOLAR_MASS_UNITS, WEIGHT_UNITS)
+)
 
 _NUMBER = r"[+-]?(?:\d+(?:\.\d*)?|\.\d+)(?:[eE][+-]?\d{1,4})?"
 _QUANTITY = re.compile(rf"\s*({_NUMBER})\s*([^\d\s].*?)?\s*", re.ASCII)
@@ -69,6 +76,39 @@ def pressure(text: str, what: str = "pressure") -> float:
     raise DeskError(
         f"{what}: unit {quoted(unit)} in {quoted(text)} is not {PRESSURES}{suggestion(unit, PRESSURE_UNITS)}"
     )
+
+
+def molar_mass(text: str, what: str = "molar mass") -> float:
+    """In kg/mol, finite and positive, from a number with one of MOLAR_MASS_UNITS."""
+    value, unit = _quantity(text, what, f"{MOLAR_MASSES}, as in 46.06844 g/mol")
+    if unit not in MOLAR_MASS_UNITS:
+        raise DeskError(
+            f"{what}: unit {quoted(unit)} in {quoted(text)} is not {MOLAR_MASSES}{suggestion(unit, MOLAR_MASS_UNITS)}"
+        )
+    found = _rounded(Fraction(value) * MOLAR_MASS_UNITS[unit], text, what)
+    if found <= 0:
+        raise DeskError(f"{what}: {quoted(text)} isn't positive")
+    return found
+
+
+def weight(text: str, what: str = "weight") -> Fraction:
+    """In kg, exactly, from a number with one of WEIGHT_UNITS."""
+    value, unit = _quantity(text, what, f"{WEIGHTS}, as in 40kg")
+    if unit in ("mol", "kmol"):
+        raise DeskError(f"{what}: {quoted(text)}: moles go in as fractions, without a unit; weights in {WEIGHTS}")
+    if unit not in WEIGHT_UNITS:
+        raise DeskError(
+            f"{what}: unit {quoted(unit)} in {quoted(text)} is not {WEIGHTS}{suggestion(unit, WEIGHT_UNITS)}"
+        )
+    found = Fraction(value) * WEIGHT_UNITS[unit]
+    _rounded(found, text, what)
+    return found
+
+
+def has_unit(text: str) -> bool:
+    """Whether something stands behind a number."""
+    match = _QUANTITY.fullmatch(text)
+    return bool(match and match.group(2))
 
 
 def celsius(kelvin: float) -> float:

@@ -49,5 +49,10 @@ class Yard:
     solubilities: Dict[Tuple[str, str], List[SolubilityCheck]] = field(default_factory=dict)
 
     @property
+    def lacking(self) -> Tuple[str, ...]:
+        """The solvents without a molar mass."""
+        return tuple(name for name, solvent in zip(self.names, self.book.solvents) if solvent.molar_mass is None)
+
+    @property
     def has_published(self) -> bool:
         return any((self.boiling, self.azeotropes, self.mixtures, self.heteroazeotropes, self.solubilities))

@@ -3,6 +3,7 @@
     # everything after a number sign is a comment
     [solvent ethanol]
     cas            = 64-17-5
+    molar mass     = 46.06844 g/mol        for drums by mass; a book has that of every solvent or of none
     vapor t_r      = 514.71 K
     vapor reducing = 6268 kPa
     vapor range    = 273.16 K to 510 K
@@ -75,6 +76,7 @@ def _solvent(section: Section, yard: Yard) -> Solvent:
     name = section.names[0]
     with_place = f"[{section.title}]"
     cas = units.cas_number(section.take("cas"))
+    mass = section.optional("molar mass")
     vapor = _correlation(section, "vapor", units.pressure)
     density = _density(section, vapor)
     _note_source(section, yard, (name,))
@@ -82,7 +84,7 @@ def _solvent(section: Section, yard: Yard) -> Solvent:
     if known:
         yard.boiling[name] = _boiling_check(known, with_place)
     section.finish()
-    return Solvent(cas, vapor, density)
+    return Solvent(cas, vapor, density, units.molar_mass(mass, f"{with_place} molar mass") if mass else None)
 
 
 def _correlation(section: Section, record: str, reducing: Callable[[str, str], float]) -> Correlation:

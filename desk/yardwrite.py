@@ -22,6 +22,8 @@ def _lines(heading: str, entries: List[Tuple[str, str]]) -> str:
 
 def _solvent_text(name: str, solvent: Solvent, yard: Yard) -> str:
     entries = [("cas", _cas_as_read(solvent.cas))]
+    if solvent.molar_mass is not None:
+        entries.append(("molar mass", f"{solvent.molar_mass!r} kg/mol"))
     for record, unit, values in (("vapor", "Pa", solvent.vapor_pressure), ("density", "mol/m3", solvent.density)):
         entries += [
             (f"{record} t_r", f"{values.t_r!r} K"),

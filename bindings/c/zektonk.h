@@ -35,7 +35,8 @@ extern "C" {
 #define ZEKTONK_WORDS 64         /* of a block */
 #define ZEKTONK_SOLVENTS_MOST 8  /* of a book, and so entries of a row: fractions, K, liquid, vapor */
 #define ZEKTONK_TERMS_MOST 8     /* of a correlation */
-#define ZEKTONK_FORMAT_VERSION 1 /* word 1 of block 0 of a book */
+#define ZEKTONK_FORMAT_VERSION 1 /* word 1 of block 0 of a book without molar masses, */
+#define ZEKTONK_FORMAT_VERSION_MASS 2 /* and of a book with them, which takes feeds by mass too */
 
 /* Options that suit most questions. */
 #define ZEKTONK_DEFAULT_MAX_ITERATIONS 500
@@ -78,8 +79,9 @@ enum zektonk_solvent_word {
     ZEKTONK_SOLVENT_WORD_DENSITY_LOW = 26,
     ZEKTONK_SOLVENT_WORD_DENSITY_HIGH = 27,
     ZEKTONK_SOLVENT_WORD_DENSITY_TERMS = 28,
-    ZEKTONK_SOLVENT_WORD_DENSITY_N = 29,       /* 8 words */
-    ZEKTONK_SOLVENT_WORD_DENSITY_EXPONENT = 37 /* 8 words */
+    ZEKTONK_SOLVENT_WORD_DENSITY_N = 29,        /* 8 words */
+    ZEKTONK_SOLVENT_WORD_DENSITY_EXPONENT = 37, /* 8 words */
+    ZEKTONK_SOLVENT_WORD_MOLAR_MASS = 45        /* kg/mol; version 2 */
 };
 
 /* Words of a pair. */
@@ -107,10 +109,14 @@ enum zektonk_question_word {
     ZEKTONK_QUESTION_WORD_MAX_TEMPERATURE_ITERATIONS = 14,
     ZEKTONK_QUESTION_WORD_ENERGY_TOLERANCE = 15,
     ZEKTONK_QUESTION_WORD_TM_THRESHOLD = 16,
-    ZEKTONK_QUESTION_WORD_LOW = 17,     /* K */
-    ZEKTONK_QUESTION_WORD_HIGH = 18,    /* K */
-    ZEKTONK_QUESTION_WORD_K_VALUES = 19 /* 8 words */
+    ZEKTONK_QUESTION_WORD_LOW = 17,      /* K */
+    ZEKTONK_QUESTION_WORD_HIGH = 18,     /* K */
+    ZEKTONK_QUESTION_WORD_K_VALUES = 19, /* 8 words */
+    ZEKTONK_QUESTION_WORD_FEED = 27      /* what the fractions are of */
 };
+
+/* Feeds, word 27 of a question: the fractions in words 4 to 11 are of moles, or of mass with a book of version 2. */
+enum zektonk_feed { ZEKTONK_FEED_MOLES = 0, ZEKTONK_FEED_MASS = 1 };
 
 /* Words of an answer. docs/FORMAT.md has which of them a task fills; the others are 0. */
 enum zektonk_answer_word {
@@ -177,14 +183,14 @@ enum zektonk_note {
 enum zektonk_validity { ZEKTONK_UNASSESSED = 0, ZEKTONK_WITHIN = 1, ZEKTONK_EXTRAPOLATED = 2 };
 
 /*
- * The first question that was answered no: 1 to 21 in this order, the others, and 15 to 18 once more, where the
- * calculation puts them.
+ * The first question that was answered no: 1 to 21 in this order, with 35 after 5, 36 after 12 and, of a feed by mass,
+ * 34 after 18; the others, and 15 to 18 and 34 once more, where the calculation puts them.
  */
 enum zektonk_refusal {
     ZEKTONK_ANSWERED = 0,
     ZEKTONK_BOOK_LENGTH = 1,              /* no whole blocks, or none */
     ZEKTONK_BOOK_CHECK = 2,               /* a block's word 63 */
-    ZEKTONK_BOOK_HEAD = 3,                /* kind, version, n of 1 to 8, or the number of blocks */
+    ZEKTONK_BOOK_HEAD = 3,                /* kind, version 1 or 2, n of 1 to 8, or the number of blocks */
     ZEKTONK_SOLVENT_BLOCK = 4,            /* kind, index, CAS number 0, or a term count not of 1 to 8 */
     ZEKTONK_SOLVENT_NUMBER = 5,           /* not finite, not 0 < low <= high < t_r, or a reducing value not positive */
     ZEKTONK_SOLVENT_TWICE = 6,            /* one CAS number for two solvents */
@@ -196,7 +202,7 @@ enum zektonk_refusal {
     ZEKTONK_TASK = 12,                    /* none of 1 to 9 */
     ZEKTONK_TEMPERATURE = 13,             /* not finite and positive */
     ZEKTONK_PRESSURE = 14,                /* not finite and positive */
-    ZEKTONK_NOT_FINITE = 15,              /* a mole fraction or a K value */
+    ZEKTONK_NOT_FINITE = 15,              /* a fraction or a K value */
     ZEKTONK_FRACTION_NEGATIVE = 16,
     ZEKTONK_K_NOT_POSITIVE = 17,
     ZEKTONK_FRACTION_SUM = 18,            /* not within 1e-10 of 1 */
@@ -212,7 +218,10 @@ enum zektonk_refusal {
     ZEKTONK_K_ONE_SIDED = 28,             /* K values are not on both sides of 1 */
     ZEKTONK_LIQUID_UNSTABLE = 29,         /* a trial of the flash's liquid found a lower tangent plane */
     ZEKTONK_VAPOR_FRACTION_OUTSIDE = 30,  /* of (0,1) */
-    ZEKTONK_NOT_NORMALIZABLE = 34         /* the sum of a composition's parts is not finite and positive */
+    ZEKTONK_NOT_NORMALIZABLE = 34,        /* the sum of a composition's parts is not finite and positive; of a feed by
+                                             mass too */
+    ZEKTONK_MOLAR_MASS = 35,              /* not finite and positive, in a book of version 2 */
+    ZEKTONK_FEED_KIND = 36                /* neither moles nor mass, or mass with a book of version 1 */
 };
 
 /*

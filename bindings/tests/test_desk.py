@@ -7,6 +7,7 @@ import subprocess
 import sys
 import threading
 import unittest
+from dataclasses import replace
 from unittest import mock
 
 import desk
@@ -35,6 +36,7 @@ def questions(source: random.Random, n: int):
             10 ** source.uniform(3.0, 6.0),
             tuple(10 ** source.uniform(-1.0, 1.0) for _ in range(n)),
             desk.Options(max_iterations=source.choice((3, 500))),
+            source.random() < 0.3,
         )
 
 
@@ -61,8 +63,23 @@ class SameAnswers(unittest.TestCase):
         self.assertEqual(self.assert_same(SAMPLE_BOOK, damaged), len(damaged))
         head = split(SAMPLE_BOOK)[0]
         books = [b"", SAMPLE_BOOK[:-1], SAMPLE_BOOK + bytes(512), SAMPLE_BOOK + sealed([3]), SAMPLE_BOOK * 20]
-        for book in (*books, sealed(head[:1] + [2] + head[2:])):
+        for book in (*books, sealed(head[:1] + [3] + head[2:])):
             self.assertEqual(self.assert_same(book, [block]), 1)
+
+    def test_refused_by_mass(self):
+        """34 to 36, with task 0 in the block of 35 alone."""
+        by_mass = replace(NINE[7], by_mass=True)
+        sample = desk.open_yard(str(ROOT / "yard" / "sample.txt")).book
+
+        def of(mass: float) -> bytes:
+            return desk.encode(replace(sample, solvents=tuple(replace(s, molar_mass=mass) for s in sample.solvents)))
+
+        for book, question, number, task in (
+            (SAMPLE_BOOK, by_mass, 36, 7), (of(-1.0), NINE[7], 35, 0), (of(5e-324), by_mass, 34, 7)
+        ):
+            self.assertEqual(self.assert_same(book, [question.block()]), 1)
+            head = desk.Library(book).ask(question).head
+            self.assertEqual((head[desk.answer.REFUSAL], head[desk.answer.TASK]), (number, task))
 
     def test_stored_answer(self):
         found = desk.Library(SAMPLE_BOOK).ask_bytes((STILL / "stdin").read_bytes())

@@ -31,6 +31,7 @@ PAIR = short("zektonk_pair_word", "ZEKTONK_PAIR_WORD_")
 QUESTION = short("zektonk_question_word", "ZEKTONK_QUESTION_WORD_")
 ANSWER = short("zektonk_answer_word", "ZEKTONK_ANSWER_WORD_")
 TRIAL = short("zektonk_trial_word", "ZEKTONK_TRIAL_WORD_")
+FEED = short("zektonk_feed", "ZEKTONK_FEED_")
 TASK = short("zektonk_task", "ZEKTONK_")
 REFUSAL = short("zektonk_refusal", "ZEKTONK_")
 # in the order of the definitions of these words, which call some of them otherwise
@@ -62,15 +63,19 @@ class Definitions(unittest.TestCase):
         self.assertEqual(int(macros()["ZEKTONK_BOOK_MOST"]), BLOCK * (largest + 1))
 
     def test_book(self):
-        n, version = BOOK["SOLVENTS"], macros()["ZEKTONK_FORMAT_VERSION"]
-        head = f"eqb (w {ANY['KIND']}) {KIND['BOOK']} && eqb (w {BOOK['VERSION']}) {version}"
+        n, version = BOOK["SOLVENTS"], BOOK["VERSION"]
+        first, last = (macros()[f"ZEKTONK_FORMAT_VERSION{name}"] for name in ("", "_MASS"))
+        self.assertEqual((first, last), ("1", "2"))
+        head = f"eqb (w {ANY['KIND']}) {KIND['BOOK']} && ltb 0 (w {version}) && leb (w {version}) {last}"
         self.assertEqual(body("headRight"), f"{head} && ltb 0 (w {n}) && leb (w {n}) {MOST}")
+        self.assertEqual(body("hasMasses"), f"leb {last} version")
 
     def test_solvents(self):
         counts = [SOLVENT["VAPOR_TERMS"], SOLVENT["DENSITY_TERMS"]]
         kind = f"eqb (w {ANY['KIND']}) {KIND['SOLVENT']} && eqb (w {SOLVENT['INDEX']}) i"
         counted = " && ".join(f"ltb 0 (w {count}) && leb (w {count}) {TERMS}" for count in counts)
         self.assertEqual(body("solventRight"), f"{kind} && not (eqb (w {SOLVENT['CAS']}) 0) && {counted}")
+        self.assertEqual(body("molarMass"), f"float (w (i + 1)) {SOLVENT['MOLAR_MASS']}")
         records = [SOLVENT["VAPOR_T_R"], SOLVENT["DENSITY_T_R"]]
         self.assertEqual(body("recordsRight"), " && ".join(f"recordRight w {start}" for start in records))
         for record in ("VAPOR", "DENSITY"):
@@ -115,9 +120,11 @@ class Definitions(unittest.TestCase):
             question.update(fields("optionsIn"))
         called = {"LOW": "minimum_temperature_k", "HIGH": "maximum_temperature_k"}
         for name, word in QUESTION.items():
-            if name not in ("FRACTIONS", "K_VALUES", "ENERGY_TOLERANCE"):
+            if name not in ("FRACTIONS", "K_VALUES", "ENERGY_TOLERANCE", "FEED"):
                 value = question.get(called.get(name), question.get(name.lower()))
                 self.assertIn(value, (f"w {word}", f"float w {word}"), name)
+        self.assertEqual(body("question::byMass"), f"eqb (w {QUESTION['FEED']}) {FEED['MASS']}")
+        self.assertIn(f"eqb (w {QUESTION['FEED']}) {FEED['MOLES']}", body("kindRight"))
         self.assertEqual(body("question::fraction"), f"float w ({QUESTION['FRACTIONS']} + i)")
         self.assertEqual(body("question::ratio"), f"float w ({QUESTION['K_VALUES']} + i)")
         for name in ("TOLERANCE", "ENERGY_TOLERANCE"):
@@ -180,7 +187,7 @@ class Definitions(unittest.TestCase):
             self.assertEqual(numbers_of(question), {REFUSAL[name]}, name)
         self.assertEqual({number for _, number in spent()}, {REFUSAL["NOT_CONVERGED"]})
         self.assertEqual(set(REFUSAL) - set(QUESTIONS), {"ANSWERED", "NOT_CONVERGED"})
-        self.assertEqual(sorted(REFUSAL.values()), [*range(31), 34])
+        self.assertEqual(sorted(REFUSAL.values()), [*range(31), 34, 35, 36])
         self.assertIn(f"numberOf (ok bs) = {REFUSAL['ANSWERED']}", stated("sheet::numberOf"))
 
 
@@ -232,7 +239,9 @@ QUESTIONS = {
     "K_ONE_SIDED": r"le kMax 1f",
     "LIQUID_UNSTABLE": r"s \.stable",
     "VAPOR_FRACTION_OUTSIDE": r"inside \(s \.vaporFraction\)",
-    "NOT_NORMALIZABLE": r"lt 0f \(sumTo x n\)",
+    "NOT_NORMALIZABLE": r"(?:lt 0f|positive) \(sumTo x n\)",
+    "MOLAR_MASS": r"massesRight",
+    "FEED_KIND": r"kindRight",
 }
 
 
@@ -251,7 +260,7 @@ class Page(unittest.TestCase):
 
     def test_words_stand_in_a_row(self):
         """Each block's words begin where those before them end; only the two names of task 1 stand twice."""
-        lasts = {"BOOK": 2, "SOLVENT": 44, "PAIR": 18, "QUESTION": 26, "ANSWER": 37, "TRIAL": 12}
+        lasts = {"BOOK": 2, "SOLVENT": 45, "PAIR": 18, "QUESTION": 27, "ANSWER": 37, "TRIAL": 12}
         for block, last in lasts.items():
             names = [name for name in page() if name.startswith(f"ZEKTONK_{block}_WORD_")]
             names = [name for name in names if not name.endswith(("_LN_GAMMA", "_SLOPES"))]
@@ -275,6 +284,8 @@ class Desk(unittest.TestCase):
         book = desk.book
         self.assertEqual((book.MOST_SOLVENTS, book.MOST_TERMS), (MOST, TERMS))
         self.assertEqual(str(book.VERSION), macros()["ZEKTONK_FORMAT_VERSION"])
+        self.assertEqual(str(book.MASS_VERSION), macros()["ZEKTONK_FORMAT_VERSION_MASS"])
+        self.assertEqual(book.MOLAR_MASS, SOLVENT["MOLAR_MASS"])
         for first, record in ((book.VAPOR_PRESSURE, "VAPOR"), (book.DENSITY, "DENSITY")):
             places = [first, first + book.COUNT, first + book.COEFFICIENTS, first + book.EXPONENTS]
             self.assertEqual(places, [SOLVENT[f"{record}_{name}"] for name in ("T_R", "TERMS", "N", "EXPONENT")])
@@ -286,6 +297,7 @@ class Desk(unittest.TestCase):
         for name, word in QUESTION.items():
             there = getattr(desk.question, {"LOW": "BRACKET", "HIGH": "BRACKET"}.get(name, name))
             self.assertEqual(there + (name == "HIGH"), word, name)
+        self.assertEqual({"MOLES": desk.question.MOLES, "MASS": desk.question.MASS}, FEED)
         options = desk.question.Options()
         values = {"LOW": options.bracket[0], "HIGH": options.bracket[1]}
         for name, value in macros().items():

@@ -14,7 +14,7 @@ from desk.question import PRESSURE
 TESTED = range(12, 19)  # in tasks 3 to 7
 GARBAGE = 0xFFF7_0123_4567_89AB  # a count that no limit allows, and a NaN
 # a refusal, and the word and value that bring it: T, p and a K value of -0, a fraction that is a NaN, below 0 or too
-# large, a tolerance of 2
+# large, a tolerance of 2, a feed by mass with a book of version 1, or by nothing
 BROKEN = (
     (12, 1, 10),
     (13, 2, bits_of(-0.0)),
@@ -26,6 +26,8 @@ BROKEN = (
     (19, 15, bits_of(2.0)),
     (20, 14, 0),
     (21, 12, 1_000_001),
+    (36, 27, 1),
+    (36, 27, 2),
 )
 
 

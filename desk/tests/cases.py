@@ -1,10 +1,11 @@
 """Books and questions for the encoder, and their plain numbers as reference/src/bin/encode.rs reads them."""
 
 import random
+from dataclasses import replace
 from typing import Iterable, List
 
 from desk import tasks
-from desk.book import Book, Correlation, Interval, Pair, Solvent, due_pairs
+from desk.book import MASS_VERSION, Book, Correlation, Interval, Pair, Solvent, due_pairs
 from desk.openbook import open_yard
 from desk.question import Options, Question, eight
 
@@ -14,14 +15,18 @@ TINY, HUGE = 5e-324, 1.7976931348623157e308
 
 
 def books() -> List[Book]:
-    """The two yards, and books of 1 to 8 solvents with floats from all over the range."""
+    """The two yards, and books of 1 to 8 solvents with floats from all over the range, without and with molar
+    masses."""
     rng = random.Random(7)
-    return [open_yard(str(path)).book for path in (SAMPLE, YARD)] + [_book(rng, n) for n in range(1, 9)]
+    plain = [_book(rng, n) for n in range(1, 9)]
+    return [open_yard(str(path)).book for path in (SAMPLE, YARD)] + plain + [_weighed(rng, book) for book in plain]
 
 
 def questions() -> List[Question]:
+    """By moles, then by mass."""
     rng = random.Random(11)
-    return [_question(rng, task) for task in tasks.TASKS for _ in range(3)]
+    plain = [_question(rng, task) for task in tasks.TASKS for _ in range(3)]
+    return plain + [replace(question, by_mass=True) for question in plain[::3]]
 
 
 def _float(rng: random.Random) -> float:
@@ -58,6 +63,12 @@ def _book(rng: random.Random, n: int) -> Book:
     return Book(solvents, tuple(_pair(rng) for _ in due_pairs(n)))
 
 
+def _weighed(rng: random.Random, book: Book) -> Book:
+    masses = [rng.choice((TINY, HUGE, rng.uniform(0.001, 1))) for _ in book.solvents]
+    solvents = (replace(solvent, molar_mass=mass) for solvent, mass in zip(book.solvents, masses))
+    return replace(book, solvents=tuple(solvents))
+
+
 def _pair(rng: random.Random) -> Pair:
     interval = rng.choice((None, Interval(_float(rng), _float(rng), True), Interval(300.0, 400.0, False)))
     return Pair(_floats(rng, 4), _floats(rng, 4), _floats(rng, 2), interval)
@@ -72,9 +83,10 @@ def _question(rng: random.Random, task: tasks.Task) -> Question:
 
 
 def book_line(book: Book) -> str:
-    numbers: List[object] = ["book", len(book.solvents)]
+    with_masses = book.version == MASS_VERSION
+    numbers: List[object] = ["massbook" if with_masses else "book", len(book.solvents)]
     for solvent in book.solvents:
-        numbers.append(solvent.cas)
+        numbers += [solvent.cas, solvent.molar_mass] if with_masses else [solvent.cas]
         for record in (solvent.vapor_pressure, solvent.density):
             numbers += [record.t_r, record.reducing, record.low, record.high, len(record.terms)]
             numbers += [n for n, _ in record.terms] + [exponent for _, exponent in record.terms]
@@ -87,8 +99,9 @@ def book_line(book: Book) -> str:
 
 def question_line(question: Question) -> str:
     options = question.options
+    kind = "massquestion" if question.by_mass else "question"
     numbers: List[object] = [
-        "question", question.task.number, question.temperature, question.pressure, *eight(question.fractions)
+        kind, question.task.number, question.temperature, question.pressure, *eight(question.fractions)
     ]
     numbers += [
         options.max_iterations,

@@ -78,7 +78,8 @@ class Encoder(unittest.TestCase):
 
     def test_sample_of_the_program(self):
         still = ROOT / "crates" / "still"
-        self.assertEqual(books.encode(open_yard(str(SAMPLE)).book), (still / "data" / "book.bin").read_bytes())
+        book = books.encode(open_yard(str(SAMPLE)).book, books.VERSION)
+        self.assertEqual(book, (still / "data" / "book.bin").read_bytes())
         self.assertEqual(Question(FLASH, (0.5, 0.5), 351.44, 90000.0).block(), (still / "stdin").read_bytes())
 
 
@@ -96,7 +97,11 @@ class Reading(unittest.TestCase):
         damaged += [
             sealed(words) + good[BLOCK:]
             for words in (
-                [2] + head[1:], head[:1] + [2] + head[2:], head[:2] + [9] + head[3:], head[:2] + [0] + head[3:]
+                [2] + head[1:],
+                head[:1] + [0] + head[2:],
+                head[:1] + [3] + head[2:],
+                head[:2] + [9] + head[3:],
+                head[:2] + [0] + head[3:],
             )
         ]
         for content in damaged:

@@ -12,6 +12,7 @@ from .support import ROOT, InFolder, sheet
 
 DRUM = ("--drum", "ethanol=0.5,water=0.3,acetone=0.2")
 PAIR = ("--drum", "ethanol=0.5,water=0.5")
+WEIGHED = ("--drum", "ethanol=40kg,water=12kg,acetone=8500g")
 CASES = {
     "excess": ("excess", *DRUM, "--temperature", "70C"),
     "bubble-pressure": ("bubble-pressure", *DRUM, "--temperature", "343.15K"),
@@ -34,6 +35,17 @@ CASES = {
     "marked-dew": ("dew-temperature", "--drum", "toluene=0.42,water=0.58", "--pressure", "101325Pa"),
     "marked-vapor": ("flash", "--drum", "toluene=0.42,water=0.58", "--temperature", "83.5C", "--pressure", "101325Pa"),
     "marked-split": ("rachford-rice", "--drum", "ethanol=0.1,water=0.9", "--k", "ethanol=7,water=0.6"),
+    "mass-flash": ("flash", *WEIGHED, "--temperature", "76C", "--pressure", "1bar", "--label", "drum 19"),
+    "mass-bubble": ("bubble-temperature", "--mass", "ethanol=0.7,water=0.3", "--pressure", "101325Pa"),
+    "mass-dew": ("dew-pressure", *WEIGHED, "--temperature", "343.15K"),
+    "mass-excess": ("excess", "--mass", "ethanol=0.7,water=0.3", "--temperature", "70C"),
+    "mass-rachford-rice": ("rachford-rice", "--drum", "ethanol=40kg,water=12kg", "--k", "ethanol=2,water=0.5"),
+    "mass-normalized": (
+        "flash", "--mass", "ethanol=70,water=20", "--temperature", "80C", "--pressure", "1atm", "--normalize"
+    ),
+    "marked-mass": ("bubble-temperature", "--drum", "toluene=10kg,water=90kg", "--pressure", "101325Pa"),
+    "refused-18-mass": ("excess", "--mass", "ethanol=0.7,water=0.2", "--temperature", "70C"),
+    "strike-mass": ("strike", "bubble-pressure", *WEIGHED, "--temperature", "343.15K"),
     "normalized": (
         "bubble-pressure", "--drum", "ethanol=0.333,water=0.333,acetone=0.333", "--temperature", "70C", "--normalize"
     ),
@@ -41,6 +53,7 @@ CASES = {
 LAYERS = {
     "layers-temperature": ("layers", "--drum", "toluene=0.4,water=0.6", "--temperature", "25C", "--label", "drum 18"),
     "layers-pressure": ("layers", "--drum", "acetone=0.3,water=0.3,toluene=0.4", "--pressure", "1atm"),
+    "layers-mass": ("layers", "--drum", "toluene=40kg,water=12kg", "--temperature", "25C"),
     "layers-pair": ("layers", "--pair", "toluene,water", "--pressure", "101325Pa"),
     "layers-one": ("layers", "--drum", "ethanol=0.5,water=0.5", "--pressure", "1atm"),
     "layers-no-pair": ("layers", "--pair", "ethanol,water", "--temperature", "25C"),
@@ -154,8 +167,8 @@ class Refusals(InFolder):
                 self.assertEqual(run.err.count("\n"), 1)
 
     def test_every_number_is_explained(self):
-        self.assertEqual(refusals.numbers(), "1 to 30 and 34")
-        self.assertEqual(len({refusal.matter for refusal in refusals.REFUSALS.values()}), 31)
+        self.assertEqual(refusals.numbers(), "1 to 30 and 34 to 36")
+        self.assertEqual(len({refusal.matter for refusal in refusals.REFUSALS.values()}), 33)
         for number in [*refusals.REFUSALS, 77]:
             answered = self.file("answer.bin", sealed([9, 7, number]))
             program = Path(self.file("program", f"#!/bin/sh\ncat >/dev/null\nexec cat {answered}\n"))

@@ -168,7 +168,7 @@ class Shorter(unittest.TestCase):
         before, after = split(book), split(shorter_book(book, [1, 4]))
         self.assertEqual(len(after), 4)
         self.assertEqual(
-            [words[:3] for words in after], [[1, 1, 2], [2, 0, before[2][2]], [2, 1, before[5][2]], [3, 0, 1]]
+            [words[:3] for words in after], [[1, 2, 2], [2, 0, before[2][2]], [2, 1, before[5][2]], [3, 0, 1]]
         )
         pair = before[7 + due_pairs(6).index((1, 4))]
         self.assertEqual((after[1][3:63], after[3][3:63]), (before[2][3:63], pair[3:63]))

@@ -25,7 +25,25 @@ BAD = {
     "'bubbel-pressure' is no command; did you mean bubble-pressure?": ("help", "bubbel-pressure"),
     "'etanol' is no solvent of yard/yard.txt, which has water, ethanol, "
     "methanol, acetone, 2-propanol, toluene; did you mean ethanol?": ("flash", "--drum", "etanol=1", *TP),
-    "layers takes --drum or --pair": ("layers", "--temperature", "25C"),
+    "layers takes --drum, --mass or --pair": ("layers", "--temperature", "25C"),
+    "one of the arguments --drum --mass is required": ("excess", "--temperature", "25C"),
+    "--mass: not allowed with argument --drum": ("flash", *PAIR, "--mass", "ethanol=1", *TP),
+    "--mass or --pair, and one of them alone": (
+        "layers", *PAIR, "--mass", "ethanol=1", "--temperature", "25C"
+    ),
+    "ethanol 40kg: mass fractions have no unit; weights go to --drum ethanol=40kg": (
+        "flash", "--mass", "water=1,ethanol=40kg", *TP
+    ),
+    "--drum: water has no unit where another solvent has one; give weights of all (kg, g or t), or mole fractions": (
+        "flash", "--drum", "ethanol=40kg,water=0.2", *TP
+    ),
+    "unit 'lb' in '40lb' is not kg, g or t": ("flash", "--drum", "ethanol=40lb", *TP),
+    "unit 'KG' in '40KG' is not kg, g or t; did you mean kg?": ("flash", "--drum", "ethanol=40KG", *TP),
+    "'3 mol': moles go in as fractions, without a unit": ("flash", "--drum", "ethanol=3 mol,water=2 kg", *TP),
+    "the weights sum to 0 kg": ("flash", "--drum", "ethanol=0kg,water=0 g", *TP),
+    "the weights sum to -1 kg": ("flash", "--drum", "ethanol=-3kg,water=2kg", *TP),
+    "water 1e-400kg is too little beside the others": ("flash", "--drum", "ethanol=1kg,water=1e-400kg", *TP),
+    "'1e306t' is too large": ("flash", "--drum", "ethanol=1e306t,water=1kg", *TP),
     "layers takes --temperature, --pressure or both": ("layers", *PAIR),
     "is written as .svg or .png, not as .pdf": (
         "diagram", "xy", "--pair", "ethanol,water", "--pressure", "1bar", "-o", "a.pdf"
@@ -79,7 +97,7 @@ BAD = {
         "diagram", "txy", "--pair", "ethanol,water", "--pressure", "1bar", "--unit", "bar", "-o", "a.svg"
     ),
     "no folder": ("diagram", "xy", "--pair", "ethanol,water", "--pressure", "1bar", "-o", "nowhere/a.svg"),
-    "no refusal number": ("refusals", "31"),
+    "31 is no refusal number; they are 1 to 30 and 34 to 36": ("refusals", "31"),
     "no 'boiling point'": ("check-yard", "--book", str(ROOT / "yard" / "sample.txt")),
     "./sheet strike --help": ("strike", "bogus"),
 }

@@ -4,7 +4,7 @@ use std::collections::BTreeMap;
 
 use crate::generate::cases::{Cases, Kind};
 use crate::sheet::blocks::{words_of, BLOCK};
-use crate::sheet::question::{FRACTIONS, TASK};
+use crate::sheet::question::{BASIS, BY_MASS, FRACTIONS, TASK};
 use crate::stage::{Case, Stage};
 
 /// Counts by refusal number; 0 is an answer.
@@ -18,6 +18,13 @@ pub struct Tally {
 impl Tally {
     pub fn add(&mut self, number: u32) {
         *self.numbers.entry(number).or_default() += 1;
+    }
+
+    fn join(&mut self, other: &Self) {
+        for (number, count) in &other.numbers {
+            *self.numbers.entry(*number).or_default() += count;
+        }
+        self.absent += other.absent;
     }
 
     pub fn all(&self) -> usize {
@@ -44,12 +51,14 @@ impl Tally {
     }
 }
 
-/// Counts of all sheets, of the realistic ones, and of those with nothing damaged or beside an edge, by task.
+/// Counts of all sheets, of the realistic ones, of those with nothing damaged or beside an edge, and of those by mass, by task.
 #[derive(Debug, Default)]
 pub struct SheetCounts {
     all: BTreeMap<u64, Tally>,
     realistic: BTreeMap<u64, Tally>,
     ordinary: BTreeMap<u64, usize>,
+    /// Feeds by mass on version 2 books.
+    by_mass: BTreeMap<u64, Tally>,
 }
 
 impl SheetCounts {
@@ -63,6 +72,9 @@ impl SheetCounts {
         *self.ordinary.entry(task).or_default() += usize::from(kind.is_ordinary());
         if kind == Kind::Realistic {
             tallies.push(self.realistic.entry(task).or_default());
+        }
+        if words[BASIS] == BY_MASS && version(book) == Some(2) {
+            tallies.push(self.by_mass.entry(task).or_default());
         }
         for tally in tallies {
             tally.add(refusal);
@@ -85,7 +97,29 @@ impl SheetCounts {
                 tally.refused()
             );
         }
+        let mut sum = Tally::default();
+        for (task, tally) in &self.by_mass {
+            print_by_mass(&format!("task {task} by mass"), tally);
+            sum.join(tally);
+        }
+        if sum.all() > 0 {
+            print_by_mass("by mass", &sum);
+        }
     }
+}
+
+fn print_by_mass(what: &str, tally: &Tally) {
+    println!(
+        "{what}: {} asked, {} accepted, {} with absent solvents, refused {}",
+        tally.all(),
+        tally.accepted(),
+        tally.absent,
+        tally.refused()
+    );
+}
+
+fn version(book: &[u8]) -> Option<u64> {
+    book.get(..BLOCK).map(|head| words_of(head)[1])
 }
 
 fn has_absent(question: &[u64; 64], n: usize) -> bool {
@@ -93,8 +127,8 @@ fn has_absent(question: &[u64; 64], n: usize) -> bool {
 }
 
 /// Sheets counted by the reference alone.
-pub fn count_sheets(seed: u64, count: usize) -> SheetCounts {
-    let mut cases = Cases::new(Stage::Sheet, seed, false);
+pub fn count_sheets(stage: Stage, seed: u64, count: usize) -> SheetCounts {
+    let mut cases = Cases::new(stage, seed, false);
     let mut counts = SheetCounts::default();
     for _ in 0..count {
         let (kind, case) = cases.draw();

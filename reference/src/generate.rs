@@ -5,6 +5,7 @@ pub mod books;
 pub mod cases;
 pub mod differences;
 pub mod feeds;
+pub mod mass;
 pub mod numbers;
 pub mod questions;
 pub mod rice;

@@ -36,8 +36,8 @@ fn blocks_of(book: &[u8], question: &[u8], room: usize) -> Result<Vec<Words>, u3
     if !(1..=9).contains(&task) {
         return Err(12);
     }
-    question.ask(book.solvents.len())?;
-    let mut blocks = reply::reply(&book, &question).map_err(|error| error.number())?;
+    let feed = question.ask(&book)?;
+    let mut blocks = reply::reply(&book, &question, &feed).map_err(|error| error.number())?;
     blocks.iter_mut().for_each(seal);
     Ok(blocks)
 }
@@ -53,9 +53,9 @@ pub fn program_output(book: &[u8], question: &[u8]) -> Vec<u8> {
     blocks.iter().flat_map(bytes_of).collect()
 }
 
-/// Words 0, 1, 2 and the check; task 0 for numbers 1 to 12.
+/// Words 0, 1, 2 and the check; task 0 for numbers 1 to 12 and 35.
 fn refusal_block(question: &[u8], number: u32) -> Words {
-    let task = if number <= 12 { 0 } else { blocks::words_of(question)[1] };
+    let task = if number <= 12 || number == 35 { 0 } else { blocks::words_of(question)[1] };
     let mut words = [0; 64];
     words[..3].copy_from_slice(&[9, task, number.into()]);
     seal(&mut words);

@@ -19,10 +19,20 @@ pub enum Stage {
     Excess,
     Rice,
     Sheet,
+    /// Sheets of version 2 books.
+    Mass,
 }
 
-pub const STAGES: [Stage; 7] =
-    [Stage::Numbers, Stage::Fractions, Stage::Book, Stage::Pressure, Stage::Excess, Stage::Rice, Stage::Sheet];
+pub const STAGES: [Stage; 8] = [
+    Stage::Numbers,
+    Stage::Fractions,
+    Stage::Book,
+    Stage::Pressure,
+    Stage::Excess,
+    Stage::Rice,
+    Stage::Sheet,
+    Stage::Mass,
+];
 
 impl Stage {
     pub fn name(self) -> &'static str {
@@ -34,6 +44,7 @@ impl Stage {
             Stage::Excess => "excess",
             Stage::Rice => "rice",
             Stage::Sheet => "sheet",
+            Stage::Mass => "mass",
         }
     }
 
@@ -54,6 +65,7 @@ impl Stage {
             Stage::Excess => cfg!(feature = "excess"),
             Stage::Rice => cfg!(feature = "rice"),
             Stage::Sheet => cfg!(feature = "sheet"),
+            Stage::Mass => cfg!(feature = "mass"),
         }
     }
 }
@@ -372,7 +384,7 @@ fn fractions(x: &[f64]) -> u32 {
     let constant =
         Correlation { t_r: 600.0, reducing_value: 1.0, range: [200.0, 500.0], n: vec![1.0], exponents: vec![1.0] };
     let solvent = |i| Solvent { cas: i as u64 + 1, vapor_pressure: constant.clone(), density: constant.clone() };
-    let book = Book { solvents: (0..x.len()).map(solvent).collect(), pairs: Vec::new() };
+    let book = Book { solvents: (0..x.len()).map(solvent).collect(), molar_masses: None, pairs: Vec::new() };
     book.model().with_fractions(x).map_or_else(|error| error.number(), |_| 0)
 }
 

@@ -5,7 +5,7 @@ use crate::generate::small::{bytes, sealed};
 use crate::generate::Rng;
 use crate::sheet::blocks::{words_of, Words, BLOCK};
 use crate::sheet::book::due_pairs;
-use crate::sheet::question::{FRACTIONS, K_VALUES};
+use crate::sheet::question::{BASIS, BY_MASS, FRACTIONS, K_VALUES};
 use crate::sheet::reply::{LIQUID, TRIALS, VAPOR};
 use crate::sheet::ANSWER_BYTES;
 
@@ -33,7 +33,11 @@ pub struct Sheet {
 }
 
 impl Sheet {
-    /// The fractions, of a sheet that is accepted.
+    pub fn by_mass(&self) -> bool {
+        words_of(&self.question)[BASIS] == BY_MASS
+    }
+
+    /// The fractions, of moles or of mass, of a sheet that is accepted.
     pub fn feed(&self) -> Vec<f64> {
         let n = words_of(&self.book[..BLOCK])[2] as usize;
         words_of(&self.question)[FRACTIONS..FRACTIONS + n].iter().map(|word| f64::from_bits(*word)).collect()

@@ -5,7 +5,8 @@ use std::fmt;
 
 use crate::block::{Block, Words, BLOCK};
 use crate::format::solvent::{
-    CAS, DENSITY_T_R, INDEX, VAPOR_EXPONENT, VAPOR_HIGH, VAPOR_LOW, VAPOR_N, VAPOR_REDUCING, VAPOR_TERMS, VAPOR_T_R,
+    CAS, DENSITY_T_R, INDEX, MOLAR_MASS, VAPOR_EXPONENT, VAPOR_HIGH, VAPOR_LOW, VAPOR_N, VAPOR_REDUCING, VAPOR_TERMS,
+    VAPOR_T_R,
 };
 use crate::format::{self, kind, pair};
 use crate::UpToEight;
@@ -59,6 +60,13 @@ impl Book<'_> {
     #[must_use]
     pub fn block(&self, at: usize) -> Option<Block<'_>> {
         Block::of(&self.bytes, at)
+    }
+
+    /// The version that block 0 says, 1 or 2.
+    #[must_use]
+    pub fn version(&self) -> Option<u64> {
+        let version = self.block(0)?.word(format::book::VERSION);
+        [format::VERSION, format::VERSION_MASS].contains(&version).then_some(version)
     }
 
     /// How many solvents block 0 says there are, if that is 1 to 8.
@@ -126,9 +134,13 @@ pub struct Solvent {
 }
 
 impl Solvent {
-    fn encode(&self, index: usize) -> [u8; BLOCK] {
+    fn encode(&self, index: usize, molar_mass: Option<f64>) -> [u8; BLOCK] {
         let words = Words::new(kind::SOLVENT).word(INDEX, index as u64).word(CAS, self.cas);
-        self.density.put(self.vapor_pressure.put(words, VAPOR_T_R), DENSITY_T_R).seal()
+        let words = self.density.put(self.vapor_pressure.put(words, VAPOR_T_R), DENSITY_T_R);
+        match molar_mass {
+            None => words.seal(),
+            Some(mass) => words.float(MOLAR_MASS, mass).seal(),
+        }
     }
 }
 
@@ -192,6 +204,10 @@ impl Pair {
 ///
 /// let lacking = Book::builder().solvent(solvent(64_175)).solvent(solvent(7_732_185)).build();
 /// assert_eq!(lacking, Err(Incomplete::PairMissing(0, 1)));
+///
+/// // With molar masses it takes feeds by mass.
+/// let alone = Book::builder().solvent(solvent(7_732_185)).molar_masses([0.01801528]).build()?;
+/// assert_eq!(alone.version(), Some(2));
 /// # Ok::<(), Incomplete>(())
 /// ```
 #[derive(Debug, Clone, Default)]
@@ -199,6 +215,7 @@ impl Pair {
 pub struct Builder {
     solvents: Vec<Solvent>,
     pairs: Vec<(usize, usize, Pair)>,
+    molar_masses: Option<UpToEight<f64>>,
 }
 
 /// Why there is no book yet. What its numbers are worth is for the core to say.
@@ -213,6 +230,8 @@ pub enum Incomplete {
     PairTwice(usize, usize),
     /// A pair not given.
     PairMissing(usize, usize),
+    /// Molar masses, but not one for each solvent; how many.
+    MolarMasses(usize),
 }
 
 impl fmt::Display for Incomplete {
@@ -222,6 +241,7 @@ impl fmt::Display for Incomplete {
             Self::PairPlaces(i, j) => write!(f, "pair ({i}, {j}) is not of two solvents in order"),
             Self::PairTwice(i, j) => write!(f, "pair ({i}, {j}) is given twice"),
             Self::PairMissing(i, j) => write!(f, "pair ({i}, {j}) is missing"),
+            Self::MolarMasses(count) => write!(f, "{count} molar masses where each solvent has one, or none has"),
         }
     }
 }
@@ -241,11 +261,18 @@ impl Builder {
         self
     }
 
+    /// Molar masses in kg/mol, one for each solvent in its order. The book is of version 2 then, and takes feeds by mass.
+    pub fn molar_masses(mut self, masses: impl Into<UpToEight<f64>>) -> Self {
+        self.molar_masses = Some(masses.into());
+        self
+    }
+
     /// The book, if each pair of its solvents is there once.
     ///
     /// # Errors
     ///
-    /// [`Incomplete`] where there are not 1 to 8 solvents, or a pair is missing, given twice or of no two solvents.
+    /// [`Incomplete`] where there are not 1 to 8 solvents, a pair is missing, given twice or of no two solvents, or
+    /// molar masses are not as many as the solvents.
     pub fn build(&self) -> Result<Book<'static>, Incomplete> {
         let n = self.solvents.len();
         if !(1..=8).contains(&n) {
@@ -254,12 +281,16 @@ impl Builder {
         if let Some((i, j, _)) = self.pairs.iter().find(|(i, j, _)| i >= j || *j >= n) {
             return Err(Incomplete::PairPlaces(*i, *j));
         }
-        let head = Words::new(kind::BOOK).word(format::book::VERSION, format::VERSION);
-        let head = head.word(format::book::SOLVENTS, n as u64);
+        let version = match &self.molar_masses {
+            None => format::VERSION,
+            Some(masses) if masses.len() == n => format::VERSION_MASS,
+            Some(masses) => return Err(Incomplete::MolarMasses(masses.len())),
+        };
+        let head = Words::new(kind::BOOK).word(format::book::VERSION, version).word(format::book::SOLVENTS, n as u64);
         let mut bytes = Vec::with_capacity((1 + n + n * (n - 1) / 2) * BLOCK);
         bytes.extend_from_slice(&head.seal());
         for (index, solvent) in self.solvents.iter().enumerate() {
-            bytes.extend_from_slice(&solvent.encode(index));
+            bytes.extend_from_slice(&solvent.encode(index, self.molar_masses.map(|masses| masses[index])));
         }
         for (i, j) in (0..n).flat_map(|i| (i + 1..n).map(move |j| (i, j))) {
             bytes.extend_from_slice(&self.due(i, j)?.encode(i, j));
@@ -297,7 +328,7 @@ mod tests {
 
     #[test]
     fn words_of_a_solvent() {
-        let bytes = solvent(77).encode(3);
+        let bytes = solvent(77).encode(3, None);
         let block = Block::new(&bytes);
         assert_eq!([0, 1, 2, 7, 28].map(|at| block.word(at)), [2, 3, 77, 2, 2]);
         assert_eq!(
@@ -308,7 +339,24 @@ mod tests {
             [24, 25, 26, 27, 29, 30, 37, 38].map(|at| block.float(at)),
             [20.0, 21.0, 22.0, 23.0, 24.0, 26.0, 25.0, 27.0]
         );
-        assert!([10, 15, 18, 23, 31, 36, 39, 44, 62].iter().all(|at| block.word(*at) == 0));
+        assert!([10, 15, 18, 23, 31, 36, 39, 44, 45, 62].iter().all(|at| block.word(*at) == 0));
+        let with = solvent(77).encode(3, Some(0.018));
+        assert_eq!(Block::new(&with).float(45), 0.018);
+        assert!((0..63).filter(|at| *at != 45).all(|at| Block::new(&with).word(at) == block.word(at)));
+    }
+
+    #[test]
+    fn molar_masses_make_version_2() {
+        let two = Book::builder().solvent(solvent(1)).solvent(solvent(2)).pair(0, 1, pair(1.0));
+        assert_eq!(two.build().unwrap().version(), Some(1));
+        let book = two.clone().molar_masses([0.046, 0.018]).build().unwrap();
+        assert_eq!(book.version(), Some(2));
+        assert_eq!([1, 2].map(|at| book.block(at).unwrap().float(45)), [0.046, 0.018]);
+        assert!((0..4).all(|at| book.block(at).unwrap().check_is_right()));
+        for masses in [UpToEight::from([0.046]), [0.046, 0.018, 0.032].into(), UpToEight::default()] {
+            assert_eq!(two.clone().molar_masses(masses).build(), Err(Incomplete::MolarMasses(masses.len())));
+        }
+        assert_eq!(Book::from(&[][..]).version(), None);
     }
 
     #[test]

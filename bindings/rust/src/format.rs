@@ -17,8 +17,11 @@ macro_rules! named {
     };
 }
 
-/// Version of the format, word 1 of a book's block 0.
+/// Version of a book without molar masses, word 1 of its block 0.
 pub const VERSION: u64 = 1;
+
+/// Version of a book with molar masses, which takes feeds by mass too.
+pub const VERSION_MASS: u64 = 2;
 
 named! {
     /// Words of every block.
@@ -31,7 +34,7 @@ named! {
 named! {
     /// Words of block 0 of a book.
     book: usize {
-        VERSION = 1 "1"
+        VERSION = 1 "1, or 2 with molar masses"
         SOLVENTS = 2 "n, 1 to 8"
     }
 }
@@ -55,6 +58,7 @@ named! {
         DENSITY_TERMS = 28 "How many terms"
         DENSITY_N = 29 "Eight coefficients"
         DENSITY_EXPONENT = 37 "Eight exponents"
+        MOLAR_MASS = 45 "kg/mol, in a book of version 2"
     }
 }
 
@@ -80,7 +84,7 @@ named! {
         TASK = 1 "What is asked"
         TEMPERATURE = 2 "K"
         PRESSURE = 3 "Pa"
-        FRACTIONS = 4 "Eight mole fractions"
+        FRACTIONS = 4 "Eight mole or mass fractions"
         MAX_ITERATIONS = 12 "Limit of a dew point, a trial, a flash or a split"
         TOLERANCE = 13 "Of the solvers"
         MAX_TEMPERATURE_ITERATIONS = 14 "Limit of a bubble or dew temperature"
@@ -89,6 +93,15 @@ named! {
         LOW = 17 "Of the temperature bracket, K"
         HIGH = 18 "Of the temperature bracket, K"
         K_VALUES = 19 "Eight K values"
+        FEED = 27 "What the fractions are of"
+    }
+}
+
+named! {
+    /// What the fractions of a question are of.
+    feed: u64 {
+        MOLES = 0 "Mole fractions"
+        MASS = 1 "Mass fractions, with a book of version 2"
     }
 }
 

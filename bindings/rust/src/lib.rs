@@ -43,7 +43,7 @@ pub use answer::{
 pub use block::{Block, Words, BLOCK};
 pub use book::{Book, Builder, Correlation, Incomplete, Interval, Pair, Solvent, Term, BOOK_LARGEST, BOOK_MOST};
 pub use call::answer_bytes;
-pub use question::{Kelvin, Options, Pascal, Question, Task};
+pub use question::{Feed, Kelvin, Options, Pascal, Question, Task};
 pub use refusal::Refusal;
 pub use tasks::{
     bubble_pressure, bubble_temperature, dew_pressure, dew_temperature, excess_at, liquid_stability, rachford_rice,

@@ -2,10 +2,10 @@
 
 use crate::block::{Words, BLOCK};
 use crate::format::question::{
-    ENERGY_TOLERANCE, FRACTIONS, K_VALUES, LOW, MAX_ITERATIONS, MAX_TEMPERATURE_ITERATIONS, PRESSURE, TASK,
+    ENERGY_TOLERANCE, FEED, FRACTIONS, K_VALUES, LOW, MAX_ITERATIONS, MAX_TEMPERATURE_ITERATIONS, PRESSURE, TASK,
     TEMPERATURE, TM_THRESHOLD, TOLERANCE,
 };
-use crate::format::{kind, task};
+use crate::format::{feed, kind, task};
 use crate::{Refusal, UpToEight};
 
 /// A temperature in kelvin; any float, tested by the core.
@@ -132,26 +132,72 @@ impl Task {
     }
 }
 
-/// A task and the feed's mole fractions, one for each solvent of the book in its order, 0 for one that is absent.
+/// Fractions of a feed, one for each solvent of the book in its order, 0 for one that is absent. A plain row is of moles.
+///
+/// ```
+/// use zektonk::Feed;
+///
+/// assert_eq!(Feed::from([0.5, 0.5]), Feed::Moles([0.5, 0.5].into()));
+/// assert_eq!(Feed::mass([0.7, 0.3]).fractions()[0], 0.7);
+/// ```
+#[derive(Debug, Clone, Copy, PartialEq)]
+pub enum Feed {
+    /// Mole fractions.
+    Moles(UpToEight<f64>),
+    /// Mass fractions, which the core converts by the molar masses of a book of version 2.
+    Mass(UpToEight<f64>),
+}
+
+impl Feed {
+    /// A feed by mass.
+    #[must_use]
+    pub fn mass(fractions: impl Into<UpToEight<f64>>) -> Self {
+        Self::Mass(fractions.into())
+    }
+
+    /// Its fractions, whatever they are of.
+    #[must_use]
+    pub fn fractions(&self) -> &UpToEight<f64> {
+        match self {
+            Self::Moles(fractions) | Self::Mass(fractions) => fractions,
+        }
+    }
+
+    fn kind(&self) -> u64 {
+        match self {
+            Self::Moles(_) => feed::MOLES,
+            Self::Mass(_) => feed::MASS,
+        }
+    }
+}
+
+impl<T: Into<UpToEight<f64>>> From<T> for Feed {
+    fn from(fractions: T) -> Self {
+        Self::Moles(fractions.into())
+    }
+}
+
+/// A task put to a feed.
 #[derive(Debug, Clone, Copy, PartialEq)]
 pub struct Question {
     /// What is asked.
     pub task: Task,
-    /// Mole fractions.
-    pub feed: UpToEight<f64>,
+    /// By moles or by mass.
+    pub feed: Feed,
 }
 
 impl Question {
     /// A task put to a feed.
     #[must_use]
-    pub fn new(task: Task, feed: impl Into<UpToEight<f64>>) -> Self {
+    pub fn new(task: Task, feed: impl Into<Feed>) -> Self {
         Self { task, feed: feed.into() }
     }
 
     /// Whether feed and K values have an entry for each solvent of a book.
     pub(crate) fn fits(&self, solvents: usize) -> Result<(), Refusal> {
-        if self.feed.len() != solvents {
-            return Err(Refusal::FeedLength { entries: self.feed.len(), solvents });
+        let entries = self.feed.fractions().len();
+        if entries != solvents {
+            return Err(Refusal::FeedLength { entries, solvents });
         }
         match &self.task {
             Task::RachfordRice { k, .. } | Task::RachfordRiceNegative { k, .. } if k.len() != solvents => {
@@ -164,7 +210,8 @@ impl Question {
     /// The question's block. Words that the task doesn't read are 0.
     #[must_use]
     pub fn encode(&self) -> [u8; BLOCK] {
-        let words = Words::new(kind::QUESTION).word(TASK, self.task.number()).floats(FRACTIONS, &self.feed);
+        let words = Words::new(kind::QUESTION).word(TASK, self.task.number());
+        let words = words.floats(FRACTIONS, self.feed.fractions()).word(FEED, self.feed.kind());
         let heat = |words: Words, t: &Kelvin| words.float(TEMPERATURE, t.0);
         let press = |words: Words, p: &Pascal| words.float(PRESSURE, p.0);
         let words = match &self.task {
@@ -207,6 +254,17 @@ mod tests {
             Task::TpFlash { temperature: Kelvin(351.44), pressure: Pascal(90_000.0), options: Options::default() };
         let stored = include_bytes!("../../../crates/still/stdin");
         assert_eq!(&Question::new(task, [0.5, 0.5]).encode(), stored);
+    }
+
+    #[test]
+    fn a_feed_by_mass_is_said_in_word_27() {
+        let task = Task::ExcessAt { temperature: Kelvin(300.0) };
+        let (moles, mass) = (Question::new(task, [0.25, 0.75]), Question::new(task, Feed::mass([0.25, 0.75])));
+        let (before, after) = (moles.encode(), mass.encode());
+        let (before, after) = (Block::new(&before), Block::new(&after));
+        assert_eq!((before.word(27), after.word(27)), (0, 1));
+        assert!((0..63).filter(|at| *at != 27).all(|at| before.word(at) == after.word(at)));
+        assert!(after.check_is_right());
     }
 
     #[test]

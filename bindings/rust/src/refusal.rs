@@ -1,4 +1,4 @@
-//! The numbers that a call is refused with, 1 to 30 and 34, and what this crate refuses before it.
+//! The numbers that a call is refused with, 1 to 30 and 34 to 36, and what this crate refuses before it.
 
 use std::fmt;
 
@@ -30,9 +30,9 @@ macro_rules! refusals {
 
         impl Refusal {
             /// The core's, in order.
-            pub const ALL: [Self; 31] = [$(Self::$name),*];
+            pub const ALL: [Self; 33] = [$(Self::$name),*];
 
-            /// The core's number, 1 to 30 or 34; none of what this crate refuses before the call.
+            /// The core's number, 1 to 30 or 34 to 36; none of what this crate refuses before the call.
             #[must_use]
             pub fn number(self) -> Option<u64> {
                 match self {
@@ -90,10 +90,10 @@ refusals! {
     12 Task "the task is none of 1 to 9"
     13 Temperature "the temperature is not finite and positive"
     14 Pressure "the pressure is not finite and positive"
-    15 NotFinite "a mole fraction or a K value is not finite"
-    16 FractionNegative "a mole fraction is negative"
+    15 NotFinite "a fraction or a K value is not finite"
+    16 FractionNegative "a fraction is negative"
     17 KNotPositive "a K value is not positive"
-    18 FractionSum "the mole fractions don't add up to 1 within 1e-10"
+    18 FractionSum "the fractions don't add up to 1 within 1e-10"
     19 Options "a tolerance, the trial threshold or the temperature bracket is not allowed"
     20 LimitZero "an iteration limit is 0"
     21 LimitHigh "an iteration limit is above 1,000,000"
@@ -106,7 +106,9 @@ refusals! {
     28 KOneSided "the K values are not on both sides of 1"
     29 LiquidUnstable "a trial of the liquid found a lower tangent plane"
     30 VaporFractionOutside "the vapor fraction is outside (0, 1)"
-    34 NotNormalizable "a composition's parts have a sum that is not finite and positive"
+    34 NotNormalizable "a composition's parts, or the moles of a feed by mass, have a sum that is not finite and positive"
+    35 MolarMass "a solvent's molar mass is not finite and positive"
+    36 FeedKind "the feed is by mass and the book has no molar masses, or by neither moles nor mass"
 }
 
 impl std::error::Error for Refusal {}
@@ -116,12 +118,12 @@ mod tests {
     use super::*;
 
     #[test]
-    fn numbers_are_1_to_30_and_34() {
-        for (number, refusal) in (1..=30).chain([34]).zip(Refusal::ALL) {
+    fn numbers_are_1_to_30_and_34_to_36() {
+        for (number, refusal) in (1..=30).chain(34..=36).zip(Refusal::ALL) {
             assert_eq!(refusal.number(), Some(number));
             assert_eq!(Refusal::from_number(number), Some(refusal));
         }
-        assert!([0, 31, 32, 33, 35, u64::MAX].iter().all(|number| Refusal::from_number(*number).is_none()));
+        assert!([0, 31, 32, 33, 37, u64::MAX].iter().all(|number| Refusal::from_number(*number).is_none()));
     }
 
     #[test]

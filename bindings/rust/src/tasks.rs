@@ -2,7 +2,7 @@
 
 use crate::answer::{Answer, Excess, Flash, Saturation, Split, Stability, TwoPhase};
 use crate::question::{Kelvin, Options, Pascal, Question, Task};
-use crate::{answer, Book, Refusal, UpToEight};
+use crate::{answer, Book, Feed, Refusal, UpToEight};
 
 /// A function that asks a task and takes its answer out.
 macro_rules! calls {
@@ -15,7 +15,7 @@ macro_rules! calls {
         /// # Errors
         ///
         /// The core's refusal, or that feed or K values haven't an entry for each solvent of the book.
-        pub fn $name(book: &Book<'_>, feed: impl Into<UpToEight<f64>>, $($input: $type),*) -> Result<$found, Refusal> {
+        pub fn $name(book: &Book<'_>, feed: impl Into<Feed>, $($input: $type),*) -> Result<$found, Refusal> {
             match answer(book, &Question::new($task, feed))? {
                 Answer::$answer(found) => Ok(found),
                 other => unreachable!("task {} was not asked", other.task()),

@@ -3,13 +3,13 @@
 #[path = "../examples/ethanol_water/mod.rs"]
 mod ethanol_water;
 
-use ethanol_water::ethanol_water;
+use ethanol_water::{ethanol_water, in_the_making};
 use zektonk::{
     answer, answer_bytes, bubble_pressure, bubble_temperature, dew_pressure, dew_temperature, excess_at,
     liquid_stability, rachford_rice, rachford_rice_negative, tp_flash,
 };
 use zektonk::{
-    Answer, Book, Correlation, Kelvin, Options, Pair, Pascal, Phases, Question, Refusal, Solvent, Split, Task,
+    Answer, Book, Correlation, Feed, Kelvin, Options, Pair, Pascal, Phases, Question, Refusal, Solvent, Split, Task,
     UpToEight, Validity, Words, ANSWER_ROOM, BLOCK,
 };
 
@@ -27,7 +27,7 @@ fn flash_at(temperature: Kelvin, pressure: Pascal) -> Task {
     Task::TpFlash { temperature, pressure, options: options() }
 }
 
-fn ask(task: Task, feed: impl Into<UpToEight<f64>>) -> Result<Answer, Refusal> {
+fn ask(task: Task, feed: impl Into<Feed>) -> Result<Answer, Refusal> {
     answer(&ethanol_water().unwrap(), &Question::new(task, feed))
 }
 
@@ -215,6 +215,57 @@ fn a_feed_of_another_length_is_not_asked() {
     assert_eq!(rachford_rice(&book, [0.5, 0.5], [2.0, 0.5, 9.0], 200), Err(k_refused));
     // A book that has no count of solvents is the core's to refuse.
     assert_eq!(excess_at(&Book::from(&STORED_BOOK[..511]), [1.0], T), Err(Refusal::BookLength));
+}
+
+/// Mass fractions and molar masses (kg/mol) give what the mole fractions give that the core makes of them.
+#[test]
+fn a_feed_by_mass() {
+    let (masses, w) = ([0.046_068_44, 0.018_015_28], [0.7, 0.3]);
+    let book = weighed(masses);
+    let parts = [w[0] / masses[0], w[1] / masses[1]];
+    let moles = parts.map(|part| part / (parts[0] + parts[1]));
+    let (temperature, pressure, options) = (T, P, options());
+    let k = [1.2, 0.1].into();
+    for task in [
+        Task::ExcessAt { temperature },
+        Task::BubblePressure { temperature },
+        Task::DewPressure { temperature, options },
+        Task::BubbleTemperature { pressure, options },
+        Task::DewTemperature { pressure, options },
+        Task::LiquidStability { temperature, options },
+        Task::TpFlash { temperature, pressure, options },
+        Task::RachfordRice { k, max_iterations: 200 },
+        Task::RachfordRiceNegative { k, max_iterations: 200 },
+    ] {
+        let found = answer(&book, &Question::new(task, Feed::mass(w)));
+        assert!(found.is_ok(), "task {}", task.number());
+        assert_eq!(found, answer(&book, &Question::new(task, moles)), "task {}", task.number());
+        assert_eq!(found, ask(task, moles), "task {}: a mole feed of the book without masses", task.number());
+    }
+    let bubble = bubble_pressure(&book, Feed::mass(w), T).unwrap();
+    assert_eq!(bubble.liquid, moles.into(), "compositions of an answer are mole fractions");
+}
+
+/// Ethanol and water with these molar masses.
+fn weighed(masses: [f64; 2]) -> Book<'static> {
+    in_the_making().molar_masses(masses).build().unwrap()
+}
+
+#[test]
+fn refusals_of_feeds_by_mass() {
+    let asked = |book: &Book<'_>, w: [f64; 2]| tp_flash(book, Feed::mass(w), T, P, options()).unwrap_err();
+    let good = weighed([0.046, 0.018]);
+    assert_eq!(asked(&ethanol_water().unwrap(), [0.5, 0.5]), Refusal::FeedKind);
+    assert_eq!(asked(&good, [0.5, 0.4]), Refusal::FractionSum);
+    assert_eq!(asked(&good, [1.5, -0.5]), Refusal::FractionNegative);
+    assert_eq!(asked(&good, [f64::NAN, 1.0]), Refusal::NotFinite);
+    assert_eq!(asked(&weighed([5e-324, 0.018]), [1.0, 0.0]), Refusal::NotNormalizable);
+    for mass in [0.0, -0.018, f64::INFINITY, f64::NAN] {
+        assert_eq!(asked(&weighed([0.046, mass]), [0.5, 0.5]), Refusal::MolarMass);
+        assert_eq!(excess_at(&weighed([mass, 0.018]), [0.5, 0.5], T), Err(Refusal::MolarMass));
+    }
+    let lengths = Some(Refusal::FeedLength { entries: 3, solvents: 2 });
+    assert_eq!(excess_at(&good, Feed::mass([0.5, 0.5, 0.0]), T).err(), lengths);
 }
 
 /// Each task's own call gives what the general one gives.

@@ -58,6 +58,7 @@ fn words() {
 #[test]
 fn numbers() {
     same("zektonk_kind", "ZEKTONK_KIND_", format::kind::ALL);
+    same("zektonk_feed", "ZEKTONK_FEED_", format::feed::ALL);
     same("zektonk_task", "ZEKTONK_", format::task::ALL);
     same("zektonk_outcome", "ZEKTONK_", format::outcome::ALL);
     same("zektonk_note", "ZEKTONK_NOTE_", format::note::ALL);
@@ -66,7 +67,7 @@ fn numbers() {
 
 #[test]
 fn every_enumeration_is_held() {
-    assert_eq!(HEADER.matches("\nenum zektonk_").count(), 13);
+    assert_eq!(HEADER.matches("\nenum zektonk_").count(), 14);
 }
 
 /// What a macro stands for.
@@ -92,6 +93,7 @@ fn sizes_and_version() {
         assert_eq!(defined(name), value.to_string(), "{name}");
     }
     assert_eq!(defined("FORMAT_VERSION"), format::VERSION.to_string());
+    assert_eq!(defined("FORMAT_VERSION_MASS"), format::VERSION_MASS.to_string());
 }
 
 #[test]

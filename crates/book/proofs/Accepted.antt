@@ -16,7 +16,7 @@ use Rattle.floats.proofs.Outcomes.{need-inv, each-ok, each-need}
 use Rattle.book.proofs.Laws.{place-above, place-within}
 use Rattle.book.specs.declared.Head.{Head}
 use Rattle.book.specs.Places.{words, pairCount, blockCount, rowFrom, pairPlace}
-use Rattle.book.specs.Book.{headRight, solventRight, recordsRight, casNew, pairRight, rowRight, pairFinite, alphasEqual}
+use Rattle.book.specs.Book.{headRight, solventRight, recordsRight, massesRight, casNew, pairRight, rowRight, pairFinite, alphasEqual}
 use Rattle.book.specs.Book.{headIn, pairsOf, solventsOf, headOf, ruleOf, bookOf}
 
 pub record Accepted (s : List ℕ) (n : ℕ) : Type 0 where
@@ -28,6 +28,7 @@ pub record Accepted (s : List ℕ) (n : ℕ) : Type 0 where
   pub head : headRight (words s 0) ≡ true
   pub solvents : allTo (λ i. solventRight (words s (i + 1)) i) n ≡ true
   pub records : allTo (λ i. recordsRight (words s (i + 1))) n ≡ true
+  pub masses : massesRight (words s) (headIn (words s 0)) ≡ true
   pub cas : allTo (casNew (words s)) n ≡ true
   pub pairs : allTo (λ i. rowRight (words s) i (rowFrom n i) (n - i - 1)) n ≡ true
   pub floats : allTo (λ d. pairFinite (words s (1 + n + d))) (pairCount n) ≡ true
@@ -52,7 +53,7 @@ pub opened-head : (s : List ℕ) {h : Head} → bookOf s ≡ ok h → headIn (wo
 unfolding bookOf headOf solventsOf pairsOf
 opened-head s {h} e = let P : Head → Type 0 = λ g. headIn (words s 0) ≡ g in
     let pairs = each-need P _ 7 (each-need P _ 8 (each-need P _ 9 (each-ok P refl))) in
-    let solvents = each-need P _ 4 (each-need P _ 5 (each-need P _ 6 pairs)) in
+    let solvents = each-need P _ 4 (each-need P _ 5 (each-need P _ 35 (each-need P _ 6 pairs))) in
     each-need P _ 1 (each-need P _ 1 (each-need P _ 2 (each-need P _ 3 (each-need P _ 3 solvents)))) .each h e
 
 pub accepted : (s : List ℕ) {h : Head} → bookOf s ≡ ok h → Accepted s (h .n)
@@ -67,13 +68,14 @@ accepted s {h = g} h =
     let q3' = passed (eqb (l / 512) (blockCount (w 0 2))) 3 _ (q3 .1) in
     let q4 = passed (allTo (λ i. solventRight (w (i + 1)) i) (w 0 2)) 4 _ (q3' .1) in
     let q5 = passed (allTo (λ i. recordsRight (w (i + 1))) (w 0 2)) 5 _ (q4 .1) in
-    let q6 = passed (allTo (casNew w) (w 0 2)) 6 _ (q5 .1) in
+    let q35 = passed (massesRight w (headIn (w 0))) 35 _ (q5 .1) in
+    let q6 = passed (allTo (casNew w) (w 0 2)) 6 _ (q35 .1) in
     let q7 = passed (allTo (λ i. rowRight w i (rowFrom (w 0 2) i) (w 0 2 - i - 1)) (w 0 2)) 7 _ (q6 .1) in
     let q8 = passed (allTo (λ d. pairFinite (w (1 + w 0 2 + d))) (pairCount (w 0 2))) 8 _ (q7 .1) in
     let q9 = passed (allTo (λ d. alphasEqual (w (1 + w 0 2 + d))) (pairCount (w 0 2))) 9 _ (q8 .1) in
     let e : w 0 2 ≡ g .n = ap (λ (g : Head). g .n) (opened-head s h) in
     let z = eqb-true (l / 512) (blockCount (w 0 2)) (q3' .0) in
-    let kinds = eqb (w 0 0) 1 && eqb (w 0 1) 1 in
+    let kinds = eqb (w 0 0) 1 && ltb 0 (w 0 1) && leb (w 0 1) 2 in
     let a : Accepted s (w 0 2) =
     record {
       some = ltb-true 0 (w 0 2) (second kinds (ltb 0 (w 0 2)) (first (kinds && ltb 0 (w 0 2)) (leb (w 0 2) 8) (q3 .0)));
@@ -84,6 +86,7 @@ accepted s {h = g} h =
       head = q3 .0;
       solvents = q4 .0;
       records = q5 .0;
+      masses = q35 .0;
       cas = q6 .0;
       pairs = q7 .0;
       floats = q8 .0;

@@ -85,7 +85,7 @@ second false e = absurd (true≢false (sym e))
 
 pub head-few : (w : ℕ → ℕ) → headRight w ≡ true → w 2 ≤ 8
 unfolding headRight
-head-few w h = leb-true (w 2) 8 (second (eqb (w 0) 1 && eqb (w 1) 1 && ltb 0 (w 2)) h)
+head-few w h = leb-true (w 2) 8 (second (eqb (w 0) 1 && ltb 0 (w 1) && leb (w 1) 2 && ltb 0 (w 2)) h)
 
 pub count-no : {count r n m : ℕ} → (count ≡ 1 + n + r → ⊥) → r ≡ pairCount n → n ≡ m → eqb count (blockCount m) ≡ false
 count-no {count} {r} {n} {m} f e q = ne-eqb count (blockCount m) (λ p. f (rw (e, q) p))

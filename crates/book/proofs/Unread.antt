@@ -9,13 +9,14 @@ use borrow.Author.Tests.{lt-ltb, le-leb, lt-leb, ne-eqb}
 use lib.Dec.{T, eqb, ltb}
 use lib.ListN.{length}
 use Rattle.blocks.specs.Words.{checkRight}
-use Rattle.floats.specs.Small.{isFinite, floatOf}
+use Rattle.floats.specs.Small.{isFinite, positive, floatOf}
 use Rattle.floats.specs.Fold.{allTo}
 use Rattle.floats.proofs.Folds.{all-cong}
 use Rattle.book.proofs.Laws.{row-above}
 use Rattle.book.specs.Places.{words, pairCount, rowFrom}
-use Rattle.book.specs.Named.{pairNamed, named, Agree}
-use Rattle.book.specs.Book.{floatsFinite, headRight, solventRight, rangeRight, termCount, recordRight, recordsRight, casNew, pairRight, rowRight}
+use Rattle.book.specs.Named.{solventNamed, pairNamed, named, Agree}
+use Rattle.book.specs.Book.{floatsFinite, headRight, solventRight, rangeRight, termCount, recordRight, recordsRight, hasMasses, molarMass, massesRight}
+use Rattle.book.specs.Book.{casNew, pairRight, rowRight}
 use Rattle.book.specs.Book.{boundsFinite, pairFinite, alphasEqual, headIn, pairsOf, solventsOf, headOf, ruleOf, bookOf}
 
 -- a block's tests read only its named words
@@ -91,24 +92,37 @@ module _ (w : ℕ → ℕ → ℕ) (n : ℕ) where
   unfolding named
   head-named k h = rw (lt-ltb k 3 h) tt
 
-  solvent-named : (i k : ℕ) → i < n → k < 45 → T (named w n (i + 1) k)
+  solvent-named : (i k : ℕ) → i < n → T (solventNamed (w 0 1) k) → T (named w n (i + 1) k)
   unfolding named
   solvent-named i k l h =
       let a : i + 1 ≤ n = omega arith in
-      rw (ne-eqb (i + 1) 0 (λ (z : i + 1 ≡ 0). omega arith), le-leb (i + 1) n a, lt-ltb k 45 h) tt
+      rw (ne-eqb (i + 1) 0 (λ (z : i + 1 ≡ 0). omega arith), le-leb (i + 1) n a) h
+
+  low-named : (i k : ℕ) → i < n → k < 45 → T (named w n (i + 1) k)
+  unfolding solventNamed
+  low-named i k l h = solvent-named i k l (rw (lt-ltb k 45 h) tt)
+
+  mass-named : (i : ℕ) → i < n → hasMasses (w 0 1) ≡ true → T (named w n (i + 1) 45)
+  unfolding solventNamed
+  mass-named i l h = solvent-named i 45 l (rw h tt)
 
   pair-named : (j k : ℕ) → n < j → T (pairNamed (w j 15) k) → T (named w n j k)
   unfolding named
   pair-named j k l h = rw (ne-eqb j 0 (λ (z : j ≡ 0). omega arith), lt-leb j n l) h
 
+-- two books of n solvents that agree on the named words behind block 0, but for molar masses
+pub record AgreeBehind (s t : List ℕ) (n : ℕ) : Type 0 where
+  pub solvent : (i : ℕ) → i < n → (k : ℕ) → k < 45 → words s (i + 1) k ≡ words t (i + 1) k
+  pub pair : (j : ℕ) → n < j → PairAgrees (words s j) (words t j)
+
 module _ (s t : List ℕ) (a : Agree s t) where
-  pub head-agrees : (k : ℕ) → k < 3 → words s 0 k ≡ words t 0 k
+  head-agrees : (k : ℕ) → k < 3 → words s 0 k ≡ words t 0 k
   head-agrees k h = a .same 0 k (head-named (words s) (words s 0 2) k h)
 
-  pub solvent-agrees : (i : ℕ) → i < words s 0 2 → (k : ℕ) → k < 45 → words s (i + 1) k ≡ words t (i + 1) k
-  solvent-agrees i l k h = a .same (i + 1) k (solvent-named (words s) (words s 0 2) i k l h)
+  pub mass-agrees : (i : ℕ) → i < words s 0 2 → hasMasses (words s 0 1) ≡ true → molarMass (words s) i ≡ molarMass (words t) i
+  mass-agrees i l h = ap floatOf (a .same (i + 1) 45 (mass-named (words s) (words s 0 2) i l h))
 
-  pub pair-agrees : (j : ℕ) → words s 0 2 < j → PairAgrees (words s j) (words t j)
+  pair-agrees : (j : ℕ) → words s 0 2 < j → PairAgrees (words s j) (words t j)
   unfolding pairNamed
   pair-agrees j l =
       let f = words s j 15 in
@@ -119,29 +133,61 @@ module _ (s t : List ℕ) (a : Agree s t) where
         flagged = λ q k h. e k (rw (q, lt-ltb k 19 h) tt);
       }
 
-module _ (s t : List ℕ) (a : Agree s t) where
-  pairs-same : pairsOf (words s) (headIn (words s 0)) ≡ pairsOf (words t) (headIn (words s 0))
-  unfolding pairsOf rowRight headIn
-  pairs-same =
-      let n = words s 0 2 in
-      let q7 =
-      all-cong n (λ i l. all-cong (n - i - 1) (λ d m. pair-same _ _ (pair-agrees s t a (rowFrom n i + d) (omega (arith, row-above n i))) i (i + 1 + d))) in
-      let q8 = all-cong (pairCount n) (λ d m. finite-same _ _ (pair-agrees s t a (1 + n + d) (omega arith))) in
-      let q9 = all-cong (pairCount n) (λ d m. alphas-same _ _ (pair-agrees s t a (1 + n + d) (omega arith))) in
-      rw (q7, q8, q9)
+  pub agree-behind : AgreeBehind s t (words s 0 2)
+  agree-behind = record { solvent = λ i l k h. a .same (i + 1) k (low-named (words s) (words s 0 2) i k l h); pair = pair-agrees }
 
-  solvents-same : solventsOf (words s) (headIn (words s 0)) ≡ solventsOf (words t) (headIn (words s 0))
-  unfolding solventsOf casNew headIn
-  solvents-same =
-      let n = words s 0 2 in
-      let q4 = all-cong n (λ i l. solvent-same (words s (i + 1)) (words t (i + 1)) (solvent-agrees s t a i l) i) in
-      let q5 = all-cong n (λ i l. records-same (words s (i + 1)) (words t (i + 1)) (solvent-agrees s t a i l)) in
-      let cas : (i : ℕ) → i < n → words s (i + 1) 2 ≡ words t (i + 1) 2 = λ i l. solvent-agrees s t a i l 2 (omega arith) in
-      let q6 = all-cong n (λ i l. all-cong i (λ j m. cas-same (cas j (omega arith)) (cas i l))) in
-      rw (q4, q5, q6, pairs-same)
+-- questions 4 to 9, but for 35
+module _ (s t : List ℕ) (n : ℕ) (a : AgreeBehind s t n) where
+  pub solvents-alike : allTo (λ i. solventRight (words s (i + 1)) i) n ≡ allTo (λ i. solventRight (words t (i + 1)) i) n
+  solvents-alike = all-cong n (λ i l. solvent-same (words s (i + 1)) (words t (i + 1)) (a .solvent i l) i)
+
+  pub records-alike : allTo (λ i. recordsRight (words s (i + 1))) n ≡ allTo (λ i. recordsRight (words t (i + 1))) n
+  records-alike = all-cong n (λ i l. records-same (words s (i + 1)) (words t (i + 1)) (a .solvent i l))
+
+  pub cas-alike : allTo (casNew (words s)) n ≡ allTo (casNew (words t)) n
+  unfolding casNew
+  cas-alike =
+      let cas : (i : ℕ) → i < n → words s (i + 1) 2 ≡ words t (i + 1) 2 = λ i l. a .solvent i l 2 (omega arith) in
+      all-cong n (λ i l. all-cong i (λ j m. cas-same (cas j (omega arith)) (cas i l)))
     where
       cas-same : {a b c d : ℕ} → a ≡ b → c ≡ d → not (eqb a c) ≡ not (eqb b d)
       cas-same p q = rw (p, q)
+
+  pub rows-alike : allTo (λ i. rowRight (words s) i (rowFrom n i) (n - i - 1)) n ≡ allTo (λ i. rowRight (words t) i (rowFrom n i) (n - i - 1)) n
+  unfolding rowRight
+  rows-alike = all-cong n (λ i l. all-cong (n - i - 1) (λ d m. pair-same _ _ (a .pair (rowFrom n i + d) (omega (arith, row-above n i))) i (i + 1 + d)))
+
+  pub finite-alike : allTo (λ d. pairFinite (words s (1 + n + d))) (pairCount n) ≡ allTo (λ d. pairFinite (words t (1 + n + d))) (pairCount n)
+  finite-alike = all-cong (pairCount n) (λ d m. finite-same _ _ (a .pair (1 + n + d) (omega arith)))
+
+  pub alphas-alike : allTo (λ d. alphasEqual (words s (1 + n + d))) (pairCount n) ≡ allTo (λ d. alphasEqual (words t (1 + n + d))) (pairCount n)
+  alphas-alike = all-cong (pairCount n) (λ d m. alphas-same _ _ (a .pair (1 + n + d) (omega arith)))
+
+module _ (s t : List ℕ) (a : Agree s t) where
+  masses-same : massesRight (words s) (headIn (words s 0)) ≡ massesRight (words t) (headIn (words s 0))
+  unfolding massesRight headIn
+  masses-same = pick (hasMasses (words s 0 1)) refl
+    where
+      pick : (b : Bool) → hasMasses (words s 0 1) ≡ b
+          → (not (hasMasses (words s 0 1)) || allTo (λ i. positive (molarMass (words s) i)) (words s 0 2))
+          ≡ (not (hasMasses (words s 0 1)) || allTo (λ i. positive (molarMass (words t) i)) (words s 0 2))
+      pick true q = rw q (all-cong (words s 0 2) (λ i l. ap positive (mass-agrees s t a i l q)))
+      pick false q = rw q
+
+  solvents-same : solventsOf (words s) (headIn (words s 0)) ≡ solventsOf (words t) (headIn (words s 0))
+  unfolding solventsOf pairsOf headIn
+  solvents-same =
+      let n = words s 0 2 in
+      let b = agree-behind s t a in
+      rw (
+        solvents-alike s t n b,
+        records-alike s t n b,
+        masses-same,
+        cas-alike s t n b,
+        rows-alike s t n b,
+        finite-alike s t n b,
+        alphas-alike s t n b,
+      )
 
   head-in-same : headIn (words s 0) ≡ headIn (words t 0)
   unfolding headIn

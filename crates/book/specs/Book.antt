@@ -1,16 +1,16 @@
--- Questions 1 to 9 in the order of docs/FORMAT.md, each put to all blocks before the next. In a test of one block w k is its word k; over a whole book
+-- Questions 1 to 9 and 35 in the order of docs/FORMAT.md, each put to all blocks before the next. In a test of one block w k is its word k; over a whole book
 -- w j k is word k of block j. Assumes nothing.
 use mathlib.Core.List.{List}
-use mathlib.Core.Bool.{Bool, true, not, cond, _&&_}
+use mathlib.Core.Bool.{Bool, true, not, cond, _&&_, _||_}
 use Prim.Native.Nat.{ℕ, _+_, _-_, _/_, _%_}
 use lib.Dec.{eqb, ltb, leb}
-use lib.Ieee.{lt, le, eq}
+use lib.Ieee.{Float, lt, le, eq}
 use lib.ListN.{length}
 use Rattle.blocks.specs.Words.{checkRight}
 use Rattle.blocks.specs.declared.Rule.{Rule}
 use Rattle.blocks.specs.declared.Rule.the-variants.{Plain}
 use Rattle.floats.specs.Arithmetic.{0f}
-use Rattle.floats.specs.Small.{isFinite, float}
+use Rattle.floats.specs.Small.{isFinite, positive, float}
 use Rattle.floats.specs.Fold.{allTo}
 use Rattle.floats.specs.Vector.{places}
 use Rattle.floats.specs.Outcome.{Out, ok, no, need}
@@ -23,9 +23,9 @@ use Rattle.book.specs.declared.Opened.the-variants.{Book, No}
 unfoldable pub floatsFinite : (ℕ → ℕ) → ℕ → ℕ → Bool
 floatsFinite w f n = allTo (λ k. isFinite (float w (f + k))) n
 
--- 3. block 0: kind 1, version 1, n 1 to 8
+-- 3. block 0: kind 1, version 1 or 2, n 1 to 8
 unfoldable pub headRight : (ℕ → ℕ) → Bool
-headRight w = eqb (w 0) 1 && eqb (w 1) 1 && ltb 0 (w 2) && leb (w 2) 8
+headRight w = eqb (w 0) 1 && ltb 0 (w 1) && leb (w 1) 2 && ltb 0 (w 2) && leb (w 2) 8
 
 -- 4. a solvent's block: kind 2, its own index, CAS not 0, term counts 1 to 8
 unfoldable pub solventRight : (ℕ → ℕ) → ℕ → Bool
@@ -48,6 +48,18 @@ recordRight w f =
 -- vapor pressure and liquid density
 unfoldable pub recordsRight : (ℕ → ℕ) → Bool
 recordsRight w = recordRight w 3 && recordRight w 24
+
+-- version 2 on: every solvent has a molar mass
+abbrev pub hasMasses : ℕ → Bool
+hasMasses version = leb 2 version
+
+-- solvent i's, in kg/mol: word 45 of its block
+abbrev pub molarMass : (ℕ → ℕ → ℕ) → ℕ → Float
+molarMass w i = float (w (i + 1)) 45
+
+-- 35. the molar masses, where there are any, are finite and positive
+unfoldable pub massesRight : (ℕ → ℕ → ℕ) → Head → Bool
+massesRight w h = not (hasMasses (h .version)) || allTo (λ i. positive (molarMass w i)) (h .n)
 
 -- 6. no solvent before solvent i has its CAS number
 unfoldable pub casNew : (ℕ → ℕ → ℕ) → ℕ → Bool
@@ -83,12 +95,13 @@ pairsOf w h =
     (need (allTo (λ d. pairFinite (w (1 + h .n + d))) (pairCount (h .n))) 8
     (need (allTo (λ d. alphasEqual (w (1 + h .n + d))) (pairCount (h .n))) 9 (ok h)))
 
--- questions 4 to 6, on the solvents, then those on the pairs
+-- questions 4, 5, 35 and 6, on the solvents, then those on the pairs
 unfoldable pub solventsOf : (ℕ → ℕ → ℕ) → Head → Out Head
 solventsOf w h =
     need (allTo (λ i. solventRight (w (i + 1)) i) (h .n)) 4
     (need (allTo (λ i. recordsRight (w (i + 1))) (h .n)) 5
-    (need (allTo (casNew w) (h .n)) 6 (pairsOf w h)))
+    (need (massesRight w h) 35
+    (need (allTo (casNew w) (h .n)) 6 (pairsOf w h))))
 
 -- question 3, on block 0 and the number of blocks, then the others
 unfoldable pub headOf : (ℕ → ℕ → ℕ) → ℕ → Out Head

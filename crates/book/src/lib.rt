@@ -1,14 +1,14 @@
-// The book: questions 1 to 9.
+// The book: questions 1 to 9, and 35.
 ghost use mathlib.Core.Path.{_≡_};
 ghost use mathlib.Core.Bool.{_&&_};
 ghost use Prim.Native.Nat.{_≤_, _<_, _+_, _*_, _-_};
 ghost use lib.Dec.{ltb};
 ghost use lib.ListN.{length};
 ghost use Rattle.blocks.specs.Words.{word, wordFrom, block, checkRight};
-ghost use Rattle.floats.specs.Small.{isFinite, floatOf, float};
+ghost use Rattle.floats.specs.Small.{isFinite, positive, floatOf, float};
 ghost use Rattle.floats.specs.Fold.{allTo};
 ghost use Rattle.book.specs.Places.{words, pairCount, blockCount, rowFrom};
-ghost use Rattle.book.specs.Book.{floatsFinite, headRight, solventRight, rangeRight, recordRight, recordsRight, casNew, pairRight, rowRight, boundsFinite, pairFinite, alphasEqual, pairsOf, solventsOf, headOf, ruleOf, bookOf, openedOf};
+ghost use Rattle.book.specs.Book.{floatsFinite, headRight, solventRight, rangeRight, recordRight, recordsRight, hasMasses, molarMass, massesRight, casNew, pairRight, rowRight, boundsFinite, pairFinite, alphasEqual, pairsOf, solventsOf, headOf, ruleOf, bookOf, openedOf};
 use blocks::Rule;
 
 // What block 0 says: the number of solvents, and the version.
@@ -100,8 +100,9 @@ fn head_right(s: &[u8]) -> bool
     requires { ⌜ length (now s) ≡ 512 ⌝ }
     ensures { λ r. ⌜ r ≡ headRight (word (now (s .entry))) ⌝ }
 {
+    let version = word(s, 1);
     let n = word(s, 2);
-    (word(s, 0) == 1) & (word(s, 1) == 1) & (0 < n) & (n <= 8)
+    (word(s, 0) == 1) & (0 < version) & (version <= 2) & (0 < n) & (n <= 8)
 }
 
 fn pair_count(n: usize) -> usize
@@ -191,6 +192,46 @@ fn all_records_right(book: &[u8], n: usize) -> bool
         i += 1;
     }
     true
+}
+
+// From version 2 on.
+pub fn has_masses(version: u64) -> bool
+    ensures { λ r. ⌜ r ≡ hasMasses version ⌝ }
+{
+    2 <= version
+}
+
+// kg/mol
+fn molar_mass(book: &[u8], i: usize) -> f64
+    requires { ⌜ 512 * i + 1024 ≤ length (now book) ⌝ }
+    ensures { λ r. ⌜ r ≡ molarMass (words (now (book .entry))) i ⌝ }
+{
+    float_at(whole_block(book, i + 1), 45)
+}
+
+fn masses_positive(book: &[u8], n: usize) -> bool
+    requires { ⌜ 512 * n + 512 ≤ length (now book) ⌝ }
+    ensures { λ r. ⌜ r ≡ allTo (λ i. positive (molarMass (words (now (book .entry))) i)) n ⌝ }
+{
+    let mut i = 0;
+    while i < n {
+        if !floats::positive(molar_mass(book, i)) {
+            return false;
+        }
+        i += 1;
+    }
+    true
+}
+
+// Word 45 of version 1 is not read.
+fn masses_right(book: &[u8], head: Head) -> bool
+    requires { ⌜ 512 * head .n + 512 ≤ length (now book) ⌝ }
+    ensures { λ r. ⌜ r ≡ massesRight (words (now (book .entry))) head ⌝ }
+{
+    if !has_masses(head.version) {
+        return true;
+    }
+    masses_positive(book, head.n)
 }
 
 fn cas(book: &[u8], i: usize) -> u64
@@ -365,6 +406,9 @@ fn open_solvents(book: &[u8], head: Head) -> Opened
     }
     if !all_records_right(book, n) {
         return Opened::No(5);
+    }
+    if !masses_right(book, head) {
+        return Opened::No(35);
     }
     if !cas_distinct(book, n) {
         return Opened::No(6);

@@ -1,6 +1,6 @@
--- The small functions on floats: finite test, max, min, abs, bits. Assumes nothing.
+-- The small functions on floats: finite and positive tests, max, min, abs, bits. Assumes nothing.
 use Prim.Native.Nat.{ℕ}
-use mathlib.Core.Bool.{Bool, true, false, cond}
+use mathlib.Core.Bool.{Bool, true, false, cond, _&&_}
 use lib.Ieee.{Float, nan, inf, fin, binary64, lt, le, isNan, ofBits, toBits}
 use Rattle.floats.specs.Arithmetic.{_⊖_, 0f}
 
@@ -9,6 +9,10 @@ unfoldable pub isFinite : Float → Bool
 isFinite nan = false
 isFinite (inf s) = false
 isFinite (fin s m e) = true
+
+-- finite and above 0
+unfoldable pub positive : Float → Bool
+positive v = isFinite v && lt 0f v
 
 -- Rust's max and min: a NaN is passed over; of two equal values the first
 abbrev pub maxOf : Float → Float → Float

@@ -1,6 +1,6 @@
 // The small functions on f64, each equal to its definition in specs/Small.antt.
 ghost use mathlib.Core.Path.{_≡_};
-ghost use Rattle.floats.specs.Small.{isFinite, maxOf, minOf, absOf, bitsOf, floatOf};
+ghost use Rattle.floats.specs.Small.{isFinite, positive, maxOf, minOf, absOf, bitsOf, floatOf};
 ghost use Rattle.floats.specs.Vector.{places};
 
 pub fn is_finite(x: f64) -> bool
@@ -11,6 +11,13 @@ pub fn is_finite(x: f64) -> bool
     } else {
         false
     }
+}
+
+// Finite and above 0.
+pub fn positive(v: f64) -> bool
+    ensures { λ r. ⌜ r ≡ positive v ⌝ }
+{
+    is_finite(v) & (0.0 < v)
 }
 
 pub fn max(a: f64, b: f64) -> f64

@@ -7,16 +7,23 @@ use native.Mathlib.Omega.{arith}
 use borrow.Author.Tests.{eq-eqb, ne-eqb, le-leb, lt-leb}
 use lib.Dec.{eqb, leb}
 use lib.Ieee.{Float}
+use Rattle.floats.specs.Arithmetic.{_⊘_}
+use Rattle.floats.specs.Vector.{at, vec}
 use Rattle.floats.specs.Outcome.{Out, ok, no, bind, need}
+use Rattle.floats.proofs.Outcomes.{need-yes, need-no, bind-yes, bind-no, choose-yes, choose-no}
+use Rattle.floats.proofs.Fills.{vec-at}
 use Rattle.thermo_types.specs.declared.Verdict.{Verdict}
 use Rattle.thermo_types.specs.declared.Verdict.the-variants.{Passed, Refused}
-use Rattle.thermo_types.specs.Verdicts.{verdictOf}
+use Rattle.thermo_types.specs.declared.Normalized.{Normalized}
+use Rattle.thermo_types.specs.Verdicts.{verdictOf, normalizedAnswer}
+use Rattle.thermo_types.proofs.Normalizing.{normalize-cong, normalized-passed, normalized-refused}
+use Rattle.thermo_types.specs.Composition.{normalizeOf}
 use Rattle.question.specs.declared.Question.{Question}
 use Rattle.question.specs.declared.Asked.{Asked}
 use Rattle.question.specs.declared.Task.{Task}
 use Rattle.question.specs.declared.Task.the-variants.{Read, No}
 use Rattle.question.specs.Inputs.{within, isTask}
-use Rattle.question.specs.Asked.{taskRead, inputsRight, limitsRight, askedOf}
+use Rattle.question.specs.Asked.{taskRead, inputsRight, limitsRight, molesOf, askedOf}
 
 -- a question that is answered no, and one that is answered yes
 pub says-no : {A : Type 0} (r : ℕ) (o : Out A) {b : Bool} → b ≡ false → Refused r ≡ verdictOf (need b r o)
@@ -83,20 +90,60 @@ unfolding need bind
 need-bind true r o k e = e
 need-bind false r o k e = refl
 
-module _ (w : ℕ → ℕ) (n : ℕ) (x k : List Float) (a : Question) where
-  behind : inputsRight w n x k (limitsRight w (ok a)) ≡ bind (inputsRight w n x k (limitsRight w (ok (w 1)))) (λ z. ok a)
-  unfolding inputsRight limitsRight bind
-  behind = let f : ℕ → Out Question = λ z. ok a in
-      let limits = need-bind _ 19 _ f (need-bind _ 20 _ f (need-bind _ 21 _ f refl)) in
-      need-bind _ 13 _ f (need-bind _ 14 _ f (need-bind _ 15 _ f (need-bind _ 16 _ f (need-bind _ 17 _ f (need-bind _ 18 _ f limits)))))
+-- the match on the verdict of 13 to 18, with p behind them
+module _ (w : ℕ → ℕ) (n : ℕ) (x k : List Float) (p : Out Question) where
+  inputs-behind : inputsRight w n x k p ≡ bind (inputsRight w n x k (ok (w 1))) (λ z. p)
+  unfolding inputsRight bind
+  inputs-behind = let f : ℕ → Out Question = λ z. p in
+      need-bind _ 13 _ f (need-bind _ 14 _ f (need-bind _ 15 _ f (need-bind _ 16 _ f (need-bind _ 17 _ f (need-bind _ 18 _ f refl)))))
 
-  pub rest-no : {v : Verdict} {r : ℕ} {y : Asked} → v ≡ verdictOf (inputsRight w n x k (limitsRight w (ok (w 1)))) → v ≡ Refused r → y ≡ askedOf (no r)
-      → y ≡ askedOf (inputsRight w n x k (limitsRight w (ok a)))
-  rest-no e f h = rw behind (verdict-no _ _ e f h)
+  pub inputs-no : {v : Verdict} {r : ℕ} {y : Asked} → v ≡ verdictOf (inputsRight w n x k (ok (w 1))) → v ≡ Refused r → y ≡ askedOf (no r)
+      → y ≡ askedOf (inputsRight w n x k p)
+  inputs-no e f h = rw inputs-behind (verdict-no _ _ e f h)
 
-  pub rest-yes : {v : Verdict} {y : Asked} → v ≡ verdictOf (inputsRight w n x k (limitsRight w (ok (w 1)))) → v ≡ Passed → y ≡ askedOf (ok a)
-      → y ≡ askedOf (inputsRight w n x k (limitsRight w (ok a)))
-  rest-yes e f h = rw behind (verdict-yes _ _ e f h)
+  pub inputs-yes : {v : Verdict} {y : Asked} → v ≡ verdictOf (inputsRight w n x k (ok (w 1))) → v ≡ Passed → y ≡ askedOf p → y ≡ askedOf (inputsRight w n x k p)
+  inputs-yes e f h = rw inputs-behind (verdict-yes _ _ e f h)
+
+-- on that of 19 to 21
+module _ (w : ℕ → ℕ) (a : Question) where
+  limits-behind : limitsRight w (ok a) ≡ bind (limitsRight w (ok (w 1))) (λ z. ok a)
+  unfolding limitsRight bind
+  limits-behind = let f : ℕ → Out Question = λ z. ok a in need-bind _ 19 _ f (need-bind _ 20 _ f (need-bind _ 21 _ f refl))
+
+  pub limits-no : {v : Verdict} {r : ℕ} {y : Asked} → v ≡ verdictOf (limitsRight w (ok (w 1))) → v ≡ Refused r → y ≡ askedOf (no r)
+      → y ≡ askedOf (limitsRight w (ok a))
+  limits-no e f h = rw limits-behind (verdict-no _ _ e f h)
+
+  pub limits-yes : {v : Verdict} {y : Asked} → v ≡ verdictOf (limitsRight w (ok (w 1))) → v ≡ Passed → y ≡ askedOf (ok a) → y ≡ askedOf (limitsRight w (ok a))
+  limits-yes e f h = rw limits-behind (verdict-yes _ _ e f h)
+
+-- the two ways of a feed to mole fractions, v being word 27
+module _ (w : ℕ → ℕ) (m : ℕ → Float) (n : ℕ) (x : List Float) {v : ℕ} (e : v ≡ w 27) {r : Normalized} where
+  pub moles-by-mass : {y : List Float} → n ≤ 8 → v ≡ 1 → y ≡ vec (λ i. at x i ⊘ m i) n → r ≡ normalizedAnswer (normalizeOf (at y) n)
+      → r ≡ normalizedAnswer (molesOf w m n x)
+  unfolding molesOf
+  moles-by-mass {y = y} l f g h =
+      let c : normalizeOf (at y) n ≡ normalizeOf (λ i. at x i ⊘ m i) n = rw g (normalize-cong n (λ i k. vec-at (λ i. at x i ⊘ m i) n i l k)) in
+      rw (choose-yes (normalizeOf (λ i. at x i ⊘ m i) n) (ok x) (kind-yes e 1 f), ← c) h
+
+  pub moles-as-given : (v ≡ 1 → ⊥) → r ≡ record { verdict = Passed; fractions = x } → r ≡ normalizedAnswer (molesOf w m n x)
+  unfolding molesOf normalizedAnswer
+  moles-as-given f h = rw (choose-no (normalizeOf (λ i. at x i ⊘ m i) n) (ok x) (kind-no e 1 f)) h
+
+-- on that of a feed as mole fractions
+module _ (o : Out (List Float)) (k : List Float → Out Question) {r : Normalized} (e : r ≡ normalizedAnswer o) where
+  pub moles-no : {m : ℕ} {y : Asked} → r .verdict ≡ Refused m → y ≡ askedOf (no m) → y ≡ askedOf (bind o k)
+  moles-no f h = rw (bind-no k (normalized-refused o e f)) h
+
+  pub moles-yes : {y : Asked} → r .verdict ≡ Passed → y ≡ askedOf (k (r .fractions)) → y ≡ askedOf (bind o k)
+  moles-yes f h = rw (bind-yes k (normalized-passed o e f)) h
+
+-- a test ahead of a question
+pub asks-no : (r : ℕ) (p : Out Question) {b : Bool} {y : Asked} → b ≡ false → y ≡ askedOf (no r) → y ≡ askedOf (need b r p)
+asks-no r p e h = rw (need-no r p e) h
+
+pub asks-yes : (r : ℕ) (p : Out Question) {b : Bool} {y : Asked} → b ≡ true → y ≡ askedOf p → y ≡ askedOf (need b r p)
+asks-yes r p e h = rw (need-yes r p e) h
 
 -- ---- a number in a range of tasks, below it, above it
 both : (b : Bool) → b && false ≡ false

@@ -1,20 +1,21 @@
--- The question's words and questions 11 to 21, in the order of docs/FORMAT.md: block and task, the feed, the rest put to that feed. w k is word k. Assumes nothing.
+-- The question's words and questions 11 to 21 and 36, in the order of docs/FORMAT.md: block and task, the feed, the rest put to that feed. w k is word k. Assumes nothing.
 use Prim.Native.Nat.{ℕ, _+_}
-use mathlib.Core.Bool.{Bool, not, _&&_}
+use mathlib.Core.Bool.{Bool, not, _&&_, _||_}
 use mathlib.Core.List.{List}
 use lib.Dec.{eqb, leb}
 use lib.ListN.{length}
 use lib.Ieee.{Float, lt, le}
-use Rattle.floats.specs.Arithmetic.{#, 0f}
-use Rattle.floats.specs.Small.{isFinite, float}
+use Rattle.floats.specs.Arithmetic.{_⊘_, #, 0f}
+use Rattle.floats.specs.Small.{isFinite, positive, float}
 use Rattle.floats.specs.Vector.{at, vec, zeros8}
-use Rattle.floats.specs.Outcome.{Out, ok, no, bind, need}
+use Rattle.floats.specs.Outcome.{Out, ok, no, bind, need, choose}
 use Rattle.thermo_types.specs.Quantities.{lowestKelvin, highestKelvin}
-use Rattle.thermo_types.specs.Composition.{allFinite, noneNegative, allPositive, sumsToOne}
+use Rattle.thermo_types.specs.Composition.{allFinite, noneNegative, allPositive, sumsToOne, normalizeOf}
 use Rattle.thermo_types.specs.declared.ActivityOptions.{ActivityOptions}
 use Rattle.thermo_types.specs.declared.Verdict.the-variants.{Passed, Refused}
 use Rattle.blocks.specs.Words.{word, checkRight}
 use Rattle.blocks.specs.declared.Rule.{Rule}
+use Rattle.book.specs.Book.{hasMasses}
 use Rattle.question.specs.Inputs.{isTask, needsTemperature, needsPressure, needsOptions, needsRatios, ifNeeded}
 use Rattle.question.specs.declared.Question.{Question}
 use Rattle.question.specs.declared.Asked.{Asked}
@@ -30,7 +31,15 @@ taskIn rule q =
     (need (isTask (word q 1)) 12
     (ok (word q 1)))))
 
--- ---- the feed: mole fraction i is word 4 + i; the first n, +0 past them
+-- ---- the feed's kind: word 27 is 0 for mole fractions, 1 for mass fractions
+abbrev pub byMass : (ℕ → ℕ) → Bool
+byMass w = eqb (w 27) 1
+
+-- mass only where the book's version has molar masses (36)
+unfoldable pub kindRight : ℕ → (ℕ → ℕ) → Bool
+kindRight version w = eqb (w 27) 0 || (byMass w && hasMasses version)
+
+-- ---- the feed: fraction i is word 4 + i; the first n, +0 past them
 abbrev pub fraction : (ℕ → ℕ) → ℕ → Float
 fraction w i = float w (4 + i)
 
@@ -45,10 +54,6 @@ abbrev pub ratiosOf : List ℕ → ℕ → List Float
 ratiosOf q n = vec (ratio (word q)) n
 
 -- ---- 13 to 18, put to a feed x and K values k
--- finite and positive
-unfoldable pub positive : Float → Bool
-positive v = isFinite v && lt 0f v
-
 abbrev pub temperatureRight : (ℕ → ℕ) → Bool
 temperatureRight w = ifNeeded (needsTemperature (w 1)) (positive (float w 2))
 
@@ -98,6 +103,10 @@ limitsFew w = ifNeeded (needsOptions (w 1)) (limited (w 12) && limited (w 14)) &
 unfoldable pub limitsRight : {A : Type 0} → (ℕ → ℕ) → Out A → Out A
 limitsRight w next = need (ifNeeded (needsOptions (w 1)) (optionsRight w)) 19 (need (limitsSome w) 20 (need (limitsFew w) 21 next))
 
+-- ---- mole fractions of a feed x: of mass fractions each over its molar mass m i, then `normalize` (34)
+unfoldable pub molesOf : (ℕ → ℕ) → (ℕ → Float) → ℕ → List Float → Out (List Float)
+molesOf w m n x = choose (byMass w) (normalizeOf (λ i. at x i ⊘ m i) n) (ok x)
+
 -- ---- what the solvers read
 unfoldable pub optionsIn : (ℕ → ℕ) → ActivityOptions
 optionsIn w = record {
@@ -113,12 +122,14 @@ unfoldable pub questionFrom : (ℕ → ℕ) → List Float → List Float → Qu
 questionFrom w x k = record { task = w 1; temperature = float w 2; pressure = float w 3; fractions = x; options = optionsIn w; ratios = k }
 
 -- the rest, put to a feed x
-unfoldable pub restOf : List ℕ → ℕ → List Float → Out Question
-restOf q n x = inputsRight (word q) n x (ratiosOf q n) (limitsRight (word q) (ok (questionFrom (word q) x (ratiosOf q n))))
+unfoldable pub restOf : List ℕ → (ℕ → Float) → ℕ → List Float → Out Question
+restOf q m n x =
+    inputsRight (word q) n x (ratiosOf q n) (bind (molesOf (word q) m n x) (λ z.
+    limitsRight (word q) (ok (questionFrom (word q) z (ratiosOf q n)))))
 
--- ---- questions 11 to 21 to the bytes of a question, for a book of n solvents
-unfoldable pub questionOf : Rule → List ℕ → ℕ → Out Question
-questionOf rule q n = bind (taskIn rule q) (λ task. restOf q n (feedOf q n))
+-- ---- questions 11 to 21 to the bytes of a question, for a book of that version and n solvents with the molar masses m
+unfoldable pub questionOf : Rule → List ℕ → ℕ → (ℕ → Float) → ℕ → Out Question
+questionOf rule q version m n = bind (taskIn rule q) (λ task. need (kindRight version (word q)) 36 (restOf q m n (feedOf q n)))
 
 -- as the code answers; a refusal has an empty question
 unfoldable pub taskRead : Out ℕ → Task

@@ -1,17 +1,21 @@
-// The question: 512 bytes on standard input or from the desk. Three steps: block and task (11, 12), the feed, and the
-// rest (13 to 21), put to that feed.
+// The question: 512 bytes on standard input or from the desk. Three steps: block and task (11, 12), the feed (36), and
+// the rest (13 to 21), put to that feed; 34 where mass fractions can't be brought to moles.
 ghost use mathlib.Core.Path.{_≡_};
 ghost use Prim.Native.Nat.{_≤_, _+_};
+ghost use Rattle.floats.specs.Arithmetic.{_⊘_};
 ghost use Rattle.floats.specs.Small.{float};
-ghost use Rattle.floats.specs.Vector.{vec, places};
-ghost use Rattle.floats.specs.Outcome.{ok, no};
-ghost use Rattle.thermo_types.specs.Verdicts.{verdictOf};
+ghost use Rattle.floats.specs.Vector.{at, vec, places};
+ghost use Rattle.floats.specs.Outcome.{ok, no, bind};
+ghost use Rattle.thermo_types.specs.Verdicts.{verdictOf, normalizedAnswer};
 ghost use Rattle.blocks.specs.Words.{word};
+ghost use Rattle.book.specs.Places.{words};
+ghost use Rattle.book.specs.Book.{molarMass};
 ghost use Rattle.question.specs.Inputs.{isTask, needsTemperature, needsPressure, needsOptions, needsRatios, ifNeeded};
-ghost use Rattle.question.specs.Asked.{taskIn, taskRead, feedOf, positive, temperatureRight, pressureRight, inputsFinite, ratiosPositive, inputsRight, toleranceRight, optionsRight, limited, limitsSome, limitsFew, limitsRight, optionsIn, questionFrom, restOf, questionOf, askedOf};
+ghost use Rattle.question.specs.Asked.{taskIn, taskRead, kindRight, feedOf, temperatureRight, pressureRight, inputsFinite, ratiosPositive, inputsRight, toleranceRight, optionsRight, limited, limitsSome, limitsFew, limitsRight, molesOf, optionsIn, questionFrom, restOf, questionOf, askedOf};
 use blocks::Rule;
 use blocks::word;
 use thermo_types::ActivityOptions;
+use thermo_types::Normalized;
 use thermo_types::Verdict;
 
 // K, Pa; the first n fractions and K values, 0.0 past them.
@@ -105,24 +109,18 @@ fn floats_from(q: &[u8], from: usize, n: usize) -> [f64; 8]
     x
 }
 
-fn positive(v: f64) -> bool
-    ensures { λ r. ⌜ r ≡ positive v ⌝ }
-{
-    floats::is_finite(v) & (0.0 < v)
-}
-
 // 13
 fn temperature_right(q: &[u8]) -> bool
     ensures { λ r. ⌜ r ≡ temperatureRight (word (now (q .entry))) ⌝ }
 {
-    !needs_temperature(word(q, 1)) | positive(float_at(q, 2))
+    !needs_temperature(word(q, 1)) | floats::positive(float_at(q, 2))
 }
 
 // 14
 fn pressure_right(q: &[u8]) -> bool
     ensures { λ r. ⌜ r ≡ pressureRight (word (now (q .entry))) ⌝ }
 {
-    !needs_pressure(word(q, 1)) | positive(float_at(q, 3))
+    !needs_pressure(word(q, 1)) | floats::positive(float_at(q, 3))
 }
 
 // 15
@@ -238,6 +236,40 @@ fn question_from(q: &[u8], x: &[f64; 8], k: &[f64; 8]) -> Question
     }
 }
 
+// 36
+fn kind_right(version: u64, q: &[u8]) -> bool
+    ensures { λ r. ⌜ r ≡ kindRight version (word (now (q .entry))) ⌝ }
+{
+    let kind = word(q, 27);
+    (kind == 0) | ((kind == 1) & book::has_masses(version))
+}
+
+// Fraction over molar mass (kg/mol): mol of each solvent in a kg of the feed.
+fn over_masses(book: &[u8], n: usize, x: &[f64; 8]) -> [f64; 8]
+    ensures { λ r. ⌜ r ≡ vec (λ i. at (now (x .entry)) i ⊘ molarMass (words (now (book .entry))) i) (places n) ⌝ }
+{
+    let m = floats::places(n);
+    let mut moles = [0.0; 8];
+    for i in 0..m {
+        moles[i] = x[i] / float_at(blocks::block(book, i + 1), 45);
+    }
+    moles
+}
+
+// The mole fractions of a feed by word 27.
+fn moles(q: &[u8], book: &[u8], n: usize, x: &[f64; 8]) -> Normalized
+    ensures { λ r. ⌜ r ≡ normalizedAnswer (molesOf (word (now (q .entry))) (molarMass (words (now (book .entry)))) (places n) (now (x .entry))) ⌝ }
+{
+    if word(q, 27) == 1 {
+        let amounts = over_masses(book, n, x);
+        return thermo_types::normalize(&amounts, n);
+    }
+    Normalized {
+        verdict: Verdict::Passed,
+        fractions: *x,
+    }
+}
+
 // Questions 19 to 21.
 fn check_limits(q: &[u8]) -> Verdict
     ensures { λ r. ⌜ r ≡ verdictOf (limitsRight (word (now (q .entry))) (ok (word (now (q .entry)) 1))) ⌝ }
@@ -254,9 +286,9 @@ fn check_limits(q: &[u8]) -> Verdict
     Verdict::Passed
 }
 
-// Questions 13 to 18 of the feed x and the K values k, then 19 to 21.
+// Questions 13 to 18 of the feed x and the K values k.
 fn check_inputs(q: &[u8], n: usize, x: &[f64; 8], k: &[f64; 8]) -> Verdict
-    ensures { λ r. ⌜ r ≡ verdictOf (inputsRight (word (now (q .entry))) (places n) (now (x .entry)) (now (k .entry)) (limitsRight (word (now (q .entry))) (ok (word (now (q .entry)) 1)))) ⌝ }
+    ensures { λ r. ⌜ r ≡ verdictOf (inputsRight (word (now (q .entry))) (places n) (now (x .entry)) (now (k .entry)) (ok (word (now (q .entry)) 1))) ⌝ }
 {
     if !temperature_right(q) {
         return Verdict::Refused(13);
@@ -276,7 +308,7 @@ fn check_inputs(q: &[u8], n: usize, x: &[f64; 8], k: &[f64; 8]) -> Verdict
     if !thermo_types::sums_to_one(x, n) {
         return Verdict::Refused(18);
     }
-    check_limits(q)
+    Verdict::Passed
 }
 
 // Questions 11 and 12: the task.
@@ -299,38 +331,65 @@ pub fn read_task(rule: Rule, q: &[u8]) -> Task
     Task::Read(task)
 }
 
-// The first n mole fractions, 0.0 past them.
+// The first n fractions, 0.0 past them.
 pub fn read_feed(q: &[u8], n: usize) -> [f64; 8]
     ensures { λ r. ⌜ r ≡ feedOf (now (q .entry)) (places n) ⌝ }
 {
     floats_from(q, 4, n)
 }
 
+// The question with mole fractions z that passed, after questions 19 to 21.
+fn read_limits(q: &[u8], z: &[f64; 8], k: &[f64; 8]) -> Asked
+    ensures { λ r. ⌜ r ≡ askedOf (limitsRight (word (now (q .entry))) (ok (questionFrom (word (now (q .entry))) (now (z .entry)) (now (k .entry))))) ⌝ }
+{
+    let verdict = check_limits(q);
+    match verdict {
+        Verdict::Refused(number) => refused(number),
+        Verdict::Passed => Asked {
+            verdict: Verdict::Passed,
+            question: question_from(q, z, k),
+        },
+    }
+}
+
+// The feed x that passed as mole fractions (34), then 19 to 21.
+fn read_moles(q: &[u8], book: &[u8], n: usize, x: &[f64; 8], k: &[f64; 8]) -> Asked
+    ensures { λ r. ⌜ r ≡ askedOf (bind (molesOf (word (now (q .entry))) (molarMass (words (now (book .entry)))) (places n) (now (x .entry))) (λ z. limitsRight (word (now (q .entry))) (ok (questionFrom (word (now (q .entry))) z (now (k .entry)))))) ⌝ }
+{
+    let feed = moles(q, book, n, x);
+    let verdict = feed.verdict;
+    match verdict {
+        Verdict::Refused(number) => refused(number),
+        Verdict::Passed => read_limits(q, &feed.fractions, k),
+    }
+}
+
 // Questions 13 to 21, put to the feed x: what the solvers read, or the number of the first that is answered no.
-pub fn read_rest(q: &[u8], n: usize, x: &[f64; 8]) -> Asked
-    ensures { λ r. ⌜ r ≡ askedOf (restOf (now (q .entry)) (places n) (now (x .entry))) ⌝ }
+pub fn read_rest(q: &[u8], book: &[u8], n: usize, x: &[f64; 8]) -> Asked
+    ensures { λ r. ⌜ r ≡ askedOf (restOf (now (q .entry)) (molarMass (words (now (book .entry)))) (places n) (now (x .entry))) ⌝ }
 {
     let k = floats_from(q, 19, n);
     let verdict = check_inputs(q, n, x, &k);
     match verdict {
         Verdict::Refused(number) => refused(number),
-        Verdict::Passed => Asked {
-            verdict: Verdict::Passed,
-            question: question_from(q, x, &k),
-        },
+        Verdict::Passed => read_moles(q, book, n, x, &k),
     }
 }
 
-// The question for a book of n solvents, or the number of the first of questions 11 to 21 that is answered no.
-pub fn read_question(rule: Rule, q: &[u8], n: usize) -> Asked
-    ensures { λ r. ⌜ r ≡ askedOf (questionOf rule (now (q .entry)) (places n)) ⌝ }
+// The question for a book of that version and n solvents, or the number of the first of questions 11 to 21 and 36 that
+// is answered no.
+pub fn read_question(rule: Rule, q: &[u8], version: u64, book: &[u8], n: usize) -> Asked
+    ensures { λ r. ⌜ r ≡ askedOf (questionOf rule (now (q .entry)) version (molarMass (words (now (book .entry)))) (places n)) ⌝ }
 {
     let task = read_task(rule, q);
     match task {
         Task::No(number) => refused(number),
         Task::Read(_) => {
+            if !kind_right(version, q) {
+                return refused(36);
+            }
             let x = read_feed(q, n);
-            read_rest(q, n, &x)
+            read_rest(q, book, n, &x)
         }
     }
 }

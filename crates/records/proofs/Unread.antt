@@ -12,9 +12,8 @@ use Rattle.floats.specs.Vector.{vec, zeros8, fillFrom}
 use Rattle.floats.proofs.Folds.{fold-cong}
 use Rattle.floats.proofs.Fills.{fill-cong}
 use Rattle.book.specs.Places.{words, pairPlace}
-use Rattle.book.specs.Named.{Agree}
 use Rattle.book.proofs.Laws.{place-above}
-use Rattle.book.proofs.Unread.{PairAgrees, solvent-agrees, pair-agrees}
+use Rattle.book.proofs.Unread.{PairAgrees, AgreeBehind}
 use Rattle.records.specs.declared.Regression.the-variants.{None, Interval}
 use Rattle.records.specs.Records.{ancillaryOf, rangeOf, regressionOf}
 use Rattle.records.specs.Parameters.{termIn, parameter, parameterRow, parameterRows, parametersOf}
@@ -64,30 +63,24 @@ rows-cong f g n e = fold-cong _ n (λ i l h. fold-cong l n (λ j l h. fillFrom-c
 chosen : (a b : Bool) (z : Float) {x y u v : Float} → x ≡ u → y ≡ v → cond a x (cond b y z) ≡ cond a u (cond b v z)
 chosen a b z p q = rw (p, q)
 
--- of a book of n solvents, as block 0 says
-module _ (s t : List ℕ) (a : Agree s t) (n : ℕ) (c : words s 0 2 ≡ n) where
-  solvent : (i : ℕ) → i < n → (k : ℕ) → k < 45 → words s (i + 1) k ≡ words t (i + 1) k
-  solvent i l = solvent-agrees s t a i (omega arith)
-
-  behind : (i j : ℕ) → words s 0 2 < pairPlace n i j
-  behind i j = omega (arith, place-above n i j)
-
+-- of two books of n solvents
+module _ (s t : List ℕ) (n : ℕ) (a : AgreeBehind s t n) where
   pub vapor-pressure-unread : (i : ℕ) → i < n → ancillaryOf (words s (i + 1)) 3 ≡ ancillaryOf (words t (i + 1)) 3
-  vapor-pressure-unread i l = ancillary-same (words s (i + 1)) (words t (i + 1)) (solvent i l) 3 (omega arith)
+  vapor-pressure-unread i l = ancillary-same (words s (i + 1)) (words t (i + 1)) (a .solvent i l) 3 (omega arith)
 
   pub vapor-pressure-range-unread : (i : ℕ) → i < n → rangeOf (words s (i + 1)) 3 ≡ rangeOf (words t (i + 1)) 3
-  vapor-pressure-range-unread i l = range-same (words s (i + 1)) (words t (i + 1)) (solvent i l) 3 (omega arith)
+  vapor-pressure-range-unread i l = range-same (words s (i + 1)) (words t (i + 1)) (a .solvent i l) 3 (omega arith)
 
   pub density-range-unread : (i : ℕ) → i < n → rangeOf (words s (i + 1)) 24 ≡ rangeOf (words t (i + 1)) 24
-  density-range-unread i l = range-same (words s (i + 1)) (words t (i + 1)) (solvent i l) 24 (omega arith)
+  density-range-unread i l = range-same (words s (i + 1)) (words t (i + 1)) (a .solvent i l) 24 (omega arith)
 
   pub regression-unread : (i j : ℕ) → regressionOf (words s (pairPlace n i j)) ≡ regressionOf (words t (pairPlace n i j))
-  regression-unread i j = regression-same (words s (pairPlace n i j)) (words t (pairPlace n i j)) (pair-agrees s t a (pairPlace n i j) (behind i j))
+  regression-unread i j = regression-same (words s (pairPlace n i j)) (words t (pairPlace n i j)) (a .pair (pairPlace n i j) (place-above n i j))
 
   at-pair : (i j f k : ℕ) → f ≤ 7 → k < 6 → termIn (words s (pairPlace n i j)) f k ≡ termIn (words t (pairPlace n i j)) f k
   unfolding termIn
   at-pair i j f k h q =
-      let e = pair-agrees s t a (pairPlace n i j) (behind i j) in
+      let e = a .pair (pairPlace n i j) (place-above n i j) in
       rw (e .low (f + k) (omega arith), e .low (7 + k) (omega arith))
 
   pub parameters-unread : parametersOf s n ≡ parametersOf t n

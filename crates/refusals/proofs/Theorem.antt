@@ -8,13 +8,13 @@ use Rattle.blocks.specs.declared.Rule.{Rule}
 use Rattle.book.specs.Book.{pairsOf, solventsOf, headOf, bookOf}
 use Rattle.thermo_models.specs.Activity.{activityIn}
 use Rattle.thermo_models.specs.Mixture.{Mixture, activity}
-use Rattle.question.specs.Asked.{taskIn, inputsRight, limitsRight, restOf, questionOf}
+use Rattle.question.specs.Asked.{taskIn, inputsRight, limitsRight, molesOf, restOf, questionOf}
 use Rattle.question.specs.declared.Question.{Question}
 use Rattle.sheet.specs.Tasks.{excessFound, saturated, task1, task2, task3, task4, task5, task6, task7, task8, task9, taskAt, taskUnder, taskSplit, taskOf}
 use Rattle.sheet.specs.Sheet.{answerTo, roomy, sheetFrom, sheetOf, numberOf}
 use Rattle.refusals.specs.Numbered.{Numbered, Refusals, ZeroIsAnswer}
 use Rattle.refusals.proofs.Laws.{numbers}
-use Rattle.refusals.proofs.Models.{num-positive, num-liquids, num-excess}
+use Rattle.refusals.proofs.Models.{num-positive, num-normalize, num-liquids, num-excess}
 use Rattle.refusals.proofs.Rice.{num-negative, num-constrained}
 use Rattle.refusals.proofs.Saturation.{num-bubblePressure, num-dewPressure}
 use Rattle.refusals.proofs.Boiling.{num-bubbleTemperature, num-dewTemperature}
@@ -23,11 +23,11 @@ use Rattle.refusals.proofs.Flash.{num-flash}
 
 num-book : (book : List ℕ) → Numbered (bookOf book)
 unfolding bookOf headOf solventsOf pairsOf
-num-book book = search numbers depth 12
+num-book book = search numbers depth 13
 
-num-question : (rule : Rule) (question : List ℕ) (n : ℕ) → Numbered (questionOf rule question n)
-unfolding questionOf taskIn restOf inputsRight limitsRight
-num-question rule question n = search numbers depth 14
+num-question : (rule : Rule) (question : List ℕ) (version : ℕ) (m : ℕ → Float) (n : ℕ) → Numbered (questionOf rule question version m n)
+unfolding questionOf taskIn restOf inputsRight limitsRight molesOf
+num-question rule question version m n = search (numbers, num-normalize) depth 16
 
 ruleset solvers = (num-bubblePressure, num-dewPressure, num-bubbleTemperature, num-dewTemperature, num-stability, num-flash, num-constrained, num-negative)
 

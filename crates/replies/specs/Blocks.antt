@@ -1,8 +1,8 @@
 -- The words of an answer block, of a trial block and of a refusal's block (docs/FORMAT.md, "The answer"). What a task's answer lacks is 0. Assumes nothing.
 use Prim.Native.Nat.{ℕ, _+_, _*_}
-use mathlib.Core.Bool.{Bool, true, false, cond}
+use mathlib.Core.Bool.{Bool, true, false, cond, _||_}
 use mathlib.Core.List.{List, [], _∷_, _++_}
-use lib.Dec.{leb}
+use lib.Dec.{eqb, leb}
 use lib.ListN.{getD, replicate}
 use Rattle.floats.specs.Small.{bitsOf}
 use Rattle.floats.specs.Vector.{at, fillFrom}
@@ -79,7 +79,7 @@ answerLength s = cond (leb (word s 12) 8) (512 * (1 + word s 12)) 512
 
 -- the numbers that are put before the task is known: their block has task 0
 abbrev pub taskless : ℕ → Bool
-taskless r = leb r 12
+taskless r = leb r 12 || eqb r 35
 
 -- the task of the question that was refused with r
 unfoldable pub refusedTask : List ℕ → ℕ → ℕ

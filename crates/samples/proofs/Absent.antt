@@ -1,7 +1,7 @@
 -- The flash with an absent solvent before the kept ones and its shorter sheet, by computation on the definitions. Assumes nothing.
 use mathlib.Core.Path.{refl}
 use lib.Ieee.{ofBits, toBits, add, sub, mul, div, neg, lt, le, eq, isNan, ofInt, toSigned, size}
-use Rattle.floats.specs.Small.{isFinite}
+use Rattle.floats.specs.Small.{isFinite, positive}
 use Rattle.floats.specs.Fold.{foldTo, allTo}
 use Rattle.floats.specs.Vector.{fillFrom, fill}
 use Rattle.floats.specs.Outcome.{bind, need, choose}
@@ -28,7 +28,7 @@ use Rattle.saturation.specs.Saturation.{dewLoop, dewAt}
 use Rattle.liquid_stability.specs.Stability.{presentCount, tangent, startFrom, othersIn, totalOf, trialComposition, distanceOf, nextOf, apartOf, unstable}
 use Rattle.liquid_stability.specs.Stability.{trialWith, noTrial, noTrials, withTrial, judge, trialFrom, trialsTo, stabilityOf}
 use Rattle.tp_flash.specs.Tp.{stableLiquid, dewOf, asLiquid, betweenOf, fromDew, phasesOf, tpFlash}
-use Rattle.question.specs.Asked.{positive, toleranceRight, optionsRight, optionsIn, questionFrom, inputsRight, limitsRight, taskIn, restOf, questionOf}
+use Rattle.question.specs.Asked.{kindRight, molesOf, toleranceRight, optionsRight, optionsIn, questionFrom, inputsRight, limitsRight, taskIn, restOf, questionOf}
 use Rattle.replies.specs.Blocks.{bit, statusNumber, stateWords, modelWords, answerWords, answerBytes, trialWords, trialBytes}
 use Rattle.replies.specs.Answers.{phaseNumber}
 use Rattle.sheet.specs.Tasks.{taskAt, taskOf, task7}
@@ -45,7 +45,7 @@ unfolding ofBits toBits add sub mul div neg lt le eq isNan ofInt toSigned size w
     fillFrom fill bind need choose expOf lnOf sumsToOne withFractions positiveOf rowFrom pairPlace ruleOf rangeOf termIn parameter parameterRow parameterRows
     parametersOf inRange constJ addJ subJ negJ mulJ scaleJ divJ expWith basisOf tauJ alphaJ exponentJ tauIJ gIJ alphaRight allRight colS colC termJ lnFrom
     gibbsFrom gibbsOf enthalpyOf heatCapacityOf entropyOf stateWith stateFrom withState nrtlOf excessOf solventCovers temperatureInDomain pureLiquidsOf positive
-    toleranceRight optionsRight optionsIn questionFrom inputsRight limitsRight taskIn restOf questionOf bit statusNumber stateWords modelWords answerWords
+    toleranceRight optionsRight optionsIn questionFrom inputsRight limitsRight taskIn kindRight molesOf restOf questionOf bit statusNumber stateWords modelWords answerWords
     answerBytes taskAt taskOf answerTo roomy sheetFrom sharesOf normalizeOf ancillaryOf term slopeTerm curvatureTerm sumsOf vaporFrom vaporOf representable
     vaporPressureOf puresTo pressureInDomain activityIn partialOf partialSum bubbleFrom gapOf residualWith dewTerm dewPressure dewLiquid bubbleAt dewTurn
     dewPoint dewLoop dewAt presentCount tangent startFrom othersIn totalOf trialComposition distanceOf nextOf apartOf unstable trialWith noTrial noTrials

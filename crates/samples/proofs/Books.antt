@@ -5,21 +5,25 @@ use mathlib.Core.List.{List}
 use lib.Ieee.{ofBits, lt, le, eq, size}
 use Rattle.blocks.specs.Words.{word, block, checkSum, sumBy, checkRight}
 use Rattle.blocks.specs.Bytes.{bytes, rowTo, blockBytes}
-use Rattle.floats.specs.Small.{isFinite}
+use Rattle.floats.specs.Small.{isFinite, positive}
 use Rattle.floats.specs.Fold.{allTo}
-use Rattle.floats.specs.Outcome.{Out, ok, bind, need}
+use Rattle.floats.specs.Outcome.{Out, ok, no, bind, need}
 use Rattle.book.specs.Places.{rowFrom}
-use Rattle.book.specs.Book.{floatsFinite, headRight, solventRight, rangeRight, recordRight, recordsRight, casNew, pairRight, rowRight, boundsFinite, pairFinite, alphasEqual}
+use Rattle.book.specs.Book.{floatsFinite, headRight, solventRight, rangeRight, recordRight, recordsRight, massesRight, casNew, pairRight, rowRight, boundsFinite, pairFinite, alphasEqual}
 use Rattle.book.specs.Book.{headIn, pairsOf, solventsOf, headOf, ruleOf, bookOf}
 use Rattle.book.specs.declared.Head.{Head}
 use Rattle.replies.specs.Blocks.{answerRoom}
 use Rattle.sheet.specs.Sheet.{sheetFrom, sheetOf}
-use Rattle.samples.specs.Sheets.{book1, book2, wide}
+use Rattle.samples.specs.Sheets.{½, book1, book2, wide, book2-weighed}
 use Rattle.samples.specs.Absent.{book3}
 
-pub answered : (book question : List ℕ) {h : Head} {o : Out (List ℕ)} → bookOf book ≡ ok h → sheetFrom book (h .n) question answerRoom ≡ o → sheetOf book question answerRoom ≡ o
+pub answered : (book question : List ℕ) {h : Head} {o : Out (List ℕ)} → bookOf book ≡ ok h → sheetFrom book (h .version) (h .n) question answerRoom ≡ o → sheetOf book question answerRoom ≡ o
 unfolding sheetOf bind
 answered book question e h = rw e h
+
+pub unopened : (book question : List ℕ) {r : ℕ} → bookOf book ≡ no r → sheetOf book question answerRoom ≡ no r
+unfolding sheetOf bind
+unopened book question e = rw e
 
 -- a book of n solvents
 abbrev Has : List ℕ → ℕ → Type 0
@@ -30,8 +34,10 @@ pub record BooksOpened : Type 0 where
   pub solvents2 : Has book2 2
   pub solvents3 : Has book3 3
   pub wide : Has wide 2
+  pub weighed : bookOf (book2-weighed ½ ½) ≡ ok (record { n = 2; version = 2 })
+  pub weightless : bookOf (book2-weighed ½ 0) ≡ no 35
 
 pub opened : BooksOpened
-unfolding ofBits lt le eq size word block checkSum sumBy checkRight bytes rowTo blockBytes isFinite allTo need rowFrom floatsFinite headRight solventRight rangeRight
-    recordRight recordsRight casNew pairRight rowRight boundsFinite pairFinite alphasEqual headIn pairsOf solventsOf headOf ruleOf bookOf
-opened = record { solvents1 = refl; solvents2 = refl; solvents3 = refl; wide = refl }
+unfolding ofBits lt le eq size word block checkSum sumBy checkRight bytes rowTo blockBytes isFinite positive allTo need rowFrom floatsFinite headRight solventRight rangeRight
+    recordRight recordsRight massesRight casNew pairRight rowRight boundsFinite pairFinite alphasEqual headIn pairsOf solventsOf headOf ruleOf bookOf
+opened = record { solvents1 = refl; solvents2 = refl; solvents3 = refl; wide = refl; weighed = refl; weightless = refl }

@@ -1,12 +1,12 @@
 -- The one test of the samples of docs/FORMAT.md, by computation on the definitions. Assumes nothing.
 use mathlib.Core.Path.{refl}
 use lib.Ieee.{ofBits, toBits, add, sub, mul, div, neg, lt, le, eq, isNan, ofInt, toSigned, size}
-use Rattle.floats.specs.Small.{isFinite}
+use Rattle.floats.specs.Small.{isFinite, positive}
 use Rattle.floats.specs.Fold.{foldTo, allTo}
 use Rattle.floats.specs.Vector.{fillFrom, fill}
 use Rattle.floats.specs.Outcome.{bind, need, choose}
 use Rattle.numerics.specs.Numerics.{expOf, lnOf}
-use Rattle.thermo_types.specs.Composition.{sumsToOne, withFractions}
+use Rattle.thermo_types.specs.Composition.{sumsToOne, withFractions, sharesOf, normalizeOf}
 use Rattle.thermo_types.specs.Quantities.{positiveOf}
 use Rattle.blocks.specs.Words.{word, block, checkSum, sumBy, checkRight}
 use Rattle.blocks.specs.Bytes.{bytes, rowTo, blockBytes}
@@ -26,21 +26,21 @@ use Rattle.thermo_models.specs.Validity.{unseen, noted, visited, rowSeen, allSe
 use Rattle.rachford_rice.specs.Rachford.{turnOf, residualOf, slopeOf, kMax, kMin, validate, liquidPart, vaporPart, solutionAt, iterate, between, negative}
 use Rattle.rachford_rice.specs.Rachford.{twoPhase, onePhase, constrained}
 use Rattle.saturation.specs.Saturation.{bubblePressure}
-use Rattle.question.specs.Asked.{positive, toleranceRight, optionsRight, optionsIn, questionFrom, inputsRight, limitsRight, taskIn, restOf, questionOf}
+use Rattle.question.specs.Asked.{kindRight, molesOf, toleranceRight, optionsRight, optionsIn, questionFrom, inputsRight, limitsRight, taskIn, restOf, questionOf}
 use Rattle.replies.specs.Blocks.{bit, statusNumber, stateWords, modelWords, answerWords, answerBytes}
 use Rattle.replies.specs.Answers.{riceBlock}
 use Rattle.sheet.specs.Tasks.{taskAt, taskOf, excessFound, saturated, task1, task2, task8, task9, taskSplit}
 use Rattle.sheet.specs.Sheet.{answerTo, roomy, sheetFrom}
-use Rattle.samples.specs.Sheets.{book1, book2, wide}
+use Rattle.samples.specs.Sheets.{½, book1, book2, wide, book2-weighed}
 use Rattle.samples.specs.Samples.{Samples}
-use Rattle.samples.proofs.Books.{answered, opened}
+use Rattle.samples.proofs.Books.{answered, unopened, opened}
 
 pub samples : Samples
 unfolding ofBits toBits add sub mul div neg lt le eq isNan ofInt toSigned size word block checkSum sumBy checkRight bytes rowTo blockBytes isFinite foldTo allTo
-    fillFrom fill bind need choose expOf lnOf sumsToOne withFractions positiveOf rowFrom pairPlace ruleOf rangeOf termIn parameter parameterRow parameterRows
+    fillFrom fill bind need choose expOf lnOf sumsToOne withFractions sharesOf normalizeOf positiveOf rowFrom pairPlace ruleOf rangeOf termIn parameter parameterRow parameterRows
     parametersOf inRange constJ addJ subJ negJ mulJ scaleJ divJ expWith basisOf tauJ alphaJ exponentJ tauIJ gIJ alphaRight allRight colS colC termJ lnFrom
     gibbsFrom gibbsOf enthalpyOf heatCapacityOf entropyOf stateWith stateFrom withState nrtlOf excessOf solventCovers temperatureInDomain pureLiquidsOf positive
-    toleranceRight optionsRight optionsIn questionFrom inputsRight limitsRight taskIn restOf questionOf bit statusNumber stateWords modelWords answerWords
+    toleranceRight optionsRight optionsIn questionFrom inputsRight limitsRight taskIn kindRight molesOf restOf questionOf bit statusNumber stateWords modelWords answerWords
     answerBytes taskAt taskOf answerTo roomy sheetFrom regressionOf unseen noted visited rowSeen allSeen statusOf validityOf turnOf residualOf slopeOf kMax kMin
     validate liquidPart vaporPart solutionAt iterate between negative twoPhase onePhase constrained bubblePressure riceBlock excessFound saturated task1 task2
     task8 task9 taskSplit
@@ -58,4 +58,7 @@ samples = record {
   k = answered book2 _ (opened .solvents2) refl;
   l = answered book2 _ (opened .solvents2) refl;
   m = answered wide _ (opened .wide) refl;
+  n = answered (book2-weighed ½ ½) _ (opened .weighed) refl;
+  o = answered book2 _ (opened .solvents2) refl;
+  p = unopened (book2-weighed ½ 0) _ (opened .weightless);
 }

@@ -1,4 +1,4 @@
--- The samples (a) to (m) of docs/FORMAT.md as one list: (a) to (c) on the helper numbers, (d) to (m) on the whole call, from the bytes of book and question to every byte of
+-- The samples (a) to (p) of docs/FORMAT.md as one list: (a) to (c) on the helper numbers, (d) to (p) on the whole call, from the bytes of book and question to every byte of
 -- the answer, in a slice with room for any answer. Assumes nothing.
 use Prim.Native.Nat.{ℕ}
 use mathlib.Core.Path.{_≡_}
@@ -8,11 +8,18 @@ use Rattle.floats.specs.Outcome.{Out, ok, no}
 use Rattle.numerics.specs.Numerics.{expOf, lnOf}
 use Rattle.replies.specs.Blocks.{answerRoom}
 use Rattle.sheet.specs.Sheet.{sheetOf}
-use Rattle.samples.specs.Sheets.{⅓, ½, ⅔, one, two, -zero, 300K, 350K, 100kPa, book1, book2, wide, question, answer}
+use Rattle.samples.specs.Sheets.{⅓, ½, ⅔, one, two, -zero, 300K, 350K, 100kPa, book1, book2, wide, book2-weighed, question, byMass, answer}
 
 -- tasks 8 and 9 with two solvents and M = 200: fractions and K
+abbrev pub splitIn : List ℕ → ℕ → List ℕ → List ℕ → Out (List ℕ)
+splitIn book task x k = sheetOf book (question task 0 0 x 200 k) answerRoom
+
 abbrev pub split : ℕ → List ℕ → List ℕ → Out (List ℕ)
-split task x k = sheetOf book2 (question task 0 0 x 200 k) answerRoom
+split = splitIn book2
+
+-- both phases: 1 iteration, residual 0, β 0.5, liquid a third and two thirds, vapor the reverse
+abbrev pub halves : Out (List ℕ)
+halves = ok (answer 8 3 (0 ∷ 0 ∷ 0 ∷ 0 ∷ 1 ∷ 0 ∷ 0 ∷ ½ ∷ 0 ∷ 0 ∷ []) (⅓ ∷ ⅔ ∷ []) (⅔ ∷ ⅓ ∷ []) [])
 
 -- a single phase: word 3 alone
 abbrev pub onePhase : ℕ → Out (List ℕ)
@@ -29,8 +36,8 @@ pub record Samples : Type 0 where
   pub b : expOf (# 0x4086300000000000) ≡ ∞
   -- (c) ln 1 = 0
   pub c : lnOf 1f ≡ 0f
-  -- (d) task 8, z 0.5 0.5, K 2 0.5: both, 1 iteration, residual 0, β 0.5, liquid a third and two thirds, vapor the reverse
-  pub d : split 8 (½ ∷ ½ ∷ []) (two ∷ ½ ∷ []) ≡ ok (answer 8 3 (0 ∷ 0 ∷ 0 ∷ 0 ∷ 1 ∷ 0 ∷ 0 ∷ ½ ∷ 0 ∷ 0 ∷ []) (⅓ ∷ ⅔ ∷ []) (⅔ ∷ ⅓ ∷ []) [])
+  -- (d) task 8, z 0.5 0.5, K 2 0.5: both
+  pub d : split 8 (½ ∷ ½ ∷ []) (two ∷ ½ ∷ []) ≡ halves
   -- (e) K 0.5 0.5: liquid
   pub e : split 8 (½ ∷ ½ ∷ []) (½ ∷ ½ ∷ []) ≡ onePhase 1
   -- (f) K 1 1: liquid
@@ -49,3 +56,9 @@ pub record Samples : Type 0 where
   pub l : sheetOf book2 (question 7 350K 100kPa (½ ∷ ½ ∷ []) 0 []) answerRoom ≡ no 20
   -- (m) task 2, 273.15 K, all before it right, the book's ranges too: 22
   pub m : sheetOf wide (question 2 0x4071126666666666 0 (½ ∷ ½ ∷ []) 200 []) answerRoom ≡ no 22
+  -- (n) as (d) by mass, both molar masses 0.5 kg/mol: the same answer
+  pub n : splitIn (book2-weighed ½ ½) 8 (½ ∷ ½ ∷ []) (byMass (two ∷ ½ ∷ [])) ≡ halves
+  -- (o) the same question to a book of version 1: 36
+  pub o : split 8 (½ ∷ ½ ∷ []) (byMass (two ∷ ½ ∷ [])) ≡ no 36
+  -- (p) as (d), a question in moles, one molar mass 0: 35
+  pub p : splitIn (book2-weighed ½ 0) 8 (½ ∷ ½ ∷ []) (two ∷ ½ ∷ []) ≡ no 35

@@ -100,10 +100,22 @@ book2 = head 2 ++ solvent 0 101 4MPa ++ solvent 1 102 1MPa ++ pair 0 1 0 0
 abbrev pub wide : List ℕ
 wide = head 2 ++ ranged 200K 500K 0 101 4MPa ++ ranged 200K 500K 1 102 1MPa ++ pair 0 1 0 0
 
+-- solvent i as of version 2, with its molar mass (kg/mol)
+abbrev pub weighed : ℕ → ℕ → ℕ → ℕ → List ℕ
+weighed i cas p mass = blockOf ((2 ∷ i ∷ cas ∷ []) ++ correlation 273K 450K p ++ correlation 273K 450K 0x40c1940000000000 ++ mass ∷ [])
+
+-- book2 as of version 2, with its molar masses
+abbrev pub book2-weighed : ℕ → ℕ → List ℕ
+book2-weighed m₀ m₁ = blockOf (1 ∷ 2 ∷ 2 ∷ []) ++ weighed 0 101 4MPa m₀ ++ weighed 1 102 1MPa m₁ ++ pair 0 1 0 0
+
 -- ---- a question: task, T, p, fractions, M, K; 200 outer iterations, tolerances 1e-10, threshold -1e-8, the whole bracket
 abbrev pub question : ℕ → ℕ → ℕ → List ℕ → ℕ → List ℕ → List ℕ
 question task t p x m k =
     blockOf ((8 ∷ task ∷ t ∷ p ∷ []) ++ eight x ++ (m ∷ ε ∷ 200 ∷ ε ∷ 0xbe45798ee2308c3a ∷ 273K ∷ 450K ∷ []) ++ k)
+
+-- by mass: word 27 is 1
+abbrev pub byMass : List ℕ → List ℕ
+byMass k = eight k ++ 1 ∷ []
 
 -- ---- an answer
 

@@ -22,7 +22,8 @@ use Rattle.blocks.specs.declared.Rule.{Rule}
 use Rattle.book.specs.declared.Head.{Head}
 use Rattle.book.specs.declared.Opened.{Opened}
 use Rattle.book.specs.declared.Opened.the-variants.{Book, No}
-use Rattle.book.specs.Book.{bookOf, ruleOf, openedOf}
+use Rattle.book.specs.Places.{words}
+use Rattle.book.specs.Book.{molarMass, bookOf, ruleOf, openedOf}
 use Rattle.book.proofs.Laws.{opened-ok, opened-no}
 use Rattle.book.proofs.Accepted.{accepted}
 use Rattle.blocks.specs.Bytes.{wordAt, blockBytes}
@@ -43,7 +44,7 @@ use Rattle.question.specs.Asked.{questionOf, askedOf}
 use Rattle.replies.specs.Blocks.{Answer, answerWords, answerRoom}
 use Rattle.replies.specs.Answers.{riceBlock}
 use Rattle.sheet.specs.Tasks.{task1, task2, task3, task4, task5, task6, task7, task8, task9, taskAt, taskUnder, taskSplit, taskOf}
-use Rattle.sheet.specs.Sheet.{Answers, Says, replied, onPassed, answerTo, roomy, sheetFrom, sheetOf}
+use Rattle.sheet.specs.Sheet.{Answers, Says, replied, onPassed, answerTo, roomy, questionTo, sheetFrom, sheetOf}
 use Rattle.sheet.proofs.Laws.{says-no, says-yes, refuses, goes-on, same-as, by-yes, by-no, is-task, not-task}
 use Rattle.sheet.proofs.Replies.{temperature-ok, pressure-ok, constrained-says, split-says}
 
@@ -161,12 +162,12 @@ unfolding askedOf
 asked-ok (ok a) e q = ap (λ (y : Asked). ok (y .question)) (sym e)
 asked-ok (no m) e q = let z : _≡_ {A = ℕ} 0 1 = cc in absurd (omega arith)
 
-module _ (book question : List ℕ) (n : ℕ) {rule : Rule} (u : rule ≡ ruleOf book) {x : Asked} (e : x ≡ askedOf (questionOf rule question n)) {r : ℕ} {old : List ℕ} where
-  pub question-no : x .verdict ≡ Refused r → Answers (bind (questionOf (ruleOf book) question n) (answerTo book n)) r old old
+module _ (book question : List ℕ) (version n : ℕ) {rule : Rule} (u : rule ≡ ruleOf book) {x : Asked} (e : x ≡ askedOf (questionOf rule question version (molarMass (words book)) n)) {r : ℕ} {old : List ℕ} where
+  pub question-no : x .verdict ≡ Refused r → Answers (bind (questionTo book version n question) (answerTo book n)) r old old
   question-no q = refuses _ (asked-no _ (rw u at e) q)
 
   pub question-ok : {new : List ℕ} → x .verdict ≡ Passed → answerRoom ≤ length old → Answers (roomy (length old) (answerTo book n (x .question))) r old new
-      → Answers (bind (questionOf (ruleOf book) question n) (answerTo book n)) r old new
+      → Answers (bind (questionTo book version n question) (answerTo book n)) r old new
   question-ok q l h = goes-on _ (asked-ok _ (rw u at e) q) (unroomed _ l h)
 
 -- ---- the book
@@ -175,7 +176,7 @@ module _ (book question : List ℕ) (room : ℕ) {x : Opened} (e : x ≡ openedO
   unfolding sheetOf
   book-no q = refuses _ (opened-no (bookOf book) (sym q ∙ e))
 
-  pub book-ok : {h : Head} {r : ℕ} {old new : List ℕ} → x ≡ Book h → Answers (sheetFrom book (places (h .n)) question room) r old new → Answers (sheetOf book question room) r old new
+  pub book-ok : {h : Head} {r : ℕ} {old new : List ℕ} → x ≡ Book h → Answers (sheetFrom book (h .version) (places (h .n)) question room) r old new → Answers (sheetOf book question room) r old new
   unfolding sheetOf
   book-ok {h} q a =
       let o : bookOf book ≡ ok h = opened-ok (bookOf book) (sym q ∙ e) in

@@ -13,13 +13,12 @@ use Rattle.thermo_models.specs.Mixture.{Mixture, activity, mixtureOf}
 use Rattle.saturation.specs.Saturation.{Saturation}
 use Rattle.liquid_stability.proofs.Counts.{stability-few}
 use Rattle.tp_flash.proofs.Counts.{flash-few}
-use Rattle.question.specs.Asked.{questionOf}
 use Rattle.question.specs.declared.Question.{Question}
 use Rattle.replies.specs.declared.AnswerBlock.{AnswerBlock}
 use Rattle.replies.specs.Blocks.{Answer, answerBytes, answerLength}
 use Rattle.replies.proofs.Laws.{answer-length}
 use Rattle.sheet.specs.Tasks.{alone, excessFound, saturated, task1, task2, task3, task4, task5, task6, task7, task8, task9, taskAt, taskUnder, taskSplit, taskOf}
-use Rattle.sheet.specs.Sheet.{answerTo, roomy, sheetFrom, sheetOf}
+use Rattle.sheet.specs.Sheet.{answerTo, roomy, questionTo, sheetFrom, sheetOf}
 use Rattle.sheet.proofs.Replies.{rice-alone}
 
 record Eight (a : Answer) : Type 0 where
@@ -68,7 +67,7 @@ own-length book question room {bs} e rest =
     let b = bind-inv (bookOf book) _ e in
     let n = b .0 .n in
     let y = need-inv _ 10 _ (b .2) in
-    let z = bind-inv (questionOf (ruleOf book) question n) _ (y .1) in
+    let z = bind-inv (questionTo book (b .0 .version) n question) _ (y .1) in
     let q = z .0 in
     let w = bind-inv (taskOf (mixtureOf book n) q) _ (z .2) in
     let c = task-eight (mixtureOf book n) q (accepted book (b .1) .few) .each (w .0) (w .1) .count in

@@ -9,7 +9,8 @@ use Rattle.thermo_types.specs.declared.Verdict.{Verdict}
 use Rattle.thermo_types.specs.declared.Verdict.the-variants.{Passed, Refused}
 use Rattle.blocks.specs.declared.Rule.{Rule}
 use Rattle.book.specs.declared.Head.{Head}
-use Rattle.book.specs.Book.{bookOf, ruleOf}
+use Rattle.book.specs.Places.{words}
+use Rattle.book.specs.Book.{molarMass, bookOf, ruleOf}
 use Rattle.thermo_models.specs.Mixture.{mixtureOf}
 use Rattle.saturation.specs.declared.ActivitySaturation.{ActivitySaturation}
 use Rattle.saturation.specs.Saturation.{Saturation}
@@ -31,13 +32,17 @@ answerTo book n q = replied (ruleOf book) (q .task) (taskOf (mixtureOf book n) q
 unfoldable pub roomy : ℕ → Out (List ℕ) → Out (List ℕ)
 roomy room o = need (leb answerRoom room) 10 o
 
--- the room (10) and the question's (11 to 21), then the task's own
-unfoldable pub sheetFrom : List ℕ → ℕ → List ℕ → ℕ → Out (List ℕ)
-sheetFrom book n question room = roomy room (bind (questionOf (ruleOf book) question n) (answerTo book n))
+-- the question's (11 to 21, 36, 34 of a feed), for a book of that version and n solvents
+abbrev pub questionTo : List ℕ → ℕ → ℕ → List ℕ → Out Question
+questionTo book version n question = questionOf (ruleOf book) question version (molarMass (words book)) n
 
--- a book's questions (1 to 9), then the others
+-- the room (10) and the question's, then the task's own
+unfoldable pub sheetFrom : List ℕ → ℕ → ℕ → List ℕ → ℕ → Out (List ℕ)
+sheetFrom book version n question room = roomy room (bind (questionTo book version n question) (answerTo book n))
+
+-- a book's questions (1 to 9, 35), then the others
 unfoldable pub sheetOf : List ℕ → List ℕ → ℕ → Out (List ℕ)
-sheetOf book question room = bind (bookOf book) (λ h. sheetFrom book (h .n) question room)
+sheetOf book question room = bind (bookOf book) (λ h. sheetFrom book (h .version) (h .n) question room)
 
 -- the call's result: 0 for an answer, else the refusal's number
 unfoldable pub numberOf : Out (List ℕ) → ℕ

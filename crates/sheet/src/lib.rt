@@ -11,12 +11,12 @@ ghost use Rattle.excess.specs.State.{Excess};
 ghost use Rattle.excess.specs.Answers.{Gives};
 ghost use Rattle.thermo_models.specs.Mixture.{mixtureWith, mixtureOf};
 ghost use Rattle.book.specs.Book.{ruleOf};
-ghost use Rattle.question.specs.Asked.{questionOf};
 ghost use Rattle.replies.specs.Blocks.{answerRoom, answerWords, trialWords, trialBytes, answerBytes};
 ghost use Rattle.replies.specs.Answers.{riceBlock};
 ghost use Rattle.sheet.specs.Tasks.{excessFound, task1, task6, task7, taskAt, taskUnder, taskSplit, taskOf};
-ghost use Rattle.sheet.specs.Sheet.{replied, answerTo, roomy, sheetFrom, sheetOf, onPassed, Answers, Says};
+ghost use Rattle.sheet.specs.Sheet.{replied, answerTo, roomy, questionTo, sheetFrom, sheetOf, onPassed, Answers, Says};
 use blocks::Rule;
+use book::Head;
 use book::Opened;
 use excess::Energies;
 use liquid_stability::LiquidStabilityTrial;
@@ -374,11 +374,12 @@ pub fn answer_asked(book: &[u8], n: usize, q: Question, out: &mut [u8]) -> u64
 }
 
 // Questions 11 to 21, then the task.
-fn read_and_answer(book: &[u8], n: usize, question: &[u8], out: &mut [u8]) -> u64
+fn read_and_answer(book: &[u8], head: Head, question: &[u8], out: &mut [u8]) -> u64
     requires { ⌜ answerRoom ≤ length (now out) ⌝ }
-    ensures { λ r. ⌜ Answers (bind (questionOf (ruleOf (now (book .entry))) (now (question .entry)) (places n)) (answerTo (now (book .entry)) (places n))) r (now (out .entry)) (now (out .exit)) ⌝ }
+    ensures { λ r. ⌜ Answers (bind (questionTo (now (book .entry)) (head .version) (places (head .n)) (now (question .entry))) (answerTo (now (book .entry)) (places (head .n)))) r (now (out .entry)) (now (out .exit)) ⌝ }
 {
-    let asked = read_question(book::rule_of(book), question, n);
+    let n = head.n;
+    let asked = read_question(book::rule_of(book), question, head.version, book, n);
     let verdict = asked.verdict;
     match verdict {
         Verdict::Refused(number) => number,
@@ -389,14 +390,14 @@ fn read_and_answer(book: &[u8], n: usize, question: &[u8], out: &mut [u8]) -> u6
     }
 }
 
-// The answer to a question, for a book that was opened and has n solvents: 10, then 11 to 21, then the task's own.
-pub fn answer_opened(book: &[u8], n: usize, question: &[u8], out: &mut [u8]) -> u64
-    ensures { λ r. ⌜ Answers (sheetFrom (now (book .entry)) (places n) (now (question .entry)) (length (now (out .entry)))) r (now (out .entry)) (now (out .exit)) ⌝ }
+// The answer to a question, for a book that was opened: 10, then 11 to 21, then the task's own.
+pub fn answer_opened(book: &[u8], head: Head, question: &[u8], out: &mut [u8]) -> u64
+    ensures { λ r. ⌜ Answers (sheetFrom (now (book .entry)) (head .version) (places (head .n)) (now (question .entry)) (length (now (out .entry)))) r (now (out .entry)) (now (out .exit)) ⌝ }
 {
     if out.len() < ANSWER_ROOM {
         return 10;
     }
-    read_and_answer(book, n, question, out)
+    read_and_answer(book, head, question, out)
 }
 
 // 0 and the answer's blocks at the front of the slice; or the number of the question that was answered no, and the slice as it was.
@@ -406,6 +407,6 @@ pub fn answer(book: &[u8], question: &[u8], out: &mut [u8]) -> u64
     let opened = book::open_book(book);
     match opened {
         Opened::No(number) => number,
-        Opened::Book(head) => answer_opened(book, head.n, question, out),
+        Opened::Book(head) => answer_opened(book, head, question, out),
     }
 }

@@ -5,19 +5,21 @@ use Prim.Native.Nat.{ℕ, zero, suc, _+_, _-_, _/_, _%_, _≤_, _<_}
 use native.Mathlib.Nat.{le-refl, le-trans, min-le-right}
 use native.Mathlib.Omega.{arith}
 use borrow.Author.Tests.{lt-ltb, le-leb, eq-eqb, leb-true}
-use mathlib.Core.Bool.{Bool, true, false, not, _&&_, false≢true}
+use mathlib.Core.Bool.{Bool, true, false, not, _&&_, _||_, false≢true}
 use mathlib.Core.List.{List}
 use lib.ListN.{length}
 use lib.Dec.{T, eqb, ltb, leb, ltb→lt, nltb→le}
 use lib.Ieee.Bits.{is-true}
 use Rattle.blocks.specs.Words.{checkRight}
+use lib.Ieee.{Float}
+use Rattle.floats.specs.Small.{positive, floatOf}
 use Rattle.floats.specs.Fold.{allTo}
 use Rattle.floats.specs.Outcome.{ok}
 use Rattle.floats.proofs.Folds.{all-at}
 use Rattle.floats.proofs.Outcomes.{need-yes}
 use Rattle.book.specs.Places.{words, pairCount, blockCount, rowFrom, pairPlace}
 use Rattle.book.specs.declared.Head.{Head}
-use Rattle.book.specs.Book.{headIn, ruleOf, floatsFinite, headRight, solventRight, rangeRight, termCount, recordRight, recordsRight, casNew, pairRight, rowRight, boundsFinite, pairFinite, alphasEqual, pairsOf, solventsOf, headOf, bookOf}
+use Rattle.book.specs.Book.{headIn, ruleOf, floatsFinite, headRight, solventRight, rangeRight, termCount, recordRight, recordsRight, hasMasses, molarMass, massesRight, casNew, pairRight, rowRight, boundsFinite, pairFinite, alphasEqual, pairsOf, solventsOf, headOf, bookOf}
 use Rattle.book.proofs.Unread.{floats-same}
 use Rattle.book.proofs.Accepted.{Accepted, accepted, opened-head, solvent-stands, records-stand, pair-stands, floats-stand, alphas-stand}
 use Rattle.striking.specs.Places.{cnt}
@@ -49,12 +51,20 @@ last-of true true c d h = refl
 last-of true false c d h = absurd (false≢true h)
 last-of false b c d h = absurd (false≢true h)
 
+-- a test put only from version 2 on
+weighed-to : {b b' : Bool} (t t' : Bool) → b ≡ b' → (b ≡ true → t ≡ true → t' ≡ true) → (not b || t) ≡ true → (not b' || t') ≡ true
+weighed-to {b} t t' e f h = subst (λ (c : Bool). (not c || t') ≡ true) e (go b f h)
+  where
+    go : (b : Bool) → (b ≡ true → t ≡ true → t' ≡ true) → (not b || t) ≡ true → (not b || t') ≡ true
+    go true f h = f refl h
+    go false f h = refl
+
 head-right : (w v : ℕ → ℕ) → ((k : ℕ) → k < 63 → k ≢ 2 → w k ≡ v k) → 0 < v 2 → v 2 ≤ 8 → headRight w ≡ true → headRight v ≡ true
 unfolding headRight
 head-right w v e l m h =
     let a : w 0 ≡ v 0 = e 0 (omega arith) (λ (z : 0 ≡ 2). omega arith) in
     let b : w 1 ≡ v 1 = e 1 (omega arith) (λ (z : 1 ≡ 2). omega arith) in
-    rw (← a, ← b, lt-ltb 0 (v 2) l, le-leb (v 2) 8 m) (last-of (eqb (w 0) 1) (eqb (w 1) 1) (ltb 0 (w 2)) (leb (w 2) 8) h)
+    rw (← a, ← b, lt-ltb 0 (v 2) l, le-leb (v 2) 8 m) (last-of (eqb (w 0) 1 && ltb 0 (w 1)) (leb (w 1) 2) (ltb 0 (w 2)) (leb (w 2) 8) h)
 
 solvent-right : (w v : ℕ → ℕ) (i j : ℕ) → ((k : ℕ) → k < 63 → k ≢ 1 → w k ≡ v k) → v 1 ≡ j → solventRight w i ≡ true → solventRight v j ≡ true
 unfolding solventRight
@@ -153,6 +163,9 @@ module _ (keep : ℕ → Bool) (n : ℕ) where
     pub shorter-pairs : KeptPairs keep n s s'
     shorter-pairs = record { pair = λ i j l m p q k a b. h .pair i j l m p q k (omega arith) (λ (z : k ≡ 1). omega arith) (λ (z : k ≡ 2). omega arith) }
 
+    mass-kept : (i : ℕ) → i < n → T (keep i) → molarMass (words s) i ≡ molarMass (words s') (cnt keep i)
+    mass-kept i l q = ap floatOf (h .solvent i l q 45 (omega arith) (λ (z : 45 ≡ 1). omega arith))
+
     module _ (a : Accepted s n) (some : 0 < cnt keep n) where
       few : cnt keep n ≤ 8
       few = le-trans (cnt-le keep n) (a .few)
@@ -195,11 +208,19 @@ module _ (keep : ℕ → Bool) (n : ℕ) where
           ∙ need-yes 8 _ (each-pair (λ b. pairFinite (words s' b)) (cnt keep n) few (at-pairs (λ i j. pairFinite (words s' (pairPlace (cnt keep n) i j)) ≡ true) (λ i j l u p q. sym (finite-same _ _ (shorter-pairs .pair i j l u p q)) ∙ floats-stand s n a i j l u)))
           ∙ need-yes 9 _ (each-pair (λ b. alphasEqual (words s' b)) (cnt keep n) few (at-pairs (λ i j. alphasEqual (words s' (pairPlace (cnt keep n) i j)) ≡ true) (λ i j l u p q. sym (alphas-same _ _ (shorter-pairs .pair i j l u p q)) ∙ alphas-stand s n a i j l u)))
 
-      solvents-open : (version : ℕ) → solventsOf (words s') (headed version) ≡ ok (headed version)
+      masses-open : massesRight (words s') (headed (words s' 0 1)) ≡ true
+      unfolding massesRight headIn
+      masses-open =
+          weighed-to (allTo (λ i. positive (molarMass (words s) i)) (words s 0 2)) _ (ap hasMasses (h .head 1 (omega arith) (λ (z : 1 ≡ 2). omega arith)))
+          (λ v t. at-places (λ i. positive (molarMass (words s') i)) (λ i l q. subst (λ (x : Float). positive x ≡ true) (mass-kept i l q) (all-at (λ i. positive (molarMass (words s) i)) (words s 0 2) i (subst (λ (x : ℕ). i < x) (sym (a .count)) l) t)))
+          (a .masses)
+
+      solvents-open : (version : ℕ) → version ≡ words s' 0 1 → solventsOf (words s') (headed version) ≡ ok (headed version)
       unfolding solventsOf
-      solvents-open version =
+      solvents-open version same =
           need-yes 4 _ (at-places (λ i. solventRight (words s' (i + 1)) i) (λ i l q. solvent-right _ _ i (cnt keep i) (h .solvent i l q) (h .index i l q) (solvent-stands s n a i l)))
           ∙ need-yes 5 _ (at-places (λ i. recordsRight (words s' (i + 1))) (λ i l q. sym (records-same _ _ (shorter-solvents .solvent i l q)) ∙ records-stand s n a i l))
+          ∙ need-yes 35 _ (subst (λ (v : ℕ). massesRight (words s') (headed v) ≡ true) (sym same) masses-open)
           ∙ need-yes 6 _ (at-places (casNew (words s')) cas-places)
           ∙ pairs-open version
 
@@ -214,7 +235,7 @@ module _ (keep : ℕ → Bool) (n : ℕ) where
           ∙ need-yes 2 _ (subst (λ (c : ℕ). allTo (λ k. checkRight (ruleOf s') (words s' k)) c ≡ true) (sym blocks) (is-true _ (h .checks)))
           ∙ need-yes 3 _ (head-right (words s 0) (words s' 0) (h .head) (subst (λ (x : ℕ). 0 < x) (sym (h .count)) some) (subst (λ (x : ℕ). x ≤ 8) (sym (h .count)) few) (a .head))
           ∙ need-yes 3 _ (eq-eqb (length s' / 512) (blockCount (words s' 0 2)) (blocks ∙ ap (λ (x : ℕ). blockCount x) (sym (h .count))))
-          ∙ subst (λ (x : ℕ). solventsOf (words s') (record { n = x; version = words s' 0 1 }) ≡ ok (headed (words s' 0 1))) (sym (h .count)) (solvents-open (words s' 0 1))
+          ∙ subst (λ (x : ℕ). solventsOf (words s') (record { n = x; version = words s' 0 1 }) ≡ ok (headed (words s' 0 1))) (sym (h .count)) (solvents-open (words s' 0 1) refl)
 
 -- questions 1 to 9; that some solvent is kept follows from a feed that sums to 1
 pub strike-book : (keep : ℕ → Bool) (g : Head) (s s' : List ℕ) → ShorterBook keep (g .n) s s' → 0 < cnt keep (g .n) → bookOf s ≡ ok g → bookOf s' ≡ ok (shorterHead keep g)
@@ -222,6 +243,23 @@ unfolding headIn shorterHead
 strike-book keep g s s' h some e =
     let version : words s' 0 1 ≡ g .version = sym (h .head 1 (omega arith) (λ (z : 1 ≡ 2). omega arith)) ∙ ap (λ (x : Head). x .version) (opened-head s e) in
     opens keep (g .n) s s' h (accepted s e) some ∙ ap (λ (v : ℕ). ok (record { n = cnt keep (g .n); version = v })) version
+
+-- the molar masses of the solvents kept, where the version has them; every one is positive
+pub record KeptMasses (keep : ℕ → Bool) (version n : ℕ) (m m' : ℕ → Float) : Type 0 where
+  pub kept : hasMasses version ≡ true → (i : ℕ) → i < n → T (keep i) → m i ≡ m' (cnt keep i)
+  pub above : hasMasses version ≡ true → (i : ℕ) → i < n → T (positive (m i))
+
+pub strike-masses : (keep : ℕ → Bool) (g : Head) (s s' : List ℕ) → ShorterBook keep (g .n) s s' → bookOf s ≡ ok g
+    → KeptMasses keep (g .version) (g .n) (molarMass (words s)) (molarMass (words s'))
+unfolding massesRight
+strike-masses keep g s s' h e = record {
+  kept = λ v i l q. mass-kept keep (g .n) s s' h i l q;
+  above = λ v i l. so (all-at (λ i. positive (molarMass (words s) i)) (g .n) i l (there (hasMasses (g .version)) v (subst (λ (x : Head). massesRight (words s) x ≡ true) (opened-head s e) (accepted s e .masses))));
+}
+  where
+    there : (b : Bool) {t : Bool} → b ≡ true → (not b || t) ≡ true → t ≡ true
+    there true v h = h
+    there false v h = absurd (false≢true v)
 
 -- both books are summed by one rule
 pub rule-same : (keep : ℕ → Bool) (n : ℕ) (s s' : List ℕ) → ShorterBook keep n s s' → ruleOf s ≡ ruleOf s'

@@ -8,7 +8,7 @@ use mathlib.Core.List.{List, [], _∷_}
 use lib.Dec.{T, eqb}
 use lib.Ieee.{Float, nan, inf, fin, binary64, fits, ofBits, add, sub, mul, div, neg, lt, le, eq, isNan, ofInt, toSigned, size}
 use Rattle.floats.specs.Arithmetic.{#, _⊕_, _⊖_, 0f, ½, 1f, 2f}
-use Rattle.floats.specs.Small.{isFinite, maxOf, absOf}
+use Rattle.floats.specs.Small.{isFinite, positive, maxOf, absOf}
 use Rattle.floats.specs.Fold.{foldTo, allTo}
 use Rattle.floats.specs.Vector.{at, fill, zeros8}
 use Rattle.floats.specs.Outcome.{Out, ok, bind, need, choose}
@@ -185,7 +185,7 @@ same-pressures = two (λ i. at pressures i ≡ at pressures' (cnt keep i)) refl 
 
 -- two turns with the longer book, one with the shorter
 pub split-leaks : SplitLaw leakySplit → ⊥
-unfolding cnt leakySplit leakyChange ideal dilute kValues phaseOf splitGap turnAt splitTurn expOf lnOf ofBits add sub mul div neg lt le eq isNan ofInt toSigned size isFinite
+unfolding cnt leakySplit leakyChange ideal dilute kValues phaseOf splitGap turnAt splitTurn expOf lnOf ofBits add sub mul div neg lt le eq isNan ofInt toSigned size isFinite positive
     foldTo allTo fill bind need choose sumsToOne sharesOf normalizeOf residualOf slopeOf kMax kMin validate turnOf liquidPart vaporPart solutionAt iterate between negative
 split-leaks law =
     subst (λ (c : ℕ). T (eqb c 2))
@@ -306,7 +306,7 @@ searched = record { «max_iterations» = 1; tolerance = # 0x3fc0000000000000; «
 pub dew-leaks : DewLaw leakyTemperature → ⊥
 unfolding cnt searched leakySlope leakyPoint leakyTemperature ideal flat steep liquids liquids' positiveOf pressureInDomain gapOf residualWith dewTerm dewPressure dewLiquid saturation.changeOf dewTurn
     dewPoint dewLoop dewAt stepOf collapsed searchFrom solveTemperature dewSaturation saturationTemperature dewFound sharesOf normalizeOf expOf lnOf ofBits add sub mul div neg lt le eq isNan ofInt
-    toSigned size isFinite foldTo fill bind need choose
+    toSigned size isFinite positive foldTo fill bind need choose
 dew-leaks law =
     subst (λ (c : ℕ). T (eqb c 4))
     (law keep 4 (omega arith) steep flat same-steep liquids liquids' same-liquids searched (# 0x4060000000000000) feed feed' fractions .says .iterations) tt

@@ -1,4 +1,4 @@
--- The shorter question is accepted where the longer one is (questions 11 to 21), and asks the same of the solvents kept. Assumes nothing.
+-- The shorter question is accepted where the longer one is (questions 11 to 21 and 36), and asks the same of the solvents kept. Assumes nothing.
 use mathlib.Core.Path.{_≡_, sym, ap, _∙_, subst}
 use Prim.Native.Nat.{ℕ, _+_, _≤_, _<_}
 use native.Mathlib.Nat.{le-trans}
@@ -9,29 +9,34 @@ use mathlib.Core.List.{List}
 use lib.ListN.{length}
 use lib.Dec.{T, eqb, eqb→eq}
 use lib.Ieee.{Float, binary64, fits, ofBits, lt}
-use lib.Ieee.Bits.{ofBits-fits}
-use lib.Ieee.Fits.{and-i, and-l, and-r}
-use Rattle.floats.specs.Arithmetic.{_⊖_, 0f, 1f}
-use Rattle.floats.specs.Small.{isFinite, absOf, floatOf, float}
-use Rattle.floats.specs.Fold.{allTo}
+use lib.Ieee.Bits.{ofBits-fits, is-true}
+use lib.Ieee.Fits.{and-i, and-l, and-r, div-fits}
+use Rattle.floats.specs.Arithmetic.{_⊖_, _⊘_, 0f, 1f}
+use Rattle.floats.specs.Small.{isFinite, positive, absOf, floatOf, float}
+use Rattle.floats.specs.Fold.{sumTo, allTo}
 use Rattle.floats.specs.Vector.{at, vec}
 use Rattle.floats.proofs.Fills.{vec-at}
 use Rattle.floats.specs.Outcome.{Out}
-use Rattle.thermo_types.specs.Composition.{sumTolerance, allFinite, allPositive, sumsToOne}
+use Rattle.thermo_types.specs.Composition.{sumTolerance, allFinite, allPositive, sumsToOne, sharesOf, normalizeOf}
 use Rattle.blocks.specs.Words.{word, checkRight}
 use Rattle.blocks.specs.declared.Rule.{Rule}
 use Rattle.question.specs.Inputs.{isTask, needsTemperature, needsPressure, needsOptions, needsRatios, ifNeeded}
-use Rattle.question.specs.Asked.{taskIn, feedOf, fraction, ratio, ratiosOf, positive, temperatureRight, pressureRight, inputsFinite, ratiosPositive, inputsRight, optionsRight, limited, limitsSome, limitsFew, limitsRight, optionsIn, questionFrom, restOf, questionOf}
+use Rattle.book.specs.Book.{hasMasses}
+use Rattle.question.specs.Asked.{taskIn, byMass, kindRight, molesOf, feedOf, fraction, ratio, ratiosOf, temperatureRight, pressureRight, inputsFinite, ratiosPositive, inputsRight, optionsRight, limited, limitsSome, limitsFew, limitsRight, optionsIn, questionFrom, restOf, questionOf}
 use Rattle.question.specs.declared.Question.{Question}
-use Rattle.zeros.proofs.Zero.{Zero}
+use Rattle.zeros.proofs.Congruence.{same}
+use Rattle.zeros.proofs.Zero.{Zero, zero-over}
 use Rattle.striking.specs.Places.{cnt}
 use Rattle.striking.specs.Accepted.{Acc}
 use Rattle.striking.specs.Related.{Fractions}
 use Rattle.striking.specs.Questions.{keptIn, ShorterQuestion}
-use Rattle.striking.proofs.Acc.{acc-ok, acc-need, acc-bind, strike-all}
-use Rattle.striking.proofs.Excess.{same-sum, cnt-le}
+use Rattle.striking.proofs.Books.{KeptMasses}
+use Rattle.striking.proofs.Acc.{acc-ok, acc-need, acc-bind, acc-if, strike-all}
+use Rattle.striking.proofs.Active.{cong2}
+use Rattle.striking.proofs.Search.{positive-solid}
+use Rattle.striking.proofs.Excess.{is-finite, same-sum, cnt-le}
 use Rattle.striking.proofs.Strike.{cnt-lt}
-use Rattle.striking.proofs.Vectors.{vec-fits}
+use Rattle.striking.proofs.Vectors.{vec-fits, parts-sum}
 use Rattle.striking.proofs.Tasks.{SameFeed, feed-fractions}
 use Rattle.striking.proofs.Some.{some-kept}
 
@@ -62,6 +67,45 @@ needed-to {b} {b'} t t' e f h = subst (λ (c : Bool). T (ifNeeded c t')) e (go b
     go : (b : Bool) → T (ifNeeded b t) → T (ifNeeded b t')
     go true h = f h
     go false h = tt
+
+-- a mass feed that passed 36 has them
+masses-there : (k : ℕ) (b : Bool) → T (eqb k 0 || (eqb k 1 && b)) → T (eqb k 1) → b ≡ true
+masses-there k b h t = go (eqb→eq k 1 t) h
+  where
+    go : k ≡ 1 → T (eqb k 0 || (eqb k 1 && b)) → b ≡ true
+    go e h = is-true b (subst (λ (j : ℕ). T (eqb j 0 || (eqb j 1 && b))) e h)
+
+-- a zero over what is finite and positive
+over-positive : (x m : Float) → Zero x → T (positive m) → Zero (x ⊘ m)
+unfolding positive
+over-positive x m z p = zero-over binary64 x m z (is-finite m (and-l (isFinite m) _ p)) (positive-solid m (is-true _ (and-r (isFinite m) _ p)))
+
+-- ---- parts that are kept as they stand, over their sum
+module _ (keep : ℕ → Bool) (n : ℕ) (small : n ≤ 8) (f f' : ℕ → Float) (fit : (i : ℕ) → T (fits binary64 (f i))) (fit' : (i : ℕ) → T (fits binary64 (f' i)))
+    (kept : (i : ℕ) → i < n → T (keep i) → f i ≡ f' (cnt keep i)) (struck : (i : ℕ) → i < n → T (not (keep i)) → Zero (f i)) where
+  fewer : cnt keep n ≤ 8
+  fewer = le-trans (cnt-le keep n) small
+
+  one-sum : sumTo f n ≡ sumTo f' (cnt keep n)
+  one-sum = parts-sum keep n small f f' fit fit' (λ i l t. same (kept i l t)) struck
+
+  shares-feed : T (positive (sumTo f n)) → SameFeed keep n (sharesOf f n) (sharesOf f' (cnt keep n))
+  unfolding sharesOf positive
+  shares-feed p = record {
+    fractions = λ i l t.
+        vec-at (λ i. f i ⊘ sumTo f n) n i small l ∙ cong2 (λ (u v : Float). u ⊘ v) (kept i l t) one-sum
+        ∙ sym (vec-at (λ i. f' i ⊘ sumTo f' (cnt keep n)) (cnt keep n) (cnt keep i) fewer (cnt-lt keep i n t l));
+    absent = λ i l t. subst Zero (sym (vec-at (λ i. f i ⊘ sumTo f n) n i small l)) (zero-share i l t);
+    fit = vec-fits (λ i. f i ⊘ sumTo f n) (λ i. div-fits binary64 (f i) (sumTo f n)) n;
+    fit' = vec-fits (λ i. f' i ⊘ sumTo f' (cnt keep n)) (λ i. div-fits binary64 (f' i) (sumTo f' (cnt keep n))) (cnt keep n);
+  }
+    where
+      zero-share : (i : ℕ) → i < n → T (not (keep i)) → Zero (f i ⊘ sumTo f n)
+      zero-share i l t = over-positive (f i) (sumTo f n) (struck i l t) p
+
+  strike-shares : Acc (SameFeed keep n) (normalizeOf f n) (normalizeOf f' (cnt keep n))
+  unfolding normalizeOf
+  strike-shares = acc-need _ _ 34 _ _ (λ p. subst (λ (s : Float). T (positive s)) one-sum p) (λ p. acc-ok (shares-feed p))
 
 module _ (keep : ℕ → Bool) (n : ℕ) (small : n ≤ 8) (rule : Rule) (q q' : List ℕ) (h : ShorterQuestion rule keep n q q') where
   abbrev w : ℕ → ℕ
@@ -176,14 +220,37 @@ module _ (keep : ℕ → Bool) (n : ℕ) (small : n ≤ 8) (rule : Rule) (q q' :
       acc-need (eqb (w 0) 8) (eqb (v 0) 8) 11 _ _ (subst (λ (x : ℕ). T (eqb x 8)) (at-head 0 (omega arith))) (λ kind.
       acc-need (isTask (w 1)) (isTask (v 1)) 12 _ _ (subst T (by-task isTask)) (λ one. acc-ok task))))
 
-  -- questions 13 to 21 to two feeds that are the same; a feed that passes has a solvent that is kept
-  pub strike-rest : (x x' : List Float) → SameFeed keep n x x'
-      → Acc (λ (a b : Question). SameQuestion keep n a b × (0 < cnt keep n)) (restOf q n x) (restOf q' (cnt keep n) x')
-  unfolding restOf questionFrom
-  strike-rest x x' s = strike-inputs x x' s _ _ (λ some. strike-limits _ _ (acc-ok (from-words x x' s, some)))
+  -- ---- the feed's kind, and mole fractions of it
+  kind : w 27 ≡ v 27
+  kind = h .unnamed 27 (omega arith) (omega arith)
 
-  -- questions 11 to 21
-  pub strike-question : ((i : ℕ) → i < n → T (not (keep i)) → Zero (fraction (word q) i))
-      → Acc (λ (a b : Question). SameQuestion keep n a b × (0 < cnt keep n)) (questionOf rule q n) (questionOf rule q' (cnt keep n))
-  unfolding questionOf
-  strike-question absent = acc-bind (λ (a b : ℕ). a ≡ b) _ _ _ _ strike-taskIn (λ a b e. strike-rest (feedOf q n) (feedOf q' (cnt keep n)) (feed-same absent))
+  module _ (version : ℕ) (m m' : ℕ → Float) (g : KeptMasses keep version n m m') where
+    strike-kind : T (kindRight version w) → T (kindRight version v)
+    unfolding kindRight
+    strike-kind = subst (λ (k : ℕ). T (eqb k 0 || (eqb k 1 && hasMasses version))) kind
+
+    strike-moles : T (kindRight version w) → (x x' : List Float) → SameFeed keep n x x' → Acc (SameFeed keep n) (molesOf w m n x) (molesOf v m' (cnt keep n) x')
+    unfolding molesOf kindRight
+    strike-moles k x x' s =
+        acc-if (byMass w) (byMass v) _ _ _ _ (ap (λ (z : ℕ). eqb z 1) kind)
+        (λ t. let has = masses-there (w 27) (hasMasses version) k t in
+        strike-shares keep n small (λ i. at x i ⊘ m i) (λ i. at x' i ⊘ m' i) (λ i. div-fits binary64 (at x i) (m i)) (λ i. div-fits binary64 (at x' i) (m' i))
+        (λ i l u. cong2 (λ (a b : Float). a ⊘ b) (s .fractions i l u) (g .kept has i l u))
+        (λ i l u. over-positive (at x i) (m i) (s .absent i l u) (g .above has i l)))
+        (λ t. acc-ok s)
+
+    -- questions 13 to 21 to two feeds that are the same; a feed that passes has a solvent that is kept
+    pub strike-rest : T (kindRight version w) → (x x' : List Float) → SameFeed keep n x x'
+        → Acc (λ (a b : Question). SameQuestion keep n a b × (0 < cnt keep n)) (restOf q m n x) (restOf q' m' (cnt keep n) x')
+    unfolding restOf questionFrom
+    strike-rest k x x' s =
+        strike-inputs x x' s _ _ (λ some.
+        acc-bind (SameFeed keep n) _ _ _ _ (strike-moles k x x' s) (λ z z' t. strike-limits _ _ (acc-ok (from-words z z' t, some))))
+
+    -- questions 11 to 21 and 36
+    pub strike-question : ((i : ℕ) → i < n → T (not (keep i)) → Zero (fraction (word q) i))
+        → Acc (λ (a b : Question). SameQuestion keep n a b × (0 < cnt keep n)) (questionOf rule q version m n) (questionOf rule q' version m' (cnt keep n))
+    unfolding questionOf
+    strike-question absent =
+        acc-bind (λ (a b : ℕ). a ≡ b) _ _ _ _ strike-taskIn (λ a b e.
+        acc-need (kindRight version w) (kindRight version v) 36 _ _ strike-kind (λ k. strike-rest k (feedOf q n) (feedOf q' (cnt keep n)) (feed-same absent)))

@@ -12,7 +12,8 @@ use lib.Dec.{leb}
 use Rattle.floats.specs.Outcome.{Out, ok, no, bind, need}
 use Rattle.floats.proofs.Outcomes.{need-yes, bind-yes}
 use Rattle.blocks.specs.declared.Rule.{Rule}
-use Rattle.book.specs.Book.{bookOf, ruleOf}
+use Rattle.book.specs.Places.{words}
+use Rattle.book.specs.Book.{molarMass, bookOf, ruleOf}
 use Rattle.book.specs.declared.Head.{Head}
 use Rattle.book.proofs.Accepted as open-book
 use Rattle.question.specs.Asked.{questionOf}
@@ -20,7 +21,7 @@ use Rattle.question.specs.declared.Question.{Question}
 use Rattle.thermo_models.specs.Mixture.{mixtureOf}
 use Rattle.replies.specs.Blocks.{answerBytes, answerRoom}
 use Rattle.sheet.specs.Tasks.{taskOf}
-use Rattle.sheet.specs.Sheet.{answerTo, roomy, sheetFrom, sheetOf, numberOf, written}
+use Rattle.sheet.specs.Sheet.{answerTo, roomy, questionTo, sheetFrom, sheetOf, numberOf, written}
 use Rattle.refusals.proofs.Theorem.{zero-is-answer}
 use Rattle.striking.specs.Places.{cnt}
 use Rattle.striking.specs.Accepted.{Acc}
@@ -30,7 +31,7 @@ use Rattle.striking.specs.Questions.{keptIn, ShorterQuestion, solvents, 
 use Rattle.striking.specs.Sheets.{SameEntries, SameHead, SameTrialBlock, SameSheet}
 use Rattle.striking.specs.Theorem.{Accepted, Demand3, Calls, Meet, EqualAnswer, EqualTrial, EqualSheet, SameDrum, Worded}
 use Rattle.striking.proofs.Acc.{acc-ok, acc-no, acc-bind, acc-passed, accepted}
-use Rattle.striking.proofs.Books.{shorter-solvents, shorter-pairs, strike-book, rule-same}
+use Rattle.striking.proofs.Books.{shorter-solvents, shorter-pairs, strike-book, KeptMasses, strike-masses, rule-same}
 use Rattle.striking.proofs.Questions.{absent-zero, withFeed, SameQuestion, strike-question}
 use Rattle.striking.proofs.Tasks.{strike-mixture}
 use Rattle.striking.proofs.Answers.{SameAnswer, strike-task}
@@ -52,7 +53,7 @@ module _ (book question book' question' : List ℕ) (h : Head) (opened : bookOf 
   few = open-book.accepted book opened .few
 
   -- the shorter call, once its question is read
-  opened' : (q' : Question) → 0 < cnt keep n → questionOf (ruleOf book') question' (cnt keep n) ≡ ok q' → sheetOf book' question' room' ≡ answerTo book' (cnt keep n) q'
+  opened' : (q' : Question) → 0 < cnt keep n → questionTo book' (h .version) (cnt keep n) question' ≡ ok q' → sheetOf book' question' room' ≡ answerTo book' (cnt keep n) q'
   unfolding sheetOf sheetFrom roomy shorterHead
   opened' q' some e = bind-yes _ (strike-book keep h book book' hb some opened) ∙ need-yes 10 _ (le-leb answerRoom room' enough) ∙ bind-yes _ e
 
@@ -66,14 +67,17 @@ module _ (book question book' question' : List ℕ) (h : Head) (opened : bookOf 
       same-task : q .task ≡ q' .task
       same-task = sym (ap (λ (x : Question). x .task) (s .rest))
 
-  asked : Acc (Alike keep n) (bind (questionOf (ruleOf book) question n) (answerTo book n)) (sheetOf book' question' room')
+  masses : KeptMasses keep (h .version) n (molarMass (words book)) (molarMass (words book'))
+  masses = strike-masses keep h book book' hb opened
+
+  asked : Acc (Alike keep n) (bind (questionTo book (h .version) n question) (answerTo book n)) (sheetOf book' question' room')
   unfolding bind
   asked =
-      go (questionOf (ruleOf book) question n)
-      (subst (λ (rule : Rule). Acc (λ (a b : Question). SameQuestion keep n a b × (0 < cnt keep n)) (questionOf rule question n) (questionOf (ruleOf book') question' (cnt keep n)))
-      (sym (rule-same keep n book book' hb)) (strike-question keep n few (ruleOf book') question question' hq (λ i l t. absent-zero question i t)))
+      go (questionTo book (h .version) n question)
+      (subst (λ (rule : Rule). Acc (λ (a b : Question). SameQuestion keep n a b × (0 < cnt keep n)) (questionOf rule question (h .version) (molarMass (words book)) n) (questionTo book' (h .version) (cnt keep n) question'))
+      (sym (rule-same keep n book book' hb)) (strike-question keep n few (ruleOf book') question question' hq (h .version) _ _ masses (λ i l t. absent-zero question i t)))
     where
-      go : (o : Out Question) → Acc (λ (a b : Question). SameQuestion keep n a b × (0 < cnt keep n)) o (questionOf (ruleOf book') question' (cnt keep n))
+      go : (o : Out Question) → Acc (λ (a b : Question). SameQuestion keep n a b × (0 < cnt keep n)) o (questionTo book' (h .version) (cnt keep n) question')
           → Acc (Alike keep n) (bind o (answerTo book n)) (sheetOf book' question' room')
       go (no r) h = acc-no _
       go (ok q) h =
@@ -86,11 +90,11 @@ strike-sheet : (book question book' question' : List ℕ) → Shorter book quest
 unfolding sheetOf sheetFrom roomy bind
 strike-sheet book question book' question' h room room' enough = go (bookOf book) refl
   where
-    go : (o : Out Head) → bookOf book ≡ o → Acc (Alike (keptIn question) (solvents book)) (bind o (λ g. sheetFrom book (g .n) question room)) (sheetOf book' question' room')
+    go : (o : Out Head) → bookOf book ≡ o → Acc (Alike (keptIn question) (solvents book)) (bind o (λ g. sheetFrom book (g .version) (g .n) question room)) (sheetOf book' question' room')
     go (no r) e = acc-no _
     go (ok g) e =
         let c : solvents book ≡ g .n = open-book.accepted book e .count in
-        subst (λ (m : ℕ). Acc (Alike (keptIn question) m) (sheetFrom book (g .n) question room) (sheetOf book' question' room')) (sym c)
+        subst (λ (m : ℕ). Acc (Alike (keptIn question) m) (sheetFrom book (g .version) (g .n) question room) (sheetOf book' question' room')) (sym c)
         (acc-passed (leb answerRoom room) 10 _ _
         (asked book question book' question' g e (subst (λ (m : ℕ). ShorterBook (keptIn question) m book book') c (h .of-book))
         (subst (λ (m : ℕ). ShorterQuestion (ruleOf book') (keptIn question) m question question') c (h .of-question)) room' enough))

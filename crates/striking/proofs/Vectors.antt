@@ -2,14 +2,14 @@
 use mathlib.Core.Path.{_≡_, sym, subst}
 use Prim.Native.Nat.{ℕ, zero, suc, _≤_, _<_}
 use native.Mathlib.Nat.{le-trans}
-use mathlib.Core.Bool.{Bool, not, _&&_}
+use mathlib.Core.Bool.{Bool, not}
 use mathlib.Core.List.{List, [], _∷_}
 use lib.ListN.{set, replicate, getD-replicate}
 use lib.Dec.{T}
-use lib.Ieee.{Float, nan, binary64, fits, lt, ofBits}
+use lib.Ieee.{Float, nan, binary64, fits, ofBits}
 use lib.Ieee.Fits.{div-fits}
 use Rattle.floats.specs.Arithmetic.{_⊘_, 0f}
-use Rattle.floats.specs.Small.{isFinite}
+use Rattle.floats.specs.Small.{positive}
 use Rattle.floats.specs.Fold.{sumTo}
 use Rattle.floats.specs.Vector.{at, vec, fill, zeros8}
 use Rattle.thermo_types.specs.Composition.{sharesOf, normalizeOf}
@@ -102,4 +102,4 @@ module _ (keep : ℕ → Bool) (n : ℕ) (small : n ≤ 8) where
     -- `normalize`: one sum in both books, so that 34 is met in both or in neither
     pub strike-normalize : Acc (SameFractions keep n) (normalizeOf f n) (normalizeOf f' (cnt keep n))
     unfolding normalizeOf sharesOf
-    strike-normalize = acc-need _ _ 34 _ _ (λ h. subst (λ (s : Float). T (isFinite s && lt 0f s)) parts-sum h) (λ h. acc-ok parts-fractions)
+    strike-normalize = acc-need _ _ 34 _ _ (λ h. subst (λ (s : Float). T (positive s)) parts-sum h) (λ h. acc-ok parts-fractions)

@@ -5,19 +5,18 @@ use mathlib.Core.List.{List}
 use native.Mathlib.Omega.{arith}
 use lib.Ieee.{Float}
 use Rattle.floats.proofs.Folds.{fold-cong, all-cong}
-use Rattle.book.specs.Places.{words}
-use Rattle.book.specs.Named.{Agree}
+use Rattle.book.proofs.Unread.{AgreeBehind}
 use Rattle.records.proofs.Unread.{vapor-pressure-unread, vapor-pressure-range-unread, density-range-unread, regression-unread, parameters-unread}
 use Rattle.thermo_models.specs.declared.Seen.{Seen}
 use Rattle.thermo_models.specs.Domain.{solventCovers, temperatureInDomain, puresTo, pureLiquidsOf}
 use Rattle.thermo_models.specs.Validity.{unseen, visited, rowSeen, allSeen, validityOf}
 use Rattle.thermo_models.specs.Mixture.{mixtureOf}
 
--- of a book of n solvents, as block 0 says
-module _ (s t : List ℕ) (a : Agree s t) (n : ℕ) (c : words s 0 2 ≡ n) where
+-- of two books of n solvents
+module _ (s t : List ℕ) (n : ℕ) (a : AgreeBehind s t n) where
   covers-same : (T : Float) (i : ℕ) → i < n → solventCovers s T i ≡ solventCovers t T i
   unfolding solventCovers
-  covers-same T i l = rw (vapor-pressure-range-unread s t a n c i l, density-range-unread s t a n c i l)
+  covers-same T i l = rw (vapor-pressure-range-unread s t n a i l, density-range-unread s t n a i l)
 
   domain-unread : (T : Float) → temperatureInDomain s n T ≡ temperatureInDomain t n T
   unfolding temperatureInDomain
@@ -26,7 +25,7 @@ module _ (s t : List ℕ) (a : Agree s t) (n : ℕ) (c : words s 0 2 ≡ n) wher
   pures-same : (T : Float) (k : ℕ) → k ≤ n → puresTo s T k ≡ puresTo t T k
   unfolding puresTo
   pures-same T zero l = refl
-  pures-same T (suc k) l = rw (pures-same T k (omega arith), vapor-pressure-unread s t a n c k (omega arith))
+  pures-same T (suc k) l = rw (pures-same T k (omega arith), vapor-pressure-unread s t n a k (omega arith))
 
   liquids-unread : (T : Float) → pureLiquidsOf s n T ≡ pureLiquidsOf t n T
   unfolding pureLiquidsOf
@@ -35,7 +34,7 @@ module _ (s t : List ℕ) (a : Agree s t) (n : ℕ) (c : words s 0 2 ≡ n) wher
   module _ (T : Float) (x : List Float) where
     visited-same : (i j : ℕ) (w : Seen) → visited s n T x i j w ≡ visited t n T x i j w
     unfolding visited
-    visited-same i j w = rw (regression-unread s t a n c i j)
+    visited-same i j w = rw (regression-unread s t n a i j)
 
     row-same : (i : ℕ) (w : Seen) → rowSeen s n T x i n w ≡ rowSeen t n T x i n w
     unfolding rowSeen
@@ -50,4 +49,4 @@ module _ (s t : List ℕ) (a : Agree s t) (n : ℕ) (c : words s 0 2 ≡ n) wher
     validity-unread = rw all-same
 
   pub mixture-unread : mixtureOf s n ≡ mixtureOf t n
-  mixture-unread = rw (parameters-unread s t a n c, fun-ext liquids-unread, fun-ext domain-unread, fun-ext (λ T. fun-ext (validity-unread T)))
+  mixture-unread = rw (parameters-unread s t n a, fun-ext liquids-unread, fun-ext domain-unread, fun-ext (λ T. fun-ext (validity-unread T)))

@@ -1,12 +1,12 @@
 -- The ways out of `normalize`, and what a caller learns from its verdict. Assumes nothing.
 use Prim.Native.Nat.{ℕ, _<_}
 use mathlib.Core.Path.{_≡_}
-use mathlib.Core.Bool.{Bool, true, false, _&&_}
+use mathlib.Core.Bool.{Bool, true, false}
 use mathlib.Core.List.{List}
 use native.Mathlib.Omega.{arith}
-use lib.Ieee.{Float, lt}
+use lib.Ieee.{Float}
 use Rattle.floats.specs.Arithmetic.{_⊘_, 0f}
-use Rattle.floats.specs.Small.{isFinite}
+use Rattle.floats.specs.Small.{positive}
 use Rattle.floats.specs.Fold.{sumTo}
 use Rattle.floats.specs.Vector.{at, vec, zeros8, places}
 use Rattle.floats.specs.Outcome.{Out, ok, no, need}
@@ -37,13 +37,13 @@ module _ (x : List Float) (n : ℕ) {m : ℕ} {s : Float} (em : m ≡ places n) 
   unfolding sharesOf
   shares-is e = rw (← em, ← es) e
 
-  module _ {b : Bool} (eb : b ≡ isFinite s) {r : Normalized} where
-    pub normalize-yes : {y : List Float} → (b && lt 0f s) ≡ true → y ≡ vec (λ i. at x i ⊘ s) m → r ≡ record { verdict = Passed; fractions = y }
+  module _ {b : Bool} (eb : b ≡ positive s) {r : Normalized} where
+    pub normalize-yes : {y : List Float} → b ≡ true → y ≡ vec (λ i. at x i ⊘ s) m → r ≡ record { verdict = Passed; fractions = y }
         → r ≡ normalizedAnswer (normalizeOf (at x) (places n))
     unfolding normalizeOf normalizedAnswer need
     normalize-yes q e z = rw (← shares-is e, ← em, ← es, ← eb, q) z
 
-    pub normalize-no : (b && lt 0f s) ≡ false → r ≡ record { verdict = Refused 34; fractions = zeros8 } → r ≡ normalizedAnswer (normalizeOf (at x) (places n))
+    pub normalize-no : b ≡ false → r ≡ record { verdict = Refused 34; fractions = zeros8 } → r ≡ normalizedAnswer (normalizeOf (at x) (places n))
     unfolding normalizeOf normalizedAnswer need
     normalize-no q z = rw (← em, ← es, ← eb, q) z
 

@@ -1,10 +1,10 @@
 -- Mole fractions: the tests of `with_fractions` (15, 16, 18) and `normalize` (34). Assumes nothing.
 use Prim.Native.Nat.{ℕ}
-use mathlib.Core.Bool.{Bool, not, _&&_}
+use mathlib.Core.Bool.{Bool, not}
 use mathlib.Core.List.{List}
 use lib.Ieee.{Float, lt}
 use Rattle.floats.specs.Arithmetic.{_⊖_, _⊘_, #, 0f, 1f}
-use Rattle.floats.specs.Small.{isFinite, absOf}
+use Rattle.floats.specs.Small.{isFinite, positive, absOf}
 use Rattle.floats.specs.Fold.{sumTo, allTo}
 use Rattle.floats.specs.Vector.{vec}
 use Rattle.floats.specs.Outcome.{Out, ok, need}
@@ -37,4 +37,4 @@ sharesOf x n = vec (λ i. x i ⊘ sumTo x n) n
 
 -- `normalize`: the shares of a sum that is finite and positive, else 34
 unfoldable pub normalizeOf : (ℕ → Float) → ℕ → Out (List Float)
-normalizeOf x n = need (isFinite (sumTo x n) && lt 0f (sumTo x n)) 34 (ok (sharesOf x n))
+normalizeOf x n = need (positive (sumTo x n)) 34 (ok (sharesOf x n))

@@ -212,7 +212,7 @@ pub fn normalize(x: &[f64; 8], n: usize) -> Normalized
 {
     let m = floats::places(n);
     let s = total(x, m);
-    if floats::is_finite(s) & (0.0 < s) {
+    if floats::positive(s) {
         let y = divided(x, s, m);
         Normalized {
             verdict: Verdict::Passed,

@@ -123,14 +123,20 @@ zero-mul-l f (fin s zero e) (fin t n d) h k = zero-round f (unlike s t) (0 * up 
 pub zero-mul-r : (f : Format) (x y : Float) → Zero y → Num (mul f x y) → Zero (mul f x y)
 zero-mul-r f x y h k = subst Zero (mul-comm≡ f y x) (zero-mul-l f y x h (subst Num (mul-comm≡ f x y) k))
 
+-- over what is finite and no zero
+pub zero-over : (f : Format) (x y : Float) → Zero x → T (finite y) → (Zero y → ⊥) → Zero (div f x y)
+unfolding div
+zero-over f (fin s zero e) (fin t zero d) h k g = absurd (g tt)
+zero-over f (fin s zero e) (fin t (suc n) d) h k g =
+    subst (λ (b : Bool). Zero (cond b nan (round f (unlike s t) (0 * up e * down d) (suc n * up d * down e)))) (sym (eqb·suc-zero n))
+    (zero-round f (unlike s t) (0 * up e * down d) (suc n * up d * down e) (none (up e) (down d)) (mul-pos (mul-pos (zero-lt-suc n) (up-pos d)) (down-pos e)))
+
 pub zero-div : (f : Format) (x y : Float) → Zero x → Num (div f x y) → Zero (div f x y)
 unfolding div
 zero-div f (fin s zero e) nan h k = k
 zero-div f (fin s zero e) (inf t) h k = tt
 zero-div f (fin s zero e) (fin t zero d) h k = k
-zero-div f (fin s zero e) (fin t (suc n) d) h k =
-    subst (λ (b : Bool). Zero (cond b nan (round f (unlike s t) (0 * up e * down d) (suc n * up d * down e)))) (sym (eqb·suc-zero n))
-    (zero-round f (unlike s t) (0 * up e * down d) (suc n * up d * down e) (none (up e) (down d)) (mul-pos (mul-pos (zero-lt-suc n) (up-pos d)) (down-pos e)))
+zero-div f (fin s zero e) (fin t (suc n) d) h k = zero-over f (fin s zero e) (fin t (suc n) d) h tt (λ z. z)
 
 -- ---- two values that fit and are one number with one sign are one value: their bits are the same
 unique : (f : Format) (x : Float) (s : Bool) (m : ℕ) (e : ℤ) → T (fits f x) → T (fits f (fin s m e)) → HasValue x s (m * up e) (down e) → x ≡ fin s m e

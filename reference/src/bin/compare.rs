@@ -28,8 +28,8 @@ fn main() -> ExitCode {
 /// The number of differences; a stage that isn't built in is one under CI=true.
 fn compare(stage: Stage, options: &Options) -> usize {
     if !stage.built_in() {
-        if stage == Stage::Sheet {
-            count_sheets(options.seed, options.count_of(stage)).print();
+        if matches!(stage, Stage::Sheet | Stage::Mass) {
+            count_sheets(stage, options.seed, options.count_of(stage)).print();
         }
         println!("{}: not built in", stage.name());
         return usize::from(not_built_in_fails());

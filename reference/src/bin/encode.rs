@@ -2,18 +2,20 @@
 //!
 //! `book` n; for each solvent its CAS number, then twice t_r, reducing value, low, high, count, coefficients, exponents;
 //! for each pair τ_ij t0 to t3, τ_ji t0 to t3, a0, a1, then interval flag, low, high, inferred flag.
+//! `massbook` is the same in version 2, with a molar mass behind each CAS number.
 //!
 //! `question` task, T, P, eight fractions, M, tolerance, temperature limit, energy tolerance, threshold, low, high, eight K.
+//! `massquestion` is the same by mass.
 
 use std::io::{stdin, BufRead};
 use std::process::ExitCode;
 use std::str::{FromStr, SplitWhitespace};
 
 use reference::sheet::blocks::{bytes_of, seal, Words};
-use reference::sheet::book::{due_pairs, open_book, DENSITY, VAPOR_PRESSURE};
+use reference::sheet::book::{due_pairs, open_book, DENSITY, MOLAR_MASS, VAPOR_PRESSURE};
 use reference::sheet::question::{
-    Question, BRACKET, ENERGY_TOLERANCE, FRACTIONS, K_VALUES, MAX_ITERATIONS, MAX_TEMPERATURE_ITERATIONS, PRESSURE,
-    TASK, TEMPERATURE, TM_THRESHOLD, TOLERANCE,
+    Question, BASIS, BRACKET, BY_MASS, BY_MOLES, ENERGY_TOLERANCE, FRACTIONS, K_VALUES, MAX_ITERATIONS,
+    MAX_TEMPERATURE_ITERATIONS, PRESSURE, TASK, TEMPERATURE, TM_THRESHOLD, TOLERANCE,
 };
 use reference::stage::hex_bytes;
 
@@ -33,8 +35,10 @@ fn main() -> ExitCode {
 fn encoded(line: &str) -> Option<Vec<u8>> {
     let mut numbers = Numbers(line.split_whitespace());
     let blocks = match numbers.0.next()? {
-        "book" => book(&mut numbers)?,
-        "question" => vec![question(&mut numbers)?],
+        "book" => book(&mut numbers, 1)?,
+        "massbook" => book(&mut numbers, 2)?,
+        "question" => vec![question(&mut numbers, BY_MOLES)?],
+        "massquestion" => vec![question(&mut numbers, BY_MASS)?],
         _ => return None,
     };
     let bytes: Vec<u8> = blocks.into_iter().flat_map(sealed).collect();
@@ -62,13 +66,13 @@ impl Numbers<'_> {
     }
 }
 
-fn book(numbers: &mut Numbers) -> Option<Vec<Words>> {
+fn book(numbers: &mut Numbers, version: u64) -> Option<Vec<Words>> {
     let n: usize = numbers.next()?;
     let mut head = [0; 64];
-    head[..3].copy_from_slice(&[1, 1, n as u64]);
+    head[..3].copy_from_slice(&[1, version, n as u64]);
     let mut blocks = vec![head];
     for i in 0..n {
-        blocks.push(solvent(numbers, i as u64)?);
+        blocks.push(solvent(numbers, i as u64, version)?);
     }
     for (i, j) in due_pairs(n) {
         blocks.push(pair(numbers, i as u64, j as u64)?);
@@ -76,9 +80,12 @@ fn book(numbers: &mut Numbers) -> Option<Vec<Words>> {
     Some(blocks)
 }
 
-fn solvent(numbers: &mut Numbers, i: u64) -> Option<Words> {
+fn solvent(numbers: &mut Numbers, i: u64, version: u64) -> Option<Words> {
     let mut words = [0; 64];
     words[..3].copy_from_slice(&[2, i, numbers.next()?]);
+    if version == 2 {
+        numbers.floats(&mut words, MOLAR_MASS, 1)?;
+    }
     for at in [VAPOR_PRESSURE, DENSITY] {
         numbers.floats(&mut words, at, 4)?;
         let count: usize = numbers.next().filter(|count| *count <= 8)?;
@@ -100,9 +107,10 @@ fn pair(numbers: &mut Numbers, i: u64, j: u64) -> Option<Words> {
     Some(words)
 }
 
-fn question(numbers: &mut Numbers) -> Option<Words> {
+fn question(numbers: &mut Numbers, basis: u64) -> Option<Words> {
     let mut words = [0; 64];
     words[0] = 8;
+    words[BASIS] = basis;
     words[TASK] = numbers.next()?;
     numbers.floats(&mut words, TEMPERATURE, 1)?;
     numbers.floats(&mut words, PRESSURE, 1)?;

@@ -12,13 +12,13 @@ use std::ptr;
 
 use reference::command::count_and_seed;
 use reference::counts::Tally;
-use reference::generate::cases::Cases;
+use reference::generate::cases::sheets;
 use reference::generate::Rng;
 use reference::rattle::zektonk_answer;
 use reference::sheet;
 use reference::sheet::blocks::{bytes_of, seal, words_of, BLOCK};
 use reference::sheet::question::{MAX_ITERATIONS, MAX_TEMPERATURE_ITERATIONS};
-use reference::stage::{Case, Stage};
+use reference::stage::Case;
 
 extern "C" {
     fn mmap(at: *mut c_void, length: usize, access: c_int, flags: c_int, file: c_int, offset: i64) -> *mut c_void;
@@ -234,9 +234,9 @@ fn change(rng: &mut Rng, bytes: &mut Vec<u8>, most: usize, sealed: bool) {
         let filler = rng.bits() as u8;
         return bytes.resize(length, filler);
     }
-    // Words that are read stand in the first 45 of a block.
+    // Words that are read stand in the first 46 of a block.
     let block = BLOCK * rng.below(bytes.len().div_ceil(BLOCK));
-    let at = (block + rng.below(8 * 45)).min(bytes.len() - 1);
+    let at = (block + rng.below(8 * 46)).min(bytes.len() - 1);
     match rng.below(4) {
         0 => bytes[at] ^= 1 << rng.below(8),
         1 => bytes[at] = rng.bits() as u8,
@@ -266,11 +266,12 @@ fn main() -> ExitCode {
     };
     let mut rng = Rng::new(seed ^ 0x6775_6172_6465_6421);
     let mut pages = Pages::new(&mut rng);
-    let mut sheets = Cases::new(Stage::Sheet, seed, false);
     let mut tally = Tally::default();
     let mut differences = 0;
-    while tally.all() < count {
-        let (_, Case::Sheet { book, question, .. }) = sheets.draw() else { unreachable!("a sheet was asked for") };
+    for (book, question) in sheets(seed) {
+        if tally.all() >= count {
+            break;
+        }
         for call in calls(&mut rng, &book, &question).iter().take(count - tally.all()) {
             let (number, same) = pages.compare(&mut rng, call);
             tally.add(number);

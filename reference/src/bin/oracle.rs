@@ -3,6 +3,7 @@
 //! oracle STAGE [--count N] [--seed S]
 //! oracle --counts [STAGE] [--count N] [--seed S]
 //! oracle differences                             the inputs that docs/DIFFERENCES.md names
+//! oracle borders                                 feeds by mass at the borders of 34, 35 and 36
 
 use std::io::{BufWriter, Write};
 use std::process::ExitCode;
@@ -10,18 +11,24 @@ use std::process::ExitCode;
 use reference::command::{Options, USAGE};
 use reference::counts::{count_sheets, count_stage};
 use reference::generate::cases::Cases;
-use reference::generate::differences;
+use reference::generate::{differences, mass};
 use reference::stage::{hex, hex_words, Case, Stage};
 
 /// Lines of a stage where no count is given.
 const LINES: usize = 200;
 
 fn main() -> ExitCode {
-    if std::env::args().skip(1).eq(["differences"]) {
-        return if write(differences::cases().into_iter()).is_ok() { ExitCode::SUCCESS } else { ExitCode::FAILURE };
+    let words: Vec<String> = std::env::args().skip(1).collect();
+    let named = match words.iter().map(String::as_str).collect::<Vec<_>>()[..] {
+        ["differences"] => Some(differences::cases()),
+        ["borders"] => Some(mass::borders().into_iter().map(|(case, _)| case).collect()),
+        _ => None,
+    };
+    if let Some(cases) = named {
+        return if write(cases.into_iter()).is_ok() { ExitCode::SUCCESS } else { ExitCode::FAILURE };
     }
-    let Some(options) = Options::read(std::env::args().skip(1)) else {
-        eprintln!("usage: oracle differences|{USAGE}");
+    let Some(options) = Options::read(words.into_iter()) else {
+        eprintln!("usage: oracle differences|borders|{USAGE}");
         return ExitCode::from(2);
     };
     for stage in &options.stages {
@@ -39,8 +46,8 @@ fn main() -> ExitCode {
 
 fn count(stage: Stage, options: &Options) {
     let number = options.count_of(stage);
-    if stage == Stage::Sheet {
-        count_sheets(options.seed, number).print();
+    if matches!(stage, Stage::Sheet | Stage::Mass) {
+        count_sheets(stage, options.seed, number).print();
     } else {
         let tally = count_stage(stage, options.seed, number);
         let share = tally.percent_accepted();

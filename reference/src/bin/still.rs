@@ -15,11 +15,11 @@ use std::thread;
 use std::time::{Duration, Instant};
 
 use reference::counts::Tally;
-use reference::generate::cases::Cases;
+use reference::generate::cases::sheets;
 use reference::generate::Rng;
 use reference::sheet::blocks::{bytes_of, seal, words_of, BLOCK};
 use reference::sheet::program_output;
-use reference::stage::{Case, Stage};
+use reference::stage::Case;
 
 /// A run that takes longer hangs.
 const LIMIT: Duration = Duration::from_secs(30);
@@ -215,20 +215,15 @@ fn main() -> ExitCode {
         }
     };
     let mut report = Report::default();
-    let mut sheets = Cases::new(Stage::Sheet, options.seed, false);
-    let mut draw = || match sheets.draw() {
-        (_, Case::Sheet { book, question, .. }) => (book, question),
-        _ => unreachable!("a sheet was asked for"),
-    };
-    for _ in 0..options.count {
-        let (book, question) = draw();
+    let mut sheets = sheets(options.seed);
+    for (book, question) in sheets.by_ref().take(options.count) {
         folder.write_book(&book);
         report.compare("files", &book, &question, &run(folder.program(), &question, Feed::Whole));
     }
     // The rest is slower or has its own files, and is put to a tenth as many sheets, with answers among them.
     let mut closed = 0;
     for round in 0..options.count.div_ceil(10) {
-        let (book, question) = accepted(&mut draw);
+        let (book, question) = accepted(&mut sheets);
         books(&mut report, &folder, &book, &question);
         questions(&mut report, &folder, &book, &question);
         if round % 5 == 0 {
@@ -248,13 +243,9 @@ fn main() -> ExitCode {
 }
 
 /// The next sheet that is answered.
-fn accepted(draw: &mut impl FnMut() -> (Vec<u8>, Vec<u8>)) -> (Vec<u8>, Vec<u8>) {
-    loop {
-        let (book, question) = draw();
-        if words_of(&program_output(&book, &question)[..BLOCK])[2] == 0 {
-            return (book, question);
-        }
-    }
+fn accepted(sheets: &mut impl Iterator<Item = (Vec<u8>, Vec<u8>)>) -> (Vec<u8>, Vec<u8>) {
+    let answered = |(book, question): &(Vec<u8>, Vec<u8>)| words_of(&program_output(book, question)[..BLOCK])[2] == 0;
+    sheets.find(answered).expect("a generator has no end")
 }
 
 /// Kinds of book.bin.

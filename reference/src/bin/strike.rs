@@ -21,6 +21,7 @@ const SHOWN: usize = 20;
 struct Counts {
     calls: usize,
     accepted: usize,
+    by_mass: usize,
     /// With an absent +0, with an absent −0, with two absent solvents and more, with one kept.
     zeros: [usize; 2],
     several: usize,
@@ -106,6 +107,7 @@ fn differs(sheet: &Sheet) -> bool {
 fn add(counts: &mut Counts, sheet: &Sheet) {
     let (feed, kept) = (sheet.feed(), sheet.kept());
     counts.accepted += 1;
+    counts.by_mass += usize::from(sheet.by_mass());
     for (zero, seen) in [0.0f64, -0.0].iter().zip(&mut counts.zeros) {
         *seen += usize::from(feed.iter().any(|z| z.to_bits() == zero.to_bits()));
     }
@@ -114,9 +116,9 @@ fn add(counts: &mut Counts, sheet: &Sheet) {
 }
 
 fn print(task: u64, counts: &Counts) {
-    let Counts { calls, accepted, zeros: [plus, minus], several, alone, failures, differences } = counts;
+    let Counts { calls, accepted, by_mass, zeros: [plus, minus], several, alone, failures, differences } = counts;
     println!(
-        "task {task}: {calls} asked, {accepted} accepted ({plus} with +0, {minus} with -0, {several} with two absent and more, {alone} with one kept), {failures} failures, {differences} differences"
+        "task {task}: {calls} asked, {accepted} accepted ({by_mass} by mass, {plus} with +0, {minus} with -0, {several} with two absent and more, {alone} with one kept), {failures} failures, {differences} differences"
     );
 }
 

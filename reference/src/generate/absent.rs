@@ -4,11 +4,11 @@
 use super::books::{self, put, put_alphas, BOUNDS, COUNT, EXPONENTS, FLAG, HIGH, LOW, N, REDUCING, TAU};
 use super::feeds::{self, Absent};
 use super::questions::{self, Draft};
-use super::{numbers, Rng};
+use super::{mass, numbers, Rng};
 use crate::helpers;
 use crate::named::solvers::{activity_dew_pressure, ActivityOptions};
 use crate::sheet::blocks::Words;
-use crate::sheet::book::{DENSITY, VAPOR_PRESSURE};
+use crate::sheet::book::{DENSITY, MOLAR_MASS, VAPOR_PRESSURE};
 use crate::sheet::open_book;
 use crate::sheet::question::{BRACKET, FRACTIONS, K_VALUES, TEMPERATURE};
 use crate::types::Temperature;
@@ -31,9 +31,14 @@ impl Base {
         let n = rng.pick(&[2, 3, 3, 3, 4, 4, 4, 5, 5, 6, 7, 8]);
         let feed = feed(rng, n);
         let absent: Vec<usize> = (0..n).filter(|i| feed[*i] == 0.0).collect();
-        let book = book(rng, n);
-        let opened = open_book(&book.bytes()).expect("questions 1 to 9 pass");
-        let mut question = questions::with_feed(rng, &opened, task, &feed);
+        let mut book = book(rng, n);
+        let by_mass = rng.one_in(2);
+        if by_mass {
+            enter(rng, &mut book, &feed);
+        }
+        let opened = open_book(&book.bytes()).expect("questions 1 to 9 and 35 pass");
+        let question = if by_mass { mass::question } else { questions::with_feed };
+        let mut question = question(rng, &opened, task, &feed);
         // Tasks 8 and 9 may have drawn another feed.
         question.put_all(FRACTIONS, &feed);
         let overflows = task == 5 && rng.one_in(5);
@@ -63,7 +68,10 @@ impl Base {
         let mut book = self.book.clone();
         for i in &self.absent {
             if rng.percent(90) {
-                aim_solvent(rng, &mut book.blocks[1 + i]);
+                let words = &mut book.blocks[1 + i];
+                aim_solvent(rng, words);
+                // Not read in a version 1 book.
+                put(words, MOLAR_MASS, mass::any_mass(rng));
             }
             for at in book.pairs_of(*i) {
                 aim_pair(rng, &mut book.blocks[at], t);
@@ -124,6 +132,18 @@ fn book(rng: &mut Rng, n: usize) -> books::Draft {
         wild
     } else {
         plain
+    }
+}
+
+/// Molar masses, now and then of any size; a trace may have moles that underflow.
+fn enter(rng: &mut Rng, book: &mut books::Draft, feed: &[f64]) {
+    mass::enter(rng, book);
+    for (words, w) in book.blocks[1..].iter_mut().zip(feed) {
+        if rng.one_in(10) {
+            put(words, MOLAR_MASS, mass::any_mass(rng));
+        } else if *w < 1e-290 && rng.one_in(2) {
+            put(words, MOLAR_MASS, rng.pick(&[2.0, 1e30, f64::MAX]));
+        }
     }
 }
 

@@ -339,7 +339,7 @@ fn damage_head(rng: &mut Rng, draft: &mut Draft) {
     let n = draft.n as u64;
     match rng.below(8) {
         0 => draft.blocks[0][0] = rng.pick(&[0, 2, 1 << 32 | 1, rng.clone().bits()]),
-        1 => draft.blocks[0][1] = rng.pick(&[0, 2, 3, 1 << 63 | 1]),
+        1 => draft.blocks[0][1] = rng.pick(&[0, 4, 3, 1 << 63 | 1]),
         2 => draft.blocks[0][2] = rng.pick(&[0, 9, n + 1, n - 1, u64::MAX, 1 << 32 | n]),
         3 => drop(draft.blocks.pop()),
         4 => {

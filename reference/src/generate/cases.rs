@@ -1,11 +1,11 @@
 //! The cases of each stage.
 
-use super::{books, differences, feeds, numbers, questions, rice, small, Rng};
+use super::{books, differences, feeds, mass, numbers, questions, rice, small, Rng};
 use crate::sheet::open_book;
 use crate::stage::{Case, Function, Stage};
 
 /// Tasks of the sheets: those with solvers come twice as often.
-const TASKS: [u64; 15] = [1, 2, 2, 3, 3, 4, 4, 5, 5, 6, 6, 7, 7, 8, 9];
+pub(super) const TASKS: [u64; 15] = [1, 2, 2, 3, 3, 4, 4, 5, 5, 6, 6, 7, 7, 8, 9];
 
 /// How a sheet was made.
 #[derive(Debug, Clone, Copy, PartialEq, Eq, PartialOrd, Ord)]
@@ -46,6 +46,7 @@ impl Cases {
             Stage::Sheet if !compact => {
                 small::others().into_iter().map(|(case, _)| case).chain(differences::cases()).collect()
             }
+            Stage::Mass if !compact => mass::borders().into_iter().map(|(case, _)| case).collect(),
             _ => Vec::new(),
         };
         let rng = if compact { Rng::tidy(seed) } else { Rng::new(seed) };
@@ -68,6 +69,13 @@ impl Cases {
         let n = self.solvents();
         if self.stage == Stage::Sheet {
             return self.draw_sheet(n);
+        }
+        if self.stage == Stage::Mass {
+            return mass::draw(&mut self.rng, n);
+        }
+        // The stored ones of version 2 stand among the sheets.
+        if self.stage == Stage::Book && !self.compact && self.rng.one_in(3) {
+            return (Kind::Realistic, Case::Book { book: mass::book(&mut self.rng, n) });
         }
         (Kind::Realistic, plain(&mut self.rng, self.stage, n))
     }
@@ -95,7 +103,16 @@ impl Iterator for Cases {
     }
 }
 
-/// A case of any stage but the sheet's.
+/// Book and question of sheets of both stages that have them, by turns.
+pub fn sheets(seed: u64) -> impl Iterator<Item = (Vec<u8>, Vec<u8>)> {
+    let mut stages = [Stage::Sheet, Stage::Mass].map(|stage| Cases::new(stage, seed, false));
+    (0usize..).map(move |turn| match stages[turn % 2].draw() {
+        (_, Case::Sheet { book, question, .. }) => (book, question),
+        _ => unreachable!("a sheet was asked for"),
+    })
+}
+
+/// A case of any stage but those of sheets.
 fn plain(rng: &mut Rng, stage: Stage, n: usize) -> Case {
     match stage {
         Stage::Numbers => number(rng),
@@ -103,7 +120,7 @@ fn plain(rng: &mut Rng, stage: Stage, n: usize) -> Case {
         Stage::Book => Case::Book { book: book(rng, n) },
         Stage::Pressure => pressure(rng, n),
         Stage::Excess => excess(rng, n),
-        Stage::Rice | Stage::Sheet => split(rng, n),
+        Stage::Rice | Stage::Sheet | Stage::Mass => split(rng, n),
     }
 }
 

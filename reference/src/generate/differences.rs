@@ -1,6 +1,7 @@
 //! The inputs that docs/DIFFERENCES.md names, with what it says of each. They are compared before any others and stored for
 //! the replay.
 
+use super::mass;
 use super::small::{blocks, book, bytes, constant, put, Ask};
 use crate::helpers::WRITTEN_NAN;
 use crate::sheet::blocks::{words_of, Words};
@@ -51,7 +52,7 @@ impl Difference {
 
 /// In the order of the page.
 pub fn all() -> Vec<Difference> {
-    [books(), nrtl(), rachford_rice(), michelsen(), solvers(), vanishing()].into_iter().flatten().collect()
+    [books(), masses(), nrtl(), rachford_rice(), michelsen(), solvers(), vanishing()].into_iter().flatten().collect()
 }
 
 pub fn cases() -> Vec<Case> {
@@ -80,6 +81,15 @@ fn books() -> Vec<Difference> {
         interval(350.0, 350.0, 1),
         interval(340.0, 340.0, 2),
         interval(360.0, 340.0, 2),
+    ]
+}
+
+/// Moles that overflow, and a trace whose mole fraction is 0.
+fn masses() -> Vec<Difference> {
+    let smallest = f64::from_bits(1);
+    vec![
+        Difference::new(bytes(&mass::entered(&[smallest])), mass::ask(2, &[1.0])).refused(34),
+        Difference::new(bytes(&mass::entered(&[0.018, 2.0, 0.046])), mass::ask(2, &[0.3, smallest, 0.7])).word(15, 0),
     ]
 }
 

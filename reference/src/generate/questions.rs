@@ -7,8 +7,8 @@ use crate::named::model::ActivityModel;
 use crate::named::solvers::{activity_bubble_pressure, activity_dew_pressure, ActivityOptions};
 use crate::sheet::blocks::{bytes_of, seal, Words};
 use crate::sheet::question::{
-    BRACKET, ENERGY_TOLERANCE, FRACTIONS, K_VALUES, MAX_ITERATIONS, MAX_TEMPERATURE_ITERATIONS, PRESSURE, TASK,
-    TEMPERATURE, TM_THRESHOLD, TOLERANCE,
+    BASIS, BRACKET, BY_MOLES, ENERGY_TOLERANCE, FRACTIONS, K_VALUES, MAX_ITERATIONS, MAX_TEMPERATURE_ITERATIONS,
+    PRESSURE, TASK, TEMPERATURE, TM_THRESHOLD, TOLERANCE,
 };
 use crate::sheet::{self, Book, ANSWER_BYTES};
 use crate::types::Temperature;
@@ -35,7 +35,7 @@ impl Draft {
         self.words[at] = v.to_bits();
     }
 
-    fn get(&self, at: usize) -> f64 {
+    pub(super) fn get(&self, at: usize) -> f64 {
         f64::from_bits(self.words[at])
     }
 
@@ -99,13 +99,14 @@ pub fn with_feed(rng: &mut Rng, book: &Book, task: u64, feed: &[f64]) -> Draft {
     draft
 }
 
-/// Kind, task and options; words that are not read may hold anything.
+/// Kind, task and options, a feed by moles; words that are not read may hold anything.
 fn options(rng: &mut Rng, task: u64) -> Draft {
     let junk = rng.junk();
     let words = std::array::from_fn(|_| if junk { rng.bits() } else { 0 });
     let mut draft = Draft { words, room: room(rng), bytes: None };
     draft.words[0] = 8;
     draft.words[TASK] = task;
+    draft.words[BASIS] = BY_MOLES;
     draft.put(TEMPERATURE, rng.range(280.0, 440.0));
     draft.put(PRESSURE, rng.decade(3.0, 5.5));
     draft.words[MAX_ITERATIONS] = rng.pick(&LIMITS);

@@ -1,4 +1,4 @@
-//! The book: questions 1 to 9 and its records.
+//! The book: questions 1 to 9 and 35, and its records.
 
 use super::blocks::{bytes_check_right, words_of, Words, BLOCK};
 use crate::named::liquid::{Correlation, PureLiquid};
@@ -9,6 +9,8 @@ use crate::types::ComponentId;
 /// First word of a solvent's two correlation records.
 pub const VAPOR_PRESSURE: usize = 3;
 pub const DENSITY: usize = 24;
+/// Word of its molar mass, which only version 2 has.
+pub const MOLAR_MASS: usize = 45;
 
 #[derive(Debug, Clone, PartialEq)]
 pub struct Solvent {
@@ -21,6 +23,8 @@ pub struct Solvent {
 #[derive(Debug, Clone, PartialEq)]
 pub struct Book {
     pub solvents: Vec<Solvent>,
+    /// kg/mol; a version 1 book has none.
+    pub molar_masses: Option<Vec<f64>>,
     /// (0,1), (0,2) and on.
     pub pairs: Vec<Pair>,
 }
@@ -34,22 +38,25 @@ impl Book {
     }
 }
 
-/// The accepted book, or a number from 1 to 9. Each question is put to all blocks before the next.
+/// The accepted book, or a number from 1 to 9 or 35. Each question is put to all blocks before the next.
 pub fn open_book(book: &[u8]) -> Result<Book, u32> {
     need(!book.is_empty() && book.len().is_multiple_of(BLOCK), 1)?;
     need(book.chunks_exact(BLOCK).all(bytes_check_right), 2)?;
     let blocks: Vec<Words> = book.chunks_exact(BLOCK).map(words_of).collect();
-    let n = solvent_count(&blocks).ok_or(3u32)?;
+    let (version, n) = head(&blocks).ok_or(3u32)?;
     let (solvents, pairs) = blocks[1..].split_at(n);
     let due = due_pairs(n);
     need(solvents.iter().enumerate().all(|(i, w)| is_solvent(w, i)), 4)?;
     need(solvents.iter().all(|w| is_correlation(w, VAPOR_PRESSURE) && is_correlation(w, DENSITY)), 5)?;
+    let molar_masses = molar_masses(version, solvents);
+    need(molar_masses.iter().flatten().all(|mass| is_positive(*mass)), 35)?;
     need((0..n).all(|i| solvents[..i].iter().all(|w| w[2] != solvents[i][2])), 6)?;
     need(pairs.iter().zip(&due).all(|(w, &(i, j))| is_pair(w, i, j)), 7)?;
     need(pairs.iter().all(pair_is_finite), 8)?;
     need(pairs.iter().all(alphas_are_equal), 9)?;
     Ok(Book {
         solvents: solvents.iter().map(solvent).collect(),
+        molar_masses,
         pairs: pairs.iter().zip(&due).map(|(w, &(i, j))| pair(w, i, j)).collect(),
     })
 }
@@ -62,14 +69,23 @@ fn need(yes: bool, number: u32) -> Result<(), u32> {
     }
 }
 
-/// n, if block 0 is right and the number of blocks fits it.
-fn solvent_count(blocks: &[Words]) -> Option<usize> {
+/// Version and n, if block 0 is right and the number of blocks fits it.
+fn head(blocks: &[Words]) -> Option<(u64, usize)> {
     let [kind, version, n] = [blocks[0][0], blocks[0][1], blocks[0][2]];
-    if kind != 1 || version != 1 || !(1..=8).contains(&n) {
+    if kind != 1 || !(1..=2).contains(&version) || !(1..=8).contains(&n) {
         return None;
     }
     let n = n as usize;
-    (blocks.len() == 1 + n + n * (n - 1) / 2).then_some(n)
+    (blocks.len() == 1 + n + n * (n - 1) / 2).then_some((version, n))
+}
+
+fn molar_masses(version: u64, solvents: &[Words]) -> Option<Vec<f64>> {
+    (version == 2).then(|| solvents.iter().map(|w| float(w, MOLAR_MASS)).collect())
+}
+
+/// Finite and positive.
+pub(super) fn is_positive(v: f64) -> bool {
+    v.is_finite() && v > 0.0
 }
 
 /// (0,1), (0,2), …, (0,n−1), (1,2) and on.

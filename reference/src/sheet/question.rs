@@ -1,6 +1,7 @@
-//! The question: its words, and questions 11 and 13 to 21.
+//! The question: its words, and questions 11, 36, 13 to 18, 34 and 19 to 21.
 
 use super::blocks::{check_right, words_of, Words, BLOCK};
+use super::book::{is_positive, Book};
 use crate::helpers;
 use crate::named::solvers::ActivityOptions;
 
@@ -16,6 +17,11 @@ pub const ENERGY_TOLERANCE: usize = 15;
 pub const TM_THRESHOLD: usize = 16;
 pub const BRACKET: usize = 17;
 pub const K_VALUES: usize = 19;
+/// 0 where the fractions are of moles, 1 where they are of mass.
+pub const BASIS: usize = 27;
+
+pub const BY_MOLES: u64 = 0;
+pub const BY_MASS: u64 = 1;
 
 const HIGHEST_LIMIT: u64 = 1_000_000;
 
@@ -47,6 +53,7 @@ impl Question {
     pub fn pressure(&self) -> f64 {
         self.float(PRESSURE)
     }
+    /// Of moles or of mass, as word 27 says.
     pub fn fractions(&self, n: usize) -> Vec<f64> {
         self.floats(FRACTIONS, n)
     }
@@ -77,9 +84,11 @@ impl Question {
         (at..at + n).map(|k| self.float(k)).collect()
     }
 
-    /// Questions 13 to 21, each where the task needs it.
-    pub fn ask(&self, n: usize) -> Result<(), u32> {
+    /// Questions 36, 13 to 18, 34 and 19 to 21, each where the task needs it. The mole fractions of the feed.
+    pub fn ask(&self, book: &Book) -> Result<Vec<f64>, u32> {
+        let n = book.solvents.len();
         let task = self.task();
+        let molar_masses = self.molar_masses(book)?;
         if matches!(task, 1 | 2 | 3 | 6 | 7) && !is_positive(self.temperature()) {
             return Err(13);
         }
@@ -87,13 +96,28 @@ impl Question {
             return Err(14);
         }
         self.ask_composition(n)?;
+        let fractions = self.fractions(n);
+        let feed = match molar_masses {
+            None => fractions,
+            Some(molar_masses) => mole_feed(&fractions, molar_masses)?,
+        };
         if matches!(task, 3..=7) {
             self.options().validate().map_err(|error| error.number())?;
         }
-        self.ask_limits()
+        self.ask_limits()?;
+        Ok(feed)
     }
 
-    /// Questions 15 to 18.
+    /// Question 36. The molar masses that a feed by mass is divided by; a feed by moles has none.
+    fn molar_masses<'a>(&self, book: &'a Book) -> Result<Option<&'a [f64]>, u32> {
+        match (self.words[BASIS], &book.molar_masses) {
+            (BY_MOLES, _) => Ok(None),
+            (BY_MASS, Some(molar_masses)) => Ok(Some(molar_masses)),
+            _ => Err(36),
+        }
+    }
+
+    /// Questions 15 to 18, put to the fractions as they are given.
     fn ask_composition(&self, n: usize) -> Result<(), u32> {
         let z = self.fractions(n);
         let k = if matches!(self.task(), 8 | 9) { self.k_values(n) } else { Vec::new() };
@@ -129,6 +153,8 @@ impl Question {
     }
 }
 
-fn is_positive(v: f64) -> bool {
-    v.is_finite() && v > 0.0
+/// Each mass fraction divided by its molar mass, normalized (34).
+pub fn mole_feed(fractions: &[f64], molar_masses: &[f64]) -> Result<Vec<f64>, u32> {
+    let moles = fractions.iter().zip(molar_masses).map(|(w, mass)| w / mass).collect();
+    helpers::normalize(moles).map_err(|error| error.number())
 }

@@ -39,14 +39,14 @@ const BOTH: u64 = 3;
 
 type Blocks = Vec<Words>;
 
-/// Answer block and trials, checks not yet made.
-pub fn reply(book: &Book, question: &Question) -> Result<Blocks, Error> {
-    let n = book.solvents.len();
+/// Answer block and trials, checks not yet made; `feed` has mole fractions.
+pub fn reply(book: &Book, question: &Question, feed: &[f64]) -> Result<Blocks, Error> {
+    let k_values = question.k_values(feed.len());
     let task = question.task();
     let mut blocks = match task {
-        8 => constrained_split(question, n)?,
-        9 => vec![split(&rachford_rice_negative(&question.fractions(n), &question.k_values(n), limit(question))?)],
-        _ => with_feed(&book.model().with_fractions(&question.fractions(n))?, question)?,
+        8 => constrained_split(&rachford_rice(feed, &k_values, limit(question))?),
+        9 => vec![split(&rachford_rice_negative(feed, &k_values, limit(question))?)],
+        _ => with_feed(&book.model().with_fractions(feed)?, question)?,
     };
     blocks[0][0] = 9;
     blocks[0][1] = task;
@@ -169,15 +169,14 @@ fn flash(found: &ActivityTpFlash) -> Blocks {
 }
 
 /// Task 8.
-fn constrained_split(question: &Question, n: usize) -> Result<Blocks, Error> {
-    let found = rachford_rice(&question.fractions(n), &question.k_values(n), limit(question))?;
+fn constrained_split(found: &RachfordRiceOutcome) -> Blocks {
     let mut words = [0; 64];
     match found {
         RachfordRiceOutcome::LiquidOnly => words[OUTCOME] = LIQUID_ONLY,
         RachfordRiceOutcome::VaporOnly => words[OUTCOME] = VAPOR_ONLY,
-        RachfordRiceOutcome::TwoPhase(solution) => words = split(&solution),
+        RachfordRiceOutcome::TwoPhase(solution) => words = split(solution),
     }
-    Ok(vec![words])
+    vec![words]
 }
 
 /// Task 9, and 8 with two phases.

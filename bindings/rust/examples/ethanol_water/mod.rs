@@ -1,12 +1,17 @@
 //! The book of the shipped sample (scripts/sample says where its numbers come from).
 
-use zektonk::{Book, Correlation, Incomplete, Interval, Pair, Solvent, Term, UpToEight};
+use zektonk::{Book, Builder, Correlation, Incomplete, Interval, Pair, Solvent, Term, UpToEight};
 
 /// cal/(mol K).
 const CAL: f64 = 1.98720425864083;
 
 /// Ethanol is solvent 0, water 1.
 pub fn ethanol_water() -> Result<Book<'static>, Incomplete> {
+    in_the_making().build()
+}
+
+/// The same before it is built, for who adds molar masses.
+pub fn in_the_making() -> Builder {
     let ethanol = [(-8.69441, 1.0), (0.75644, 1.5), (-6.3125, 3.0), (8.61738, 6.0)].map(Term::from);
     let water = [
         (-7.85951783, 1.0),
@@ -27,7 +32,6 @@ pub fn ethanol_water() -> Result<Book<'static>, Incomplete> {
         .solvent(solvent(64_175, 514.71, 6_268_000.0, 510.0, ethanol.into()))
         .solvent(solvent(7_732_185, 647.096, 22_064_000.0, 640.0, water.into()))
         .pair(0, 1, pair)
-        .build()
 }
 
 /// Of the density only the range is used, here that of the vapor pressure.

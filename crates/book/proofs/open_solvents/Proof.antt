@@ -20,19 +20,26 @@ returns-2 : tie.Need-returns-2
 unfolding solventsOf
 returns-2 c = search (says-yes, says-no, was-yes, was-no)
 
-cas-distinct-requires : tie.Need-cas-distinct-requires
-cas-distinct-requires c κs = search needs
+masses-right-requires : tie.Need-masses-right-requires
+masses-right-requires c κs = search needs
 
 returns-3 : tie.Need-returns-3
 unfolding solventsOf
 returns-3 c = search (says-yes, says-no, was-yes, was-no)
 
-open-pairs-requires : tie.Need-open-pairs-requires
-open-pairs-requires c κs = search needs
+cas-distinct-requires : tie.Need-cas-distinct-requires
+cas-distinct-requires c κs = search needs
 
 returns-4 : tie.Need-returns-4
 unfolding solventsOf
-returns-4 c = search (says-yes, was-yes)
+returns-4 c = search (says-yes, says-no, was-yes, was-no)
+
+open-pairs-requires : tie.Need-open-pairs-requires
+open-pairs-requires c κs = search needs
+
+returns-5 : tie.Need-returns-5
+unfolding solventsOf
+returns-5 c = search (says-yes, was-yes)
 
 pub open-solvents-spec : {M : Type 1} → statement M
 open-solvents-spec =
@@ -42,7 +49,9 @@ open-solvents-spec =
     returns
     all-records-right-requires
     returns-2
-    cas-distinct-requires
+    masses-right-requires
     returns-3
+    cas-distinct-requires
+    returns-4
     open-pairs-requires
-    returns-4)
+    returns-5)

@@ -1,6 +1,8 @@
 -- `question::check_inputs` meets its contract. Assumes nothing.
+use mathlib.Core.Path.{refl}
 use borrow.Author.Needs.{needs}
 use Rattle.floats.proofs.Folds.{was-no, was-yes}
+use Rattle.thermo_types.specs.Verdicts.{verdictOf}
 use Rattle.question.specs.Asked.{inputsRight}
 use Rattle.question.proofs.Laws.{says-no, says-yes, says-three}
 use Rattle.question.proofs.check_inputs.Statement.{statement}
@@ -48,12 +50,11 @@ returns-6 : tie.Need-returns-6
 unfolding inputsRight
 returns-6 c = says-three 13 14 15 _ (search was-yes) (search was-yes) (search was-yes) (search (says-yes, says-no, was-yes, was-no))
 
-check-limits-requires : tie.Need-check-limits-requires
-check-limits-requires c κs = search needs
-
 returns-7 : tie.Need-returns-7
-unfolding inputsRight
-returns-7 c = search (says-three, was-yes)
+unfolding inputsRight verdictOf
+returns-7 c =
+    says-three 13 14 15 _ (search was-yes) (search was-yes) (search was-yes)
+    (says-three 16 17 18 _ (search was-yes) (search was-yes) (search was-yes) refl)
 
 pub check-inputs-spec : {M : Type 1} → statement M
 check-inputs-spec =
@@ -71,5 +72,4 @@ check-inputs-spec =
     returns-5
     sums-to-one-requires
     returns-6
-    check-limits-requires
     returns-7)

@@ -1,8 +1,7 @@
 -- `question::read_rest` meets its contract. Assumes nothing.
-use mathlib.Core.Path.{refl}
 use borrow.Author.Needs.{needs}
-use Rattle.question.specs.Asked.{restOf, askedOf}
-use Rattle.question.proofs.Laws.{rest-no, rest-yes}
+use Rattle.question.specs.Asked.{restOf}
+use Rattle.question.proofs.Laws.{inputs-no, inputs-yes}
 use Rattle.question.proofs.read_rest.Statement.{statement}
 use Rattle.question.proofs.read_rest.Tie as tie
 
@@ -21,20 +20,20 @@ refused-requires c κs = search needs
 enum-told : tie.Need-enum-told
 enum-told c = search needs
 
-question-from-requires : tie.Need-question-from-requires
-question-from-requires c κs = search needs
+read-moles-requires : tie.Need-read-moles-requires
+read-moles-requires c κs = search needs
 
 returns : tie.Need-returns
 unfolding restOf
 returns c = let call = c .before .before .before .before in
     rw (← call .before .before .floats-from .ensures)
-    (rest-no _ _ _ _ _ (call .check-inputs .ensures) (c .before .before .verdict .given .1) (c .refused .ensures))
+    (inputs-no _ _ _ _ _ (call .check-inputs .ensures) (c .before .before .verdict .given .1) (c .refused .ensures))
 
 returns-2 : tie.Need-returns-2
-unfolding restOf askedOf
+unfolding restOf
 returns-2 c = let call = c .before .before .before .before in
-    rw (← call .before .before .floats-from .ensures, ← c .question-from .ensures)
-    (rest-yes _ _ _ _ _ (call .check-inputs .ensures) (c .before .before .enum-told .given .1) refl)
+    rw (← call .before .before .floats-from .ensures)
+    (inputs-yes _ _ _ _ _ (call .check-inputs .ensures) (c .before .before .enum-told .given .1) (c .read-moles .ensures))
 
 pub read-rest-spec : {M : Type 1} → statement M
 read-rest-spec =
@@ -45,6 +44,6 @@ read-rest-spec =
     enum-known-verdict
     refused-requires
     enum-told
-    question-from-requires
+    read-moles-requires
     returns
     returns-2)

@@ -10,8 +10,8 @@ places-requires c κs = search needs
 total-requires : tie.Need-total-requires
 total-requires c κs = search needs
 
-is-finite-requires : tie.Need-is-finite-requires
-is-finite-requires c κs = search needs
+positive-requires : tie.Need-positive-requires
+positive-requires c κs = search needs
 
 divided-requires : tie.Need-divided-requires
 divided-requires c κs = search needs
@@ -23,4 +23,4 @@ returns-2 : tie.Need-returns-2
 returns-2 c = search normalize-no
 
 pub normalize-spec : {M : Type 1} → statement M
-normalize-spec = tie.close (tie.spec places-requires total-requires is-finite-requires divided-requires returns returns-2)
+normalize-spec = tie.close (tie.spec places-requires total-requires positive-requires divided-requires returns returns-2)

@@ -1,8 +1,8 @@
--- `question::positive` meets its contract. Assumes nothing.
+-- `floats::positive` meets its contract. Assumes nothing.
 use borrow.Author.Needs.{needs}
-use Rattle.question.specs.Asked.{positive}
-use Rattle.question.proofs.positive.Statement.{statement}
-use Rattle.question.proofs.positive.Tie as tie
+use Rattle.floats.specs.Small.{positive}
+use Rattle.floats.proofs.positive.Statement.{statement}
+use Rattle.floats.proofs.positive.Tie as tie
 
 is-finite-requires : tie.Need-is-finite-requires
 is-finite-requires c κs = search needs

@@ -1,0 +1,44 @@
+-- A question in moles doesn't see that a book has molar masses, and one by mass is answered as the one in moles. Assumes nothing.
+use mathlib.Core.Path.{_≡_, sym, ap, _∙_}
+use mathlib.Core.Bool.{true}
+use mathlib.Core.List.{List}
+use Prim.Native.Nat.{ℕ}
+use Rattle.floats.specs.Small.{positive}
+use Rattle.floats.specs.Fold.{allTo}
+use Rattle.floats.specs.Outcome.{Out, bind}
+use Rattle.floats.proofs.Outcomes.{bind-yes}
+use Rattle.book.specs.declared.Head.{Head}
+use Rattle.book.specs.Places.{words}
+use Rattle.book.specs.Book.{hasMasses, molarMass, massesRight, headIn, ruleOf}
+use Rattle.book.proofs.Accepted.{accepted, opened-head}
+use Rattle.thermo_models.specs.Mixture.{Mixture}
+use Rattle.thermo_models.proofs.Unread.{mixture-unread}
+use Rattle.question.specs.declared.Question.{Question}
+use Rattle.sheet.specs.Tasks.{taskOf}
+use Rattle.sheet.specs.Sheet.{replied, answerTo, roomy, questionTo, sheetFrom, sheetOf}
+use Rattle.feeds.specs.Feeds.{MolesAlike, MassAsMoles}
+use Rattle.feeds.proofs.Moles.{question-alike, count-alike, behind, book-alike}
+use Rattle.feeds.proofs.Mass.{question-mass}
+
+pub moles-alike : MolesAlike
+unfolding ruleOf headIn answerTo sheetFrom sheetOf
+moles-alike s t question room a p e =
+    let n = words t 0 2 in
+    let v = words t 0 1 in
+    book-alike s t a _ _ p
+    (ap (λ (k : ℕ). sheetFrom s (words s 0 1) k question room) (count-alike s t a)
+    ∙ ap (λ (o : Out Question). roomy room (bind o (answerTo s n))) (question-alike (ruleOf s) question (words s 0 1) v _ (molarMass (words t)) n e)
+    ∙ ap (λ (m : Mixture). roomy room (bind (questionTo t v n question) (λ x. replied (ruleOf t) (x .task) (taskOf m x)))) (mixture-unread s t n (behind s t a n)))
+
+masses : (book : List ℕ) (h : Head) → headIn (words book 0) ≡ h → hasMasses (h .version) ≡ true → massesRight (words book) (headIn (words book 0)) ≡ true
+    → allTo (λ i. positive (molarMass (words book) i)) (h .n) ≡ true
+unfolding massesRight
+masses book h e v p = rw (e, v) at p
+
+pub mass-as-moles : MassAsMoles
+unfolding sheetFrom sheetOf
+mass-as-moles book q r room h z e v a c d f g s k =
+    let b = accepted book e in
+    let p = masses book h (opened-head book e) v (b .masses) in
+    let o = question-mass (h .n) (b .few) z q r a (molarMass (words book)) p k (ruleOf book) (h .version) v c d f g s in
+    bind-yes _ e ∙ ap (λ (o : Out Question). roomy room (bind o (answerTo book (h .n)))) o ∙ sym (bind-yes _ e)

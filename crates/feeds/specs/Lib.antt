@@ -1,0 +1,2 @@
+-- Laws of feeds in moles and by mass. Assumes nothing.
+pub mod Feeds

@@ -1,0 +1,2 @@
+-- What numbers over their sum pass. Assumes nothing.
+pub mod Shares
