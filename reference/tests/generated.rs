@@ -42,7 +42,7 @@ fn seeds() {
     }
 }
 
-/// Every number arises: 1 to 30, and 34.
+/// Every number of these sheets arises: 1 to 30, and 34; 35 and 36 are those of `mass`.
 #[test]
 fn every_number_arises() {
     let cases = Cases::new(Stage::Sheet, 5, false).take(30_000);

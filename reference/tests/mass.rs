@@ -48,6 +48,17 @@ fn of_version(book: &[u8], version: u64) -> Vec<u8> {
     all
 }
 
+/// Samples (n), (o) and (p) of docs/FORMAT.md.
+#[test]
+fn n_o_p_the_samples() {
+    let halves = || Ask::new(8, &[0.5, 0.5]).k(&[2.0, 0.5]);
+    let by_mass = || ask(8, &[0.5, 0.5]).k(&[2.0, 0.5]);
+    let in_moles = of_version(&book(&[0.5, 0.5]), 1);
+    assert_eq!(call(&book(&[0.5, 0.5]), by_mass()), call(&in_moles, halves()));
+    assert_eq!(call(&in_moles, by_mass()), Err(36));
+    assert_eq!(call(&book(&[0.5, 0.0]), halves()), Err(35));
+}
+
 #[test]
 fn borders_have_their_numbers() {
     for (case, number) in borders() {

@@ -1,4 +1,4 @@
-//! The sample sheets (a) to (m) of docs/FORMAT.md, its "Others" and the traps.
+//! The sample sheets (a) to (m) of docs/FORMAT.md, its "Others" and the traps; (n) to (p) stand in mass.rs.
 
 mod common;
 

@@ -1,4 +1,4 @@
--- The shorter book is accepted where the longer one is (questions 1 to 9), with the count of kept solvents, and has their data. Assumes nothing.
+-- The shorter book is accepted where the longer one is (questions 1 to 9 and 35), with the count of kept solvents, and has their data. Assumes nothing.
 use mathlib.Core.Path.{_≡_, refl, sym, ap, _∙_, subst}
 use mathlib.Core.Logic.{_≢_}
 use Prim.Native.Nat.{ℕ, zero, suc, _+_, _-_, _/_, _%_, _≤_, _<_}
@@ -237,7 +237,7 @@ module _ (keep : ℕ → Bool) (n : ℕ) where
           ∙ need-yes 3 _ (eq-eqb (length s' / 512) (blockCount (words s' 0 2)) (blocks ∙ ap (λ (x : ℕ). blockCount x) (sym (h .count))))
           ∙ subst (λ (x : ℕ). solventsOf (words s') (record { n = x; version = words s' 0 1 }) ≡ ok (headed (words s' 0 1))) (sym (h .count)) (solvents-open (words s' 0 1) refl)
 
--- questions 1 to 9; that some solvent is kept follows from a feed that sums to 1
+-- questions 1 to 9 and 35; that some solvent is kept follows from a feed that sums to 1
 pub strike-book : (keep : ℕ → Bool) (g : Head) (s s' : List ℕ) → ShorterBook keep (g .n) s s' → 0 < cnt keep (g .n) → bookOf s ≡ ok g → bookOf s' ≡ ok (shorterHead keep g)
 unfolding headIn shorterHead
 strike-book keep g s s' h some e =
