@@ -256,7 +256,7 @@ fn refusal_blocks() {
         let out = reference::sheet::program_output(book, question);
         assert_eq!(out.len(), 512);
         let words = reference::sheet::blocks::words_of(&out);
-        assert!(reference::sheet::blocks::check_right(&words));
+        assert!(reference::sheet::blocks::check_right(&words, reference::sheet::blocks::rule_of(book)));
         [words[0], words[1], words[2]]
     };
     assert_eq!(words(&[], &halves(2).bytes()), [9, 0, 1]);

@@ -12,7 +12,7 @@ use Rattle.blocks.specs.declared.Rule.{Rule}
 use Rattle.blocks.specs.Words.{word}
 use Rattle.book.specs.declared.Head.{Head}
 use Rattle.book.specs.Places.{words}
-use Rattle.book.specs.Book.{molarMass, massesRight, headRight, headIn, pairsOf, solventsOf, headOf, bookOf}
+use Rattle.book.specs.Book.{molarMass, massesRight, versionRight, headRight, headIn, pairsOf, solventsOf, headOf, ruleIn, ruleOf, bookOf}
 use Rattle.book.proofs.Unread.{AgreeBehind, solvents-alike, records-alike, cas-alike, rows-alike, finite-alike, alphas-alike}
 use Rattle.question.specs.Asked.{kindRight, molesOf, restOf, questionOf}
 use Rattle.feeds.specs.Feeds.{AsVersion1}
@@ -42,6 +42,9 @@ module _ (s t : List ℕ) (a : AsVersion1 s t) where
   pub count-alike : words s 0 2 ≡ words t 0 2
   count-alike = a .head 2 (omega arith) (λ e. omega arith)
 
+  kind-alike : words s 0 0 ≡ words t 0 0
+  kind-alike = a .head 0 (omega arith) (λ e. omega arith)
+
   others : (j k : ℕ) → 0 < j → k < 63 → words s j k ≡ words t j k
   others j k l h = let e : j ≡ j - 1 + 1 = omega arith in rw e (a .others (j - 1) k h)
 
@@ -57,7 +60,16 @@ module _ (s t : List ℕ) (a : AsVersion1 s t) where
 
   head-alike : headRight (words s 0) ≡ headRight (words t 0)
   unfolding headRight
-  head-alike = rw (a .version, a .version', a .head 0 (omega arith) (λ e. omega arith), count-alike)
+  head-alike = rw (kind-alike, count-alike)
+
+  version-alike : versionRight (words s 0) ≡ versionRight (words t 0)
+  unfolding versionRight
+  version-alike = rw (a .version, a .version', kind-alike)
+
+  -- neither is version 3
+  pub rule-alike : ruleOf s ≡ ruleOf t
+  unfolding ruleIn ruleOf
+  rule-alike = rw (a .size, a .version, a .version', kind-alike)
 
   masses-alike : allTo (λ i. positive (molarMass (words s) i)) (words s 0 2) ≡ true
       → massesRight (words s) (headIn (words s 0)) ≡ massesRight (words t) (headIn (words t 0))
@@ -72,8 +84,8 @@ module _ (s t : List ℕ) (a : AsVersion1 s t) where
       let c = count-alike in
       let b = behind n in
       let f = need-alike g h in
-      f _ _ 1 _ _ (rw (a .size)) (f _ _ 1 _ _ (rw (a .size)) (f _ _ 2 _ _ (a .checks ∙ sym (a .checks'))
+      f _ _ 1 _ _ (rw (a .size)) (f _ _ 1 _ _ (rw (a .size)) (f _ _ 38 _ _ version-alike (f _ _ 2 _ _ (a .checks ∙ sym (a .checks'))
       (f _ _ 3 _ _ head-alike (f _ _ 3 _ _ (rw (a .size, c))
       (f _ _ 4 _ _ (rw c (solvents-alike s t n b)) (f _ _ 5 _ _ (rw c (records-alike s t n b))
       (f _ _ 35 _ _ (masses-alike p) (f _ _ 6 _ _ (rw c (cas-alike s t n b))
-      (f _ _ 7 _ _ (rw c (rows-alike s t n b)) (f _ _ 8 _ _ (rw c (finite-alike s t n b)) (f _ _ 9 _ _ (rw c (alphas-alike s t n b)) e)))))))))))
+      (f _ _ 7 _ _ (rw c (rows-alike s t n b)) (f _ _ 8 _ _ (rw c (finite-alike s t n b)) (f _ _ 9 _ _ (rw c (alphas-alike s t n b)) e))))))))))))

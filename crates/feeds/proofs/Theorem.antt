@@ -7,27 +7,30 @@ use Rattle.floats.specs.Small.{positive}
 use Rattle.floats.specs.Fold.{allTo}
 use Rattle.floats.specs.Outcome.{Out, bind}
 use Rattle.floats.proofs.Outcomes.{bind-yes}
+use Rattle.blocks.specs.declared.Rule.{Rule}
 use Rattle.book.specs.declared.Head.{Head}
 use Rattle.book.specs.Places.{words}
 use Rattle.book.specs.Book.{hasMasses, molarMass, massesRight, headIn, ruleOf}
 use Rattle.book.proofs.Accepted.{accepted, opened-head}
-use Rattle.thermo_models.specs.Mixture.{Mixture}
+use Rattle.thermo_models.specs.Mixture.{Mixture, mixtureOf}
 use Rattle.thermo_models.proofs.Unread.{mixture-unread}
+use Rattle.question.specs.Asked.{questionOf}
 use Rattle.question.specs.declared.Question.{Question}
 use Rattle.sheet.specs.Tasks.{taskOf}
 use Rattle.sheet.specs.Sheet.{replied, answerTo, roomy, questionTo, sheetFrom, sheetOf}
 use Rattle.feeds.specs.Feeds.{MolesAlike, MassAsMoles}
-use Rattle.feeds.proofs.Moles.{question-alike, count-alike, behind, book-alike}
+use Rattle.feeds.proofs.Moles.{question-alike, count-alike, rule-alike, behind, book-alike}
 use Rattle.feeds.proofs.Mass.{question-mass}
 
 pub moles-alike : MolesAlike
-unfolding ruleOf headIn answerTo sheetFrom sheetOf
+unfolding headIn answerTo sheetFrom sheetOf
 moles-alike s t question room a p e =
     let n = words t 0 2 in
     let v = words t 0 1 in
     book-alike s t a _ _ p
     (ap (λ (k : ℕ). sheetFrom s (words s 0 1) k question room) (count-alike s t a)
     ∙ ap (λ (o : Out Question). roomy room (bind o (answerTo s n))) (question-alike (ruleOf s) question (words s 0 1) v _ (molarMass (words t)) n e)
+    ∙ ap (λ (rule : Rule). roomy room (bind (questionOf rule question v (molarMass (words t)) n) (λ x. replied rule (x .task) (taskOf (mixtureOf s n) x)))) (rule-alike s t a)
     ∙ ap (λ (m : Mixture). roomy room (bind (questionTo t v n question) (λ x. replied (ruleOf t) (x .task) (taskOf m x)))) (mixture-unread s t n (behind s t a n)))
 
 masses : (book : List ℕ) (h : Head) → headIn (words book 0) ≡ h → hasMasses (h .version) ≡ true → massesRight (words book) (headIn (words book 0)) ≡ true

@@ -9,8 +9,8 @@ use Rattle.floats.specs.Small.{isFinite, positive}
 use Rattle.floats.specs.Fold.{allTo}
 use Rattle.floats.specs.Outcome.{Out, ok, no, bind, need}
 use Rattle.book.specs.Places.{rowFrom}
-use Rattle.book.specs.Book.{floatsFinite, headRight, solventRight, rangeRight, recordRight, recordsRight, massesRight, casNew, pairRight, rowRight, boundsFinite, pairFinite, alphasEqual}
-use Rattle.book.specs.Book.{headIn, pairsOf, solventsOf, headOf, ruleOf, bookOf}
+use Rattle.book.specs.Book.{floatsFinite, versionRight, headRight, solventRight, rangeRight, recordRight, recordsRight, massesRight, casNew, pairRight, rowRight, boundsFinite, pairFinite, alphasEqual}
+use Rattle.book.specs.Book.{headIn, pairsOf, solventsOf, headOf, ruleIn, ruleOf, bookOf}
 use Rattle.book.specs.declared.Head.{Head}
 use Rattle.replies.specs.Blocks.{answerRoom}
 use Rattle.sheet.specs.Sheet.{sheetFrom, sheetOf}
@@ -38,6 +38,6 @@ pub record BooksOpened : Type 0 where
   pub weightless : bookOf (book2-weighed ½ 0) ≡ no 35
 
 pub opened : BooksOpened
-unfolding ofBits lt le eq size word block checkSum sumBy checkRight bytes rowTo blockBytes isFinite positive allTo need rowFrom floatsFinite headRight solventRight rangeRight
-    recordRight recordsRight massesRight casNew pairRight rowRight boundsFinite pairFinite alphasEqual headIn pairsOf solventsOf headOf ruleOf bookOf
+unfolding ofBits lt le eq size word block checkSum sumBy checkRight bytes rowTo blockBytes isFinite positive allTo need rowFrom floatsFinite versionRight headRight solventRight rangeRight
+    recordRight recordsRight massesRight casNew pairRight rowRight boundsFinite pairFinite alphasEqual headIn pairsOf solventsOf headOf ruleIn ruleOf bookOf
 opened = record { solvents1 = refl; solvents2 = refl; solvents3 = refl; wide = refl; weighed = refl; weightless = refl }
