@@ -2,4 +2,6 @@
 pub mod Places
 pub mod Sums
 pub mod Theorem
+pub mod Smallest
 pub mod Plain
+pub mod Running

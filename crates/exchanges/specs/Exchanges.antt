@@ -6,9 +6,10 @@ use mathlib.Core.Bool.{true}
 use mathlib.Core.List.{List, _++_}
 use lib.ListN.{length, take, drop}
 use Rattle.floats.specs.Fold.{allTo}
-use Rattle.floats.specs.Outcome.{Out, no}
+use Rattle.floats.specs.Outcome.{Out, ok, no}
 use Rattle.blocks.specs.Words.{Bytes, checkRight}
 use Rattle.blocks.specs.Bytes.{put}
+use Rattle.book.specs.declared.Head.{Head}
 use Rattle.book.specs.Places.{words, blockCount}
 use Rattle.book.specs.Book.{versionRight, headRight, wholeBlocks, ruleOf, bookOf}
 
@@ -33,3 +34,15 @@ abbrev pub Exchanges : ℕ → Type 0
 Exchanges version =
     (s : List ℕ) (j k : ℕ) → Passes version s → j < length s / 512 → k < 62 → words s j k ≢ words s j (k + 1)
     → (r : ℕ) × (bookOf (exchange s j k) ≡ no r)
+
+-- a book of that version that is accepted, and refused by its checks once two unequal neighbours are exchanged
+pub record Catches (version : ℕ) : Type 0 where
+  pub book : List ℕ
+  pub j : ℕ
+  pub k : ℕ
+  pub passes : Passes version book
+  pub taken : (h : Head) × (bookOf book ≡ ok h)
+  pub there : j < length book / 512
+  pub among : k < 62
+  pub unequal : words book j k ≢ words book j (k + 1)
+  pub refused : bookOf (exchange book j k) ≡ no 2
