@@ -151,12 +151,22 @@ fn lanes_sum(a0: u64, a1: u64, a2: u64, t0: u64, t1: u64, t2: u64, t3: u64) -> u
     std::num::wrapping_add_u64(std::num::wrapping_add_u64(twice, twice), ends)
 }
 
-// Word k counts 63 - k times, which is 4 (15 - r) + (3 - c) for k = 4 r + c. So each of four lanes, c, keeps its sum a
-// and the sum t of what a was before each row, and no row waits for the one word before.
-fn running_whole(s: &[u8]) -> u64
-    requires { ⌜ 512 ≤ length (now s) ⌝ }
-    ensures { λ r. ⌜ r ≡ runningSum (word (now (s .entry))) 63 ⌝ }
+// The rows of four words that a slice has, at most a block's sixteen.
+fn row_count(s: &[u8]) -> usize
+    ensures { λ r. ⌜ (r ≤ 16) × (32 * r ≤ length (now (s .entry))) × (512 ≤ length (now (s .entry)) → 16 ≤ r) ⌝ }
 {
+    let n = s.len() / 32;
+    if n < 16 { n } else { 16 }
+}
+
+// Word k counts 63 - k times, which is 4 (15 - r) + (3 - c) for k = 4 r + c. So each of four lanes, c, keeps its sum a
+// and the sum t of what a was before each row, and no row waits for the one word before. The rows go by the slice, and
+// its length is tested after them: a count of 16 would have the compiler take the loop apart before it puts two lanes
+// to a step, and the sum would take twice as long.
+fn running_rows(s: &[u8]) -> u64
+    ensures { λ r. ⌜ (512 ≤ length (now (s .entry)) → r ≡ runningSum (word (now (s .entry))) 63) ⌝ }
+{
+    let rows = row_count(s);
     let mut a0: u64 = 0;
     let mut a1: u64 = 0;
     let mut a2: u64 = 0;
@@ -165,7 +175,7 @@ fn running_whole(s: &[u8]) -> u64
     let mut t1: u64 = 0;
     let mut t2: u64 = 0;
     let mut t3: u64 = 0;
-    for r in 0usize..16 {
+    for r in 0usize..rows {
         t0 = std::num::wrapping_add_u64(t0, a0);
         t1 = std::num::wrapping_add_u64(t1, a1);
         t2 = std::num::wrapping_add_u64(t2, a2);
@@ -194,8 +204,9 @@ fn running_short(s: &[u8]) -> u64
 fn running_sum(s: &[u8]) -> u64
     ensures { λ r. ⌜ r ≡ runningSum (word (now (s .entry))) 63 ⌝ }
 {
+    let sum = running_rows(s);
     if 512 <= s.len() {
-        running_whole(s)
+        sum
     } else {
         running_short(s)
     }

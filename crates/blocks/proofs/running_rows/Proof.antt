@@ -1,17 +1,20 @@
--- `blocks::running_whole` meets its contract. The invariant: the eight sums after r rows. Assumes nothing.
+-- `blocks::running_rows` meets its contract. The invariant: the eight sums after r rows. Assumes nothing.
 use Prim.Native.Nat.{_-_}
 use native.Mathlib.Omega.{arith}
 use borrow.Author.Needs.{needs}
 use Rattle.blocks.specs.Words.{word}
 use Rattle.blocks.proofs.Running.{Lanes, lanes-start, lane-turn, late-turn, row-word, lanes-sum}
-use Rattle.blocks.proofs.running_whole.Statement.{statement}
-use Rattle.blocks.proofs.running_whole.Tie as tie
+use Rattle.blocks.proofs.running_rows.Statement.{statement}
+use Rattle.blocks.proofs.running_rows.Tie as tie
 
 abbrev Inv-loop : tie.InvT-loop
-Inv-loop s a0₀ a1₀ a2₀ a3₀ t0₀ t1₀ t2₀ t3₀ r₀ a0 a1 a2 a3 t0 t1 t2 t3 r = Lanes (word s) a0 a1 a2 a3 t0 t1 t2 t3 r
+Inv-loop s rows a0₀ a1₀ a2₀ a3₀ t0₀ t1₀ t2₀ t3₀ r₀ a0 a1 a2 a3 t0 t1 t2 t3 r = Lanes (word s) a0 a1 a2 a3 t0 t1 t2 t3 r
 
 abbrev μ-loop : tie.MeasureT-loop
-μ-loop s a0₀ a1₀ a2₀ a3₀ t0₀ t1₀ t2₀ t3₀ r₀ a0 a1 a2 a3 t0 t1 t2 t3 r = 16 - r
+μ-loop s rows a0₀ a1₀ a2₀ a3₀ t0₀ t1₀ t2₀ t3₀ r₀ a0 a1 a2 a3 t0 t1 t2 t3 r = rows - r
+
+row-count-requires : tie.Need-row-count-requires Inv-loop μ-loop
+row-count-requires c κs = search needs
 
 loop-holds : tie.Need-loop-holds Inv-loop μ-loop
 loop-holds c = lanes-start _
@@ -97,14 +100,15 @@ lanes-sum-requires : tie.Need-lanes-sum-requires Inv-loop μ-loop
 lanes-sum-requires c κs = search needs
 
 returns : tie.Need-returns Inv-loop μ-loop
-returns c = lanes-sum _ (c .before .before .loop .inv) (omega arith) (c .lanes-sum .ensures)
+returns c = λ h. lanes-sum _ (c .before .before .loop .inv) (omega (arith, c .before .before .before .row-count .ensures .2 h)) (c .lanes-sum .ensures)
 
-pub running-whole-spec : {M : Type 1} → statement M
-running-whole-spec =
+pub running-rows-spec : {M : Type 1} → statement M
+running-rows-spec =
     tie.close
     (tie.spec
     Inv-loop
     μ-loop
+    row-count-requires
     loop-holds
     wrapping-add-u64-requires
     wrapping-add-u64-requires-2
