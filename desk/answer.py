@@ -3,7 +3,7 @@
 from dataclasses import dataclass
 from typing import List, Tuple
 
-from .blocks import BLOCK, Words, check_right, float_of, split
+from .blocks import BLOCK, Rule, Words, check_right, float_of, split
 from .book import MOST_SOLVENTS
 from .errors import DeskError
 from .tasks import Task
@@ -57,10 +57,11 @@ def phases(task: Task, blocks: Blocks) -> Tuple[bool, bool]:
     return outcome != VAPOR_ONLY, outcome != LIQUID_ONLY
 
 
-def read(content: bytes) -> Blocks:
-    """The program's output, taken only if it is whole: one answer block and as many trials as it counts."""
+def read(content: bytes, rule: Rule = Rule.PLAIN) -> Blocks:
+    """The program's output, taken only if it is whole: one answer block and as many trials as it counts, checked by the
+    book's rule."""
     blocks = split(content)
-    if not blocks or len(content) % BLOCK or not all(map(check_right, blocks)):
+    if not blocks or len(content) % BLOCK or not all(check_right(words, rule) for words in blocks):
         raise DeskError(f"the program still wrote {len(content)} bytes that are no blocks of an answer")
     head, trials = blocks[0], tuple(blocks[1:])
     kinds = [words[0] for words in blocks]

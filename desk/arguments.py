@@ -323,8 +323,9 @@ def _add_book(commands) -> None:
     )
     command.add_argument(
         "--book-version",
-        choices=("1", "2"),
-        help="2 has molar masses, 1 has none, for a desk that knows no other (default: 2 where the text has them all)",
+        choices=("1", "2", "3"),
+        help="for a desk that knows no later one: 1 has no molar masses, 2 has them, 3 finds exchanged words too "
+        "(default: 3 where the text has every molar mass, else 1)",
     )
 
 

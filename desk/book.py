@@ -8,7 +8,8 @@ from .errors import DeskError
 
 MOST_SOLVENTS = 8
 MOST_TERMS = 8
-VERSION, MASS_VERSION = 1, 2  # without molar masses, and with them
+VERSION, MASS_VERSION, RUNNING_VERSION = 1, 2, 3  # without molar masses, with them, and with running sums as checks
+VERSIONS = (VERSION, MASS_VERSION, RUNNING_VERSION)
 KIND_HEAD, KIND_SOLVENT, KIND_PAIR = 1, 2, 3
 
 # first word of a solvent's two records, and the places in a record
@@ -70,7 +71,7 @@ class Book:
     @property
     def version(self) -> int:
         """The latest that it has the numbers for: molar masses stand in a book of all of them or of none."""
-        return VERSION if any(solvent.molar_mass is None for solvent in self.solvents) else MASS_VERSION
+        return VERSION if any(solvent.molar_mass is None for solvent in self.solvents) else RUNNING_VERSION
 
 
 def due_pairs(n: int) -> List[Tuple[int, int]]:
@@ -119,12 +120,19 @@ def solvent_count(content: bytes) -> int:
     blocks = split(content)
     if not blocks or len(content) % BLOCK:
         raise DeskError(f"it has {len(content)} bytes, and a book is whole blocks of {BLOCK}")
-    n = blocks[0][2]
-    if blocks[0][0] != KIND_HEAD or blocks[0][1] not in (VERSION, MASS_VERSION) or not 1 <= n <= MOST_SOLVENTS:
-        raise DeskError("its first block is not that of a book of version 1 or 2 with 1 to 8 solvents")
+    kind, version, n = blocks[0][:3]
+    if kind == KIND_HEAD and version not in VERSIONS:
+        raise DeskError(f"its first block gives version {version}, and this desk knows 1 to 3; or the block is damaged")
+    if kind != KIND_HEAD or not 1 <= n <= MOST_SOLVENTS:
+        raise DeskError("its first block is not that of a book with 1 to 8 solvents")
     if len(blocks) != block_count(n):
         raise DeskError(f"it has {len(blocks)} blocks, and a book of {n} solvents has {block_count(n)}")
     return n
+
+
+def version_of(content: bytes) -> int:
+    solvent_count(content)
+    return split(content)[0][1]
 
 
 def cas_numbers(content: bytes) -> List[int]:
@@ -135,8 +143,9 @@ def cas_numbers(content: bytes) -> List[int]:
 def molar_masses(content: bytes) -> Optional[Tuple[float, ...]]:
     """In kg/mol, as they stand there; None of a book that has none."""
     n = solvent_count(content)
-    head, *blocks = split(content)
-    return None if head[1] == VERSION else tuple(float_of(words[MOLAR_MASS]) for words in blocks[:n])
+    if version_of(content) == VERSION:
+        return None
+    return tuple(float_of(words[MOLAR_MASS]) for words in split(content)[1 : 1 + n])
 
 
 def decode(content: bytes) -> Book:

@@ -11,7 +11,7 @@ from . import (
 )
 from . import tasks, text, units, yardcheck
 from .arguments import commands_of, options_of, parser
-from .book import MASS_VERSION, encode
+from .book import VERSION, encode
 from .errors import DeskError, quoted, suggestion
 from .feed import Feed
 from .judgement import judged
@@ -215,9 +215,9 @@ def make_book(arguments: argparse.Namespace) -> int:
 
 def _book_version(asked: Optional[str], yard: Yard) -> int:
     """The one asked for, or the latest that the text has the numbers for."""
-    if asked == str(MASS_VERSION) and yard.lacking:
+    if asked and asked != str(VERSION) and yard.lacking:
         raise DeskError(
-            "--book-version: version 2 needs the molar mass of every solvent, and the text lacks that of "
+            f"--book-version: version {asked} needs the molar mass of every solvent, and the text lacks that of "
             + ", ".join(yard.lacking)
         )
     return int(asked) if asked else yard.book.version

@@ -8,6 +8,7 @@ from pathlib import Path
 from typing import Dict
 
 from . import answer
+from .blocks import rule_of
 from .errors import DeskError
 from .question import Question
 
@@ -26,6 +27,7 @@ class Core:
         if not os.access(program, os.X_OK) or program.is_dir():
             raise DeskError(f"the program {program} is not there; ./sheet demo builds it (rt check still)")
         self.program = program.resolve()
+        self.rule = rule_of(book)
         self._folder = tempfile.TemporaryDirectory(prefix="sheet-")
         self._answers: Dict[bytes, answer.Blocks] = {}
         (Path(self._folder.name) / BOOK_NAME).write_bytes(book)
@@ -37,11 +39,11 @@ class Core:
         self._folder.cleanup()
 
     def ask(self, question: Question) -> answer.Blocks:
-        return self.ask_block(question.block())
+        return self.ask_block(question.block(self.rule))
 
     def ask_block(self, block: bytes) -> answer.Blocks:
         if block not in self._answers:
-            self._answers[block] = answer.read(self._written(block))
+            self._answers[block] = answer.read(self._written(block), self.rule)
         return self._answers[block]
 
     def _written(self, block: bytes) -> bytes:

@@ -6,7 +6,7 @@ from pathlib import Path
 from typing import Callable, Optional
 
 from . import answer
-from .blocks import BLOCK, sealed, words_of
+from .blocks import BLOCK, rule_of, sealed, words_of
 from .core import ROOT
 from .errors import DeskError
 from .question import Question
@@ -16,7 +16,7 @@ FOLDER = ROOT / "target" / "staticlib"
 ANSWER_ROOM = 9 * BLOCK
 # as much as the program reads: one block more than any book has, one byte more than a question
 BOOK_MOST, QUESTION_MOST = 38 * BLOCK, BLOCK + 1
-WITHOUT_TASK = (*range(1, 13), 35)  # refusals that are found before the task is known
+WITHOUT_TASK = (*range(1, 13), 35, 38)  # refusals that are found before the task is known
 
 
 def folder() -> Path:
@@ -38,6 +38,7 @@ class Library:
         if self.path is None:
             raise DeskError(f"the library {folder() / NAME} is not there; scripts/shared-library builds it")
         self._book = book[:BOOK_MOST]
+        self.rule = rule_of(self._book)
         self._call = _loaded(self.path)
 
     def __enter__(self) -> "Library":
@@ -47,10 +48,10 @@ class Library:
         pass
 
     def ask(self, question: Question) -> answer.Blocks:
-        return self.ask_block(question.block())
+        return self.ask_block(question.block(self.rule))
 
     def ask_block(self, block: bytes) -> answer.Blocks:
-        return answer.read(self.ask_bytes(block))
+        return answer.read(self.ask_bytes(block), self.rule)
 
     def ask_bytes(self, block: bytes) -> bytes:
         """What the program `still` writes: the answer's blocks, or one block with the refusal's number."""
@@ -59,7 +60,7 @@ class Library:
         number = self._call(self._book, len(self._book), asked, len(asked), room, ANSWER_ROOM)
         if number:
             task = 0 if number in WITHOUT_TASK else words_of(asked)[answer.TASK]
-            return sealed([answer.KIND_ANSWER, task, number])
+            return sealed([answer.KIND_ANSWER, task, number], self.rule)
         trials = int.from_bytes(room[8 * answer.TRIALS : 8 * answer.TRIALS + 8], "little")
         return room[: BLOCK * (1 + trials)]
 

@@ -5,7 +5,7 @@ from typing import Any, Callable, Dict, List, NamedTuple, Optional, Tuple
 
 from . import core, files, units
 from .blocks import BLOCK
-from .book import cas_numbers, common_range, decode, encode
+from .book import cas_numbers, common_range, decode, encode, version_of
 from .errors import DeskError, quoted, suggestion
 from .feed import Feed, Fractions, normalized
 from .question import Options
@@ -44,7 +44,8 @@ def open_yard(path: str) -> Yard:
     if not is_binary(content):
         return yard_of(path, content)
     book = _located(path, decode, content)
-    return Yard(tuple(f"cas-{units.cas_text(solvent.cas)}" for solvent in book.solvents), book)
+    names = tuple(f"cas-{units.cas_text(solvent.cas)}" for solvent in book.solvents)
+    return Yard(names, book, version=version_of(content))
 
 
 def is_binary(content: bytes) -> bool:

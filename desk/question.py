@@ -3,7 +3,7 @@
 from dataclasses import dataclass, field
 from typing import Optional, Tuple
 
-from .blocks import CHECK, Words, bits_of, put_floats, sealed
+from .blocks import CHECK, Rule, Words, bits_of, put_floats, sealed
 from .book import MOST_SOLVENTS
 from .tasks import Task
 
@@ -58,8 +58,9 @@ class Question:
         words[TM_THRESHOLD] = bits_of(options.tm_threshold)
         put_floats(words, BRACKET, options.bracket)
 
-    def block(self) -> bytes:
-        return sealed(self.words())
+    def block(self, rule: Rule = Rule.PLAIN) -> bytes:
+        """Checked by the rule of the book that is asked about."""
+        return sealed(self.words(), rule)
 
 
 def eight(values: Tuple[float, ...]) -> Tuple[float, ...]:

@@ -17,10 +17,12 @@ class Refusal:
 
 REFUSALS: Dict[int, Refusal] = {
     1: Refusal("the book is empty or not made of whole blocks of 512 bytes", MAKE_AGAIN),
-    2: Refusal("a block of the book has a wrong check word", f"the file was damaged; {MAKE_AGAIN}"),
+    2: Refusal(
+        "a block of the book has a wrong check word: words were changed, or, in a book of version 3, exchanged",
+        f"the file was damaged; {MAKE_AGAIN}, in version 3, since versions 1 and 2 don't show two exchanged words",
+    ),
     3: Refusal(
-        "the head of the book is wrong: kind 1, version 1 or 2, 1 to 8 solvents, and as many blocks as these need",
-        MAKE_AGAIN,
+        "the head of the book is wrong: kind 1, 1 to 8 solvents, and as many blocks as these need", MAKE_AGAIN
     ),
     4: Refusal("a solvent block is wrong: its kind, its place, a CAS number of 0, or not 1 to 8 terms", MAKE_AGAIN),
     5: Refusal(
@@ -38,7 +40,7 @@ REFUSALS: Dict[int, Refusal] = {
     ),
     11: Refusal(
         "the question is not one block of 512 bytes with kind 8 and the right check word",
-        "this can't come from ./sheet; look at what wrote the question",
+        "this can't come from ./sheet; look at what wrote the question, whose check goes by the book's version",
     ),
     12: Refusal("the task is not one of those that the core answers", "ask one of the nine commands"),
     13: Refusal("the temperature is not finite and positive", "give a temperature above 0 K"),
@@ -107,6 +109,10 @@ REFUSALS: Dict[int, Refusal] = {
         "the fractions are neither of moles nor of mass, or they are of mass and the book has no molar masses",
         "add 'molar mass = ... g/mol' to every solvent of the yard text and make the book again, or ask by moles",
     ),
+    38: Refusal(
+        "the book's version is none of 1 to 3: it is not a book that this desk knows, or its first block is damaged",
+        f"{MAKE_AGAIN}; a newer desk makes one for this one with --book-version 3",
+    ),
 }
 
 UNKNOWN = Refusal("a number that this tool doesn't know", "look into docs/FORMAT.md of the core's version")
@@ -117,7 +123,8 @@ def numbers() -> str:
     known = sorted(REFUSALS)
     firsts = [number for number in known if number - 1 not in REFUSALS]
     lasts = [number for number in known if number + 1 not in REFUSALS]
-    return " and ".join(f"{first} to {last}" if first < last else f"{first}" for first, last in zip(firsts, lasts))
+    *all_but_one, last = [f"{a} to {b}" if a < b else f"{a}" for a, b in zip(firsts, lasts)]
+    return f"{', '.join(all_but_one)} and {last}"
 
 
 def matter(number: int) -> str:

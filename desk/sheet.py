@@ -18,7 +18,7 @@ if TYPE_CHECKING:  # both need the names below
 
 DEFAULT_BOOK = "yard/yard.txt"  # from the root of the repository
 SHORT = 12  # hex digits of a checksum that are enough to tell two books apart
-UNCONVERTED = (*range(1, 19), 35, 36)  # refusals that stand ahead of the conversion of a feed by mass
+UNCONVERTED = (*range(1, 19), 35, 36, 38)  # refusals that stand ahead of the conversion of a feed by mass
 DATE_SETTING = "SOURCE_DATE_EPOCH"  # seconds since 1970; fixes the date (UTC), as reproducible builds have it
 
 

@@ -7,7 +7,7 @@ from .yard import Yard
 
 def listing(yard: Yard) -> str:
     n = len(yard.names)
-    lines = [f"{text.counted(n, 'solvent')}, a book of version {yard.book.version}"] + _solvents(yard)
+    lines = [f"{text.counted(n, 'solvent')}, a book of version {yard.version or yard.book.version}"] + _solvents(yard)
     pairs = [(yard.names[i], yard.names[j], pair) for (i, j), pair in zip(due_pairs(n), yard.book.pairs)]
     if pairs:
         lines += (

@@ -6,7 +6,7 @@ from typing import List, NamedTuple, Sequence, Tuple
 
 from . import question as places
 from .answer import LIQUID, TRIAL_COMPONENT, TRIAL_FRACTIONS, TRIALS, VAPOR, Blocks
-from .blocks import Words, float_of, joined, sealed, split
+from .blocks import Rule, Words, float_of, joined, sealed, split
 from .book import due_pairs
 
 
@@ -29,13 +29,13 @@ def shorter_book(content: bytes, kept: List[int]) -> bytes:
     return joined([head] + solvents + pairs)
 
 
-def shorter_question(words: Words, kept: List[int]) -> bytes:
+def shorter_question(words: Words, kept: List[int], rule: Rule) -> bytes:
     """The kept fractions and K move up to the front; what stands behind them is left."""
     shorter = list(words)
     for at in (places.FRACTIONS, places.K_VALUES):
         for place, i in enumerate(kept):
             shorter[at + place] = words[at + i]
-    return sealed(shorter)
+    return sealed(shorter, rule)
 
 
 class Compared(NamedTuple):

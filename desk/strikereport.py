@@ -35,7 +35,7 @@ def struck(sheet: Sheet, program: Path) -> Struck:
         return Struck(names, before, before, None, "The sheet was refused, and the promise speaks of accepted sheets.")
     book = shorter_book(sheet.book.content, kept)
     with Core(book, program) as core:
-        shorter = core.ask_block(shorter_question(sheet.question.words(), kept))
+        shorter = core.ask_block(shorter_question(sheet.question.words(), kept, core.rule))
     groups = [_acceptance(shorter.refusal)]
     if shorter.accepted:
         groups += compare(sheet.blocks, shorter, kept)

@@ -1,7 +1,7 @@
 """A yard: a book with the names of its solvents, and what its text says besides."""
 
 from dataclasses import dataclass, field
-from typing import Dict, List, Tuple
+from typing import Dict, List, Optional, Tuple
 
 from .book import Book
 
@@ -47,6 +47,7 @@ class Yard:
     mixtures: Dict[Tuple[str, str], List[MixtureCheck]] = field(default_factory=dict)
     heteroazeotropes: Dict[Tuple[str, str], MixtureCheck] = field(default_factory=dict)  # the fraction is the vapor's
     solubilities: Dict[Tuple[str, str], List[SolubilityCheck]] = field(default_factory=dict)
+    version: Optional[int] = None  # of the book.bin that it came from
 
     @property
     def lacking(self) -> Tuple[str, ...]:

@@ -4,8 +4,10 @@
  * The core as a C program calls it: a book, a question and room for an answer in, the answer's blocks or a number out.
  * docs/FORMAT.md says what each word holds, docs/LINKING.md has the commands. Link with libzektonk.a, for x86-64 Linux.
  *
- * A block is 512 bytes: 64 little-endian words of 64 bits, a float as its bits. Word 63 is the sum of words 0 to 62
- * modulo 2^64.
+ * A block is 512 bytes: 64 little-endian words of 64 bits, a float as its bits. Word 63 is the check of words 0 to 62,
+ * modulo 2^64: with a book of version 1 or 2 their sum; with one of version 3 the sum of the running sums after word 0,
+ * after word 1 and on to word 62, in which two exchanged neighbours show. Book, question and answer go by the book's
+ * version. zektonk_check computes it, zektonk_seal_by puts it.
  */
 #ifndef ZEKTONK_H
 #define ZEKTONK_H
@@ -36,7 +38,8 @@ extern "C" {
 #define ZEKTONK_SOLVENTS_MOST 8  /* of a book, and so entries of a row: fractions, K, liquid, vapor */
 #define ZEKTONK_TERMS_MOST 8     /* of a correlation */
 #define ZEKTONK_FORMAT_VERSION 1 /* word 1 of block 0 of a book without molar masses, */
-#define ZEKTONK_FORMAT_VERSION_MASS 2 /* and of a book with them, which takes feeds by mass too */
+#define ZEKTONK_FORMAT_VERSION_MASS 2 /* of a book with them, which takes feeds by mass too, */
+#define ZEKTONK_FORMAT_VERSION_RUNNING 3 /* and of one whose checks are running sums besides */
 
 /* Options that suit most questions. */
 #define ZEKTONK_DEFAULT_MAX_ITERATIONS 500
@@ -81,7 +84,7 @@ enum zektonk_solvent_word {
     ZEKTONK_SOLVENT_WORD_DENSITY_TERMS = 28,
     ZEKTONK_SOLVENT_WORD_DENSITY_N = 29,        /* 8 words */
     ZEKTONK_SOLVENT_WORD_DENSITY_EXPONENT = 37, /* 8 words */
-    ZEKTONK_SOLVENT_WORD_MOLAR_MASS = 45        /* kg/mol; version 2 */
+    ZEKTONK_SOLVENT_WORD_MOLAR_MASS = 45        /* kg/mol; versions 2 and 3 */
 };
 
 /* Words of a pair. */
@@ -115,7 +118,7 @@ enum zektonk_question_word {
     ZEKTONK_QUESTION_WORD_FEED = 27      /* what the fractions are of */
 };
 
-/* Feeds, word 27 of a question: the fractions in words 4 to 11 are of moles, or of mass with a book of version 2. */
+/* Feeds, word 27 of a question: the fractions in words 4 to 11 are of moles, or of mass (books of version 2 or 3). */
 enum zektonk_feed { ZEKTONK_FEED_MOLES = 0, ZEKTONK_FEED_MASS = 1 };
 
 /* Words of an answer. docs/FORMAT.md has which of them a task fills; the others are 0. */
@@ -183,14 +186,14 @@ enum zektonk_note {
 enum zektonk_validity { ZEKTONK_UNASSESSED = 0, ZEKTONK_WITHIN = 1, ZEKTONK_EXTRAPOLATED = 2 };
 
 /*
- * The first question that was answered no: 1 to 21 in this order, with 35 after 5, 36 after 12 and, of a feed by mass,
- * 34 after 18; the others, and 15 to 18 and 34 once more, where the calculation puts them.
+ * The first question that was answered no: 1 to 21 in this order, with 38 between 1 and 2, 35 after 5, 36 after 12 and,
+ * of a feed by mass, 34 after 18; the others, and 15 to 18 and 34 once more, where the calculation puts them.
  */
 enum zektonk_refusal {
     ZEKTONK_ANSWERED = 0,
     ZEKTONK_BOOK_LENGTH = 1,              /* no whole blocks, or none */
-    ZEKTONK_BOOK_CHECK = 2,               /* a block's word 63 */
-    ZEKTONK_BOOK_HEAD = 3,                /* kind, version 1 or 2, n of 1 to 8, or the number of blocks */
+    ZEKTONK_BOOK_CHECK = 2,               /* a block's word 63, by the version */
+    ZEKTONK_BOOK_HEAD = 3,                /* kind, n of 1 to 8, or the number of blocks */
     ZEKTONK_SOLVENT_BLOCK = 4,            /* kind, index, CAS number 0, or a term count not of 1 to 8 */
     ZEKTONK_SOLVENT_NUMBER = 5,           /* not finite, not 0 < low <= high < t_r, or a reducing value not positive */
     ZEKTONK_SOLVENT_TWICE = 6,            /* one CAS number for two solvents */
@@ -198,7 +201,7 @@ enum zektonk_refusal {
     ZEKTONK_PAIR_NUMBER = 8,              /* a float not finite */
     ZEKTONK_PAIR_ALPHAS = 9,              /* alpha_ij and alpha_ji differ */
     ZEKTONK_ANSWER_SHORT = 10,            /* fewer than ZEKTONK_ANSWER_ROOM bytes */
-    ZEKTONK_QUESTION_BLOCK = 11,          /* not 512 bytes, its check, or its kind */
+    ZEKTONK_QUESTION_BLOCK = 11,          /* not 512 bytes, its check by the book's version, or its kind */
     ZEKTONK_TASK = 12,                    /* none of 1 to 9 */
     ZEKTONK_TEMPERATURE = 13,             /* not finite and positive */
     ZEKTONK_PRESSURE = 14,                /* not finite and positive */
@@ -220,8 +223,9 @@ enum zektonk_refusal {
     ZEKTONK_VAPOR_FRACTION_OUTSIDE = 30,  /* of (0,1) */
     ZEKTONK_NOT_NORMALIZABLE = 34,        /* the sum of a composition's parts is not finite and positive; of a feed by
                                              mass too */
-    ZEKTONK_MOLAR_MASS = 35,              /* not finite and positive, in a book of version 2 */
-    ZEKTONK_FEED_KIND = 36                /* neither moles nor mass, or mass with a book of version 1 */
+    ZEKTONK_MOLAR_MASS = 35,              /* not finite and positive, in a book of version 2 or 3 */
+    ZEKTONK_FEED_KIND = 36,               /* neither moles nor mass, or mass with a book of version 1 */
+    ZEKTONK_BOOK_VERSION = 38             /* block 0 has kind 1 and a version other than 1 to 3 */
 };
 
 /*
@@ -279,13 +283,27 @@ static inline void zektonk_put_floats(uint8_t *block, size_t at, const double *v
         zektonk_put_float(block, at + k, values[k]);
 }
 
-/* Puts the check of a block, once its words are there. */
+/* The check of a block's words 0 to 62, in a call with a book of this version; unsigned sums are modulo 2^64. */
+static inline uint64_t zektonk_check(const uint8_t *block, uint64_t version)
+{
+    uint64_t sum = 0, running = 0;
+    for (size_t at = 0; at < ZEKTONK_WORD_CHECK; at++) {
+        sum += zektonk_get_word(block, at);
+        running += sum;
+    }
+    return version == ZEKTONK_FORMAT_VERSION_RUNNING ? running : sum;
+}
+
+/* Puts the check of a block, once its words are there: of a book of this version, or of a question to it. */
+static inline void zektonk_seal_by(uint8_t *block, uint64_t version)
+{
+    zektonk_put_word(block, ZEKTONK_WORD_CHECK, zektonk_check(block, version));
+}
+
+/* The same for books of version 1 and 2. */
 static inline void zektonk_seal(uint8_t *block)
 {
-    uint64_t sum = 0;
-    for (size_t at = 0; at < ZEKTONK_WORD_CHECK; at++)
-        sum += zektonk_get_word(block, at);
-    zektonk_put_word(block, ZEKTONK_WORD_CHECK, sum);
+    zektonk_seal_by(block, ZEKTONK_FORMAT_VERSION);
 }
 
 /* How many blocks a book of n solvents has. */

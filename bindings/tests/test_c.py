@@ -4,8 +4,9 @@ import dataclasses
 import os
 import shutil
 
+import desk
 from nine import NINE
-from support import C, HEADER, STILL, WARNINGS, InFolder
+from support import C, HEADER, ROOT, STILL, WARNINGS, InFolder
 
 BOOK = STILL / "data" / "book.bin"
 QUESTION = STILL / "stdin"
@@ -59,6 +60,47 @@ class Examples(InFolder):
         if shutil.which("c++"):
             for standard in ("c++11", "c++17"):
                 self.run_in_folder("c++", f"-std={standard}", *strict, "-Wold-style-cast", "-x", "c++", HEADER)
+
+
+CHECKED = """#include <inttypes.h>
+#include <stdio.h>
+#include <stdlib.h>
+#include "zektonk.h"
+
+/* Reads a book and a question, gives each block its check by the version, asks, and prints what comes. */
+int main(int argc, char **argv)
+{
+    static uint8_t book[ZEKTONK_BOOK_MOST], question[ZEKTONK_QUESTION], answer[ZEKTONK_ANSWER_ROOM];
+    uint64_t version = strtoull(argv[argc - 3], NULL, 10);
+    FILE *books = fopen(argv[argc - 2], "rb"), *questions = fopen(argv[argc - 1], "rb");
+    size_t length = fread(book, 1, sizeof book, books);
+    if (fread(question, 1, sizeof question, questions) != sizeof question)
+        return 2;
+    zektonk_put_word(book, ZEKTONK_BOOK_WORD_VERSION, version);
+    for (size_t at = 0; at < length; at += ZEKTONK_BLOCK)
+        zektonk_seal_by(book + at, version);
+    zektonk_seal_by(question, version);
+    uint64_t number = zektonk_answer(book, length, question, sizeof question, answer, sizeof answer);
+    printf("%" PRIu64 " %" PRIu64 "\\n", zektonk_get_word(book, ZEKTONK_WORD_CHECK), number);
+    return number == 0 && zektonk_get_word(answer, ZEKTONK_WORD_CHECK) != zektonk_check(answer, version);
+}
+"""
+
+
+class Checks(InFolder):
+    def test_of_each_version(self):
+        """Block 0 has version and 2 solvents behind its kind; 35 is for molar masses that the stored book lacks."""
+        source = self.folder / "checked.c"
+        source.write_text(CHECKED, encoding="ascii")
+        program = self.compiled(source, "-lm")
+        weighed = self.folder / "weighed"
+        weighed.write_bytes(desk.encode(desk.open_yard(str(ROOT / "yard" / "sample.txt")).book, 2))
+        for version, check, stored, found in (
+            (1, 4, 0, 0), (2, 5, 35, 0), (3, 63 + 62 * 3 + 61 * 2, 35, 0), (4, 7, 38, 38), (0, 3, 38, 38)
+        ):
+            for book, number in ((BOOK, stored), (weighed, found)):
+                run = self.run_in_folder(program, version, book, QUESTION)
+                self.assertEqual(run.stdout.decode("ascii"), f"{check} {number}\n")
 
 
 ROUNDED = """#include <fenv.h>

@@ -11,7 +11,7 @@ from dataclasses import replace
 from unittest import mock
 
 import desk
-from desk.blocks import sealed, split
+from desk.blocks import Rule, rule_of, sealed, split
 from nine import NINE, SAMPLE_BOOK
 from support import LIBRARY, ROOT, STILL, InFolder
 
@@ -54,7 +54,8 @@ class SameAnswers(unittest.TestCase):
         self.assertEqual(self.assert_same(SAMPLE_BOOK, [question.block() for question in NINE.values()]), 0)
 
     def test_drums_of_the_yard(self):
-        refused = self.assert_same(YARD, [question.block() for question in questions(random.Random(1), SOLVENTS)])
+        asked = [question.block(rule_of(YARD)) for question in questions(random.Random(1), SOLVENTS)]
+        refused = self.assert_same(YARD, asked)
         self.assertTrue(COUNT // 10 < refused < COUNT - COUNT // 10, refused)
 
     def test_refused_books_and_questions(self):
@@ -63,7 +64,9 @@ class SameAnswers(unittest.TestCase):
         self.assertEqual(self.assert_same(SAMPLE_BOOK, damaged), len(damaged))
         head = split(SAMPLE_BOOK)[0]
         books = [b"", SAMPLE_BOOK[:-1], SAMPLE_BOOK + bytes(512), SAMPLE_BOOK + sealed([3]), SAMPLE_BOOK * 20]
-        for book in (*books, sealed(head[:1] + [3] + head[2:])):
+        for version in (0, 3, 4):
+            books += [sealed(head[:1] + [version] + head[2:], rule) for rule in Rule]
+        for book in books:
             self.assertEqual(self.assert_same(book, [block]), 1)
 
     def test_refused_by_mass(self):
@@ -77,9 +80,24 @@ class SameAnswers(unittest.TestCase):
         for book, question, number, task in (
             (SAMPLE_BOOK, by_mass, 36, 7), (of(-1.0), NINE[7], 35, 0), (of(5e-324), by_mass, 34, 7)
         ):
-            self.assertEqual(self.assert_same(book, [question.block()]), 1)
+            self.assertEqual(self.assert_same(book, [question.block(rule_of(book))]), 1)
             head = desk.Library(book).ask(question).head
             self.assertEqual((head[desk.answer.REFUSAL], head[desk.answer.TASK]), (number, task))
+
+    def test_versions(self):
+        """Each book's questions by its own rule are answered alike, by the other rule they are 11; 38 has task 0."""
+        sample = desk.open_yard(str(ROOT / "yard" / "sample.txt")).book
+        for version in (1, 2, 3):
+            book = desk.encode(sample, version)
+            self.assertEqual(rule_of(book), Rule.RUNNING if version == 3 else Rule.PLAIN)
+            right = [question.block(rule_of(book)) for question in NINE.values()]
+            wrong = [question.block(rule) for question in NINE.values() for rule in Rule if rule != rule_of(book)]
+            self.assertEqual((self.assert_same(book, right), self.assert_same(book, wrong)), (0, 9))
+            self.assertEqual(desk.Library(book).ask_block(wrong[0]).head[:3], [9, 0, 11])
+            found, due = (desk.Library(content).ask(NINE[7]).head for content in (book, SAMPLE_BOOK))
+            self.assertEqual(found[:63], due[:63])
+        unknown = sealed([1, 4] + split(SAMPLE_BOOK)[0][2:]) + SAMPLE_BOOK[512:]
+        self.assertEqual(desk.Library(unknown).ask(NINE[7]).head[:3], [9, 0, 38])
 
     def test_stored_answer(self):
         found = desk.Library(SAMPLE_BOOK).ask_bytes((STILL / "stdin").read_bytes())

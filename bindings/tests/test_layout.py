@@ -51,6 +51,7 @@ class Definitions(unittest.TestCase):
         check = ANY["CHECK"]
         self.assertIn(f"rowTo (λ k. bytes (w k)) {check} ++ bytes (", body("blockBytes"))
         self.assertRegex(body("checkRight"), rf"^eqb \(.*\) \(w {check}\)$")
+        self.assertIn(f"sumBy Plain w = checkSum w {check} sumBy Running w = runningSum w {check}", stated("sumBy"))
         self.assertIn(f"length s % {macros()['ZEKTONK_BLOCK']}", body("bookOf"))
         self.assertEqual(int(macros()["ZEKTONK_BLOCK"]), 8 * int(macros()["ZEKTONK_WORDS"]))
         self.assertEqual(ANY, {"KIND": 0, "CHECK": WORDS - 1})
@@ -64,11 +65,13 @@ class Definitions(unittest.TestCase):
 
     def test_book(self):
         n, version = BOOK["SOLVENTS"], BOOK["VERSION"]
-        first, last = (macros()[f"ZEKTONK_FORMAT_VERSION{name}"] for name in ("", "_MASS"))
-        self.assertEqual((first, last), ("1", "2"))
-        head = f"eqb (w {ANY['KIND']}) {KIND['BOOK']} && ltb 0 (w {version}) && leb (w {version}) {last}"
-        self.assertEqual(body("headRight"), f"{head} && ltb 0 (w {n}) && leb (w {n}) {MOST}")
-        self.assertEqual(body("hasMasses"), f"leb {last} version")
+        first, mass, last = (macros()[f"ZEKTONK_FORMAT_VERSION{name}"] for name in ("", "_MASS", "_RUNNING"))
+        self.assertEqual((first, mass, last), ("1", "2", "3"))
+        kind = f"eqb (w {ANY['KIND']}) {KIND['BOOK']}"
+        self.assertEqual(body("versionRight"), f"not ({kind}) || (ltb 0 (w {version}) && leb (w {version}) {last})")
+        self.assertEqual(body("headRight"), f"{kind} && ltb 0 (w {n}) && leb (w {n}) {MOST}")
+        self.assertEqual(body("hasMasses"), f"leb {mass} version")
+        self.assertEqual(body("ruleIn"), f"cond ({kind} && eqb (w {version}) {last}) Running Plain")
 
     def test_solvents(self):
         counts = [SOLVENT["VAPOR_TERMS"], SOLVENT["DENSITY_TERMS"]]
@@ -187,7 +190,7 @@ class Definitions(unittest.TestCase):
             self.assertEqual(numbers_of(question), {REFUSAL[name]}, name)
         self.assertEqual({number for _, number in spent()}, {REFUSAL["NOT_CONVERGED"]})
         self.assertEqual(set(REFUSAL) - set(QUESTIONS), {"ANSWERED", "NOT_CONVERGED"})
-        self.assertEqual(sorted(REFUSAL.values()), [*range(31), 34, 35, 36])
+        self.assertEqual(sorted(REFUSAL.values()), [*range(31), 34, 35, 36, 38])
         self.assertIn(f"numberOf (ok bs) = {REFUSAL['ANSWERED']}", stated("sheet::numberOf"))
 
 
@@ -242,6 +245,7 @@ QUESTIONS = {
     "NOT_NORMALIZABLE": r"(?:lt 0f|positive) \(sumTo x n\)",
     "MOLAR_MASS": r"massesRight",
     "FEED_KIND": r"kindRight",
+    "BOOK_VERSION": r"versionRight",
 }
 
 
@@ -285,6 +289,8 @@ class Desk(unittest.TestCase):
         self.assertEqual((book.MOST_SOLVENTS, book.MOST_TERMS), (MOST, TERMS))
         self.assertEqual(str(book.VERSION), macros()["ZEKTONK_FORMAT_VERSION"])
         self.assertEqual(str(book.MASS_VERSION), macros()["ZEKTONK_FORMAT_VERSION_MASS"])
+        self.assertEqual(str(book.RUNNING_VERSION), macros()["ZEKTONK_FORMAT_VERSION_RUNNING"])
+        self.assertEqual(desk.blocks._RUNNING_HEAD, [KIND["BOOK"], book.RUNNING_VERSION])
         self.assertEqual(book.MOLAR_MASS, SOLVENT["MOLAR_MASS"])
         for first, record in ((book.VAPOR_PRESSURE, "VAPOR"), (book.DENSITY, "DENSITY")):
             places = [first, first + book.COUNT, first + book.COEFFICIENTS, first + book.EXPONENTS]

@@ -5,7 +5,8 @@ from dataclasses import replace
 from typing import Iterable, List
 
 from desk import tasks
-from desk.book import MASS_VERSION, Book, Correlation, Interval, Pair, Solvent, due_pairs
+from desk.blocks import Rule
+from desk.book import RUNNING_VERSION, VERSION, Book, Correlation, Interval, Pair, Solvent, due_pairs
 from desk.openbook import open_yard
 from desk.question import Options, Question, eight
 
@@ -82,9 +83,10 @@ def _question(rng: random.Random, task: tasks.Task) -> Question:
     return Question(task, _floats(rng, n), _float(rng), _float(rng), k_values, options)
 
 
-def book_line(book: Book) -> str:
-    with_masses = book.version == MASS_VERSION
-    numbers: List[object] = ["massbook" if with_masses else "book", len(book.solvents)]
+def book_line(book: Book, version: int) -> str:
+    with_masses = version != VERSION
+    numbers: List[object] = ["running"] if version == RUNNING_VERSION else []
+    numbers += ["massbook" if with_masses else "book", len(book.solvents)]
     for solvent in book.solvents:
         numbers += [solvent.cas, solvent.molar_mass] if with_masses else [solvent.cas]
         for record in (solvent.vapor_pressure, solvent.density):
@@ -97,12 +99,11 @@ def book_line(book: Book) -> str:
     return _line(numbers)
 
 
-def question_line(question: Question) -> str:
+def question_line(question: Question, rule: Rule) -> str:
     options = question.options
-    kind = "massquestion" if question.by_mass else "question"
-    numbers: List[object] = [
-        kind, question.task.number, question.temperature, question.pressure, *eight(question.fractions)
-    ]
+    numbers: List[object] = ["running"] if rule is Rule.RUNNING else []
+    numbers += ["massquestion" if question.by_mass else "question", question.task.number]
+    numbers += [question.temperature, question.pressure, *eight(question.fractions)]
     numbers += [
         options.max_iterations,
         options.tolerance,

@@ -1,14 +1,15 @@
 """The encoder against the blocks of the reference, bit for bit, and reading back."""
 
 import os
+import random
 import shutil
 import subprocess
 import unittest
 from pathlib import Path
-from typing import List
+from typing import List, Tuple
 
 from desk import book as books
-from desk.blocks import BLOCK, bits_of, check_right, sealed, split, words_of
+from desk.blocks import BLOCK, Rule, bits_of, check_of, check_right, joined, rule_of, sealed, split, words_of
 from desk.errors import DeskError
 from desk.openbook import open_yard
 from desk.question import Question
@@ -22,15 +23,27 @@ RUST = Path(os.environ.get("ZEKTONK_RUST", ROOT.parent / "shared" / "docs" / "sr
 REFERENCE = ROOT / "reference"
 
 
+def books_by_version() -> List[Tuple[books.Book, int]]:
+    """Each in version 1, and in all others that it has the numbers for."""
+    return [(book, version) for version in books.VERSIONS for book in cases.books() if version <= book.version]
+
+
+def questions_by_rule() -> List[Tuple[Question, Rule]]:
+    return [(question, rule) for rule in Rule for question in cases.questions()]
+
+
 def lines() -> List[str]:
     return (
-        [cases.book_line(book) for book in cases.books()]
-        + [cases.question_line(question) for question in cases.questions()]
+        [cases.book_line(*book) for book in books_by_version()]
+        + [cases.question_line(*question) for question in questions_by_rule()]
     )
 
 
 def encoded() -> List[bytes]:
-    return [books.encode(book) for book in cases.books()] + [question.block() for question in cases.questions()]
+    return (
+        [books.encode(book, version) for book, version in books_by_version()]
+        + [question.block(rule) for question, rule in questions_by_rule()]
+    )
 
 
 def bytes_of(line: str) -> bytes:
@@ -99,7 +112,7 @@ class Reading(unittest.TestCase):
             for words in (
                 [2] + head[1:],
                 head[:1] + [0] + head[2:],
-                head[:1] + [3] + head[2:],
+                head[:1] + [4] + head[2:],
                 head[:2] + [9] + head[3:],
                 head[:2] + [0] + head[3:],
             )
@@ -115,3 +128,43 @@ class Reading(unittest.TestCase):
         self.assertTrue(check_right(block))
         self.assertEqual(block[63], 2**64 - 2)
         self.assertFalse(check_right([1] + block[1:]))
+
+
+class Checks(unittest.TestCase):
+    """Plain sums and running sums, and which book asks for which."""
+
+    def test_by_hand(self):
+        head = [1, 3, 2] + [0] * 60
+        self.assertEqual((check_of(head), check_of(head, Rule.RUNNING)), (6, 63 + 3 * 62 + 2 * 61))
+        self.assertEqual(check_of([1] * 63, Rule.RUNNING), 63 * 64 // 2)
+        rng = random.Random(3)
+        for _ in range(100):
+            words = [rng.getrandbits(64) for _ in range(63)]
+            due = sum((63 - k) * word for k, word in enumerate(words)) % 2**64
+            self.assertEqual(check_of(words, Rule.RUNNING), due)
+
+    def test_rule_of_a_book(self):
+        for book, version in books_by_version():
+            content = books.encode(book, version)
+            rule = Rule.RUNNING if version == 3 else Rule.PLAIN
+            self.assertEqual(rule_of(content), rule)
+            self.assertTrue(all(check_right(words, rule) for words in split(content)))
+            self.assertEqual(joined(split(content)), content)
+            for cut in (b"", content[:-1], content[:100]):
+                self.assertEqual(rule_of(cut), Rule.PLAIN)
+            for words in ([2, 3], [1, 0], [1, 4], [2**32 + 1, 3]):
+                self.assertEqual(rule_of(sealed(words) + content[BLOCK:]), Rule.PLAIN)
+
+    def test_an_exchange_is_seen(self):
+        rng = random.Random(5)
+        words = [rng.getrandbits(64) for _ in range(63)]
+        for place in range(62):
+            other = words[:place] + [words[place + 1], words[place]] + words[place + 2 :]
+            self.assertEqual(check_of(words), check_of(other))
+            self.assertNotEqual(check_of(words, Rule.RUNNING), check_of(other, Rule.RUNNING))
+
+    def test_unknown_versions_in_words(self):
+        good = split(books.encode(cases.books()[0]))
+        for version in (0, 4, 2**64 - 1):
+            with self.assertRaisesRegex(DeskError, f"gives version {version}, and this desk knows 1 to 3"):
+                books.decode(joined([[1, version] + good[0][2:]] + good[1:]))

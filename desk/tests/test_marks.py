@@ -227,10 +227,11 @@ class OtherMarks(Marked):
         program = self.program(
             [
                 "import subprocess",
+                "from itertools import accumulate",
                 "question = sys.stdin.buffer.read()",
                 "refused = [9, 6, 25] + [0] * 60",
                 "if struct.unpack('<64Q', question)[1] == 6:",
-                "    sys.stdout.buffer.write(struct.pack('<64Q', *refused, sum(refused)))",
+                "    sys.stdout.buffer.write(struct.pack('<64Q', *refused, sum(accumulate(refused))))",
                 "else:",
                 f"    sys.stdout.buffer.write(subprocess.run(['{YARD.parent.parent / real}'], input=question, "
                 "capture_output=True).stdout)",

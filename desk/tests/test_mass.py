@@ -11,7 +11,7 @@ from typing import List, Tuple
 
 from desk import answer, refusals, tasks, units
 from desk import book as books
-from desk.blocks import bits_of, joined, split
+from desk.blocks import bits_of, joined, sealed, split
 from desk.book import Book
 from desk.core import Core
 from desk.errors import DeskError
@@ -59,7 +59,7 @@ class Books(unittest.TestCase):
         rng = random.Random(5)
         for book in cases.books():
             masses = [rng.choice((TINY, HUGE, 0.018, rng.uniform(0.001, 1))) for _ in book.solvents]
-            plain, found = (split(books.encode(with_masses(book, masses), version)) for version in (1, None))
+            plain, found = (split(books.encode(with_masses(book, masses), version)) for version in (1, 2))
             self.assertEqual(plain, split(books.encode(book, 1)))
             for place, (before, after) in enumerate(zip(plain, found)):
                 changed = {k: after[k] for k in range(63) if before[k] != after[k]}
@@ -70,9 +70,17 @@ class Books(unittest.TestCase):
             self.assertIsNone(books.molar_masses(joined(plain)))
             self.assertEqual(repr(books.decode(joined(found))), repr(with_masses(book, masses)))
 
+    def test_version_3_is_version_2_with_other_checks(self):
+        for book in cases.books():
+            if book.version != 1:
+                second, third = (split(books.encode(book, version)) for version in (2, None))
+                self.assertEqual((second[0][1], third[0][1]), (2, 3))
+                self.assertEqual([words[2:63] for words in second], [words[2:63] for words in third])
+                self.assertEqual(books.molar_masses(joined(second)), books.molar_masses(joined(third)))
+
     def test_version_1_where_one_is_missing(self):
         book = open_yard(str(SAMPLE)).book
-        self.assertEqual(book.version, 2)
+        self.assertEqual(book.version, 3)
         for masses in ((None, 0.018), (0.046, None), (None, None)):
             lacking = with_masses(book, masses)
             self.assertEqual((lacking.version, books.encode(lacking)), (1, books.encode(book, 1)))
@@ -160,26 +168,30 @@ class Texts(InFolder):
         self.assertIn(", ".join(f"{atom} {float(weight)}" for atom, weight in ATOMS.items()), said)
 
     def test_book_command(self):
-        run = sheet("book", str(YARD), "-o", "2.bin", cwd=self.folder)
-        self.assertIn("6 solvents, 15 pairs, 11264 bytes, version 2, SHA-256", run.out)
-        run = sheet("book", str(YARD), "-o", "1.bin", "--book-version", "1", cwd=self.folder)
-        self.assertIn("bytes, version 1, SHA-256", run.out)
         yard = open_yard(str(YARD)).book
-        self.assertEqual((self.folder / "2.bin").read_bytes(), books.encode(yard))
-        self.assertEqual((self.folder / "1.bin").read_bytes(), books.encode(yard, 1))
+        run = sheet("book", str(YARD), "-o", "0.bin", cwd=self.folder)
+        self.assertIn("6 solvents, 15 pairs, 11264 bytes, version 3, SHA-256", run.out)
+        self.assertEqual((self.folder / "0.bin").read_bytes(), books.encode(yard, 3))
+        for version in (1, 2, 3):
+            run = sheet("book", str(YARD), "-o", "1.bin", "--book-version", str(version), cwd=self.folder)
+            self.assertIn(f"bytes, version {version}, SHA-256", run.out)
+            self.assertEqual((self.folder / "1.bin").read_bytes(), books.encode(yard, version))
+            self.assertIn(f"6 solvents, a book of version {version}\n", sheet("show", "1.bin", cwd=self.folder).out)
         lacking = self.file("yard.txt", without("methanol", "toluene"))
         run = sheet("book", lacking, "-o", "3.bin", cwd=self.folder)
         self.assertIn("version 1 (no molar mass of methanol, toluene), SHA-256", run.out)
         self.assertEqual((self.folder / "3.bin").read_bytes(), books.encode(yard, 1))
-        run = sheet("book", lacking, "-o", "4.bin", "--book-version", "2", cwd=self.folder)
-        self.assertEqual(run.status, 2)
-        self.assertIn("the text lacks that of methanol, toluene\n", run.err)
-        self.assertFalse((self.folder / "4.bin").exists())
-        self.assertEqual(sheet("book", str(YARD), "-o", "5.bin", "--book-version", "3", cwd=self.folder).status, 2)
+        for version in ("2", "3"):
+            run = sheet("book", lacking, "-o", "4.bin", "--book-version", version, cwd=self.folder)
+            self.assertEqual(run.status, 2)
+            self.assertIn(f"version {version} needs the molar mass of every solvent", run.err)
+            self.assertIn("the text lacks that of methanol, toluene\n", run.err)
+            self.assertFalse((self.folder / "4.bin").exists())
+        self.assertEqual(sheet("book", str(YARD), "-o", "5.bin", "--book-version", "4", cwd=self.folder).status, 2)
 
     def test_show(self):
         out = sheet("show", str(YARD)).out
-        self.assertIn("6 solvents, a book of version 2\n", out)
+        self.assertIn("6 solvents, a book of version 3\n", out)
         self.assertRegex(out, r"  ethanol +64-17-5 +46.06844 +273.15 to 510")
         self.assertIn("IUPAC", out)
         self.assertIn("a book of version 1\n", sheet("show", str(STORED)).out)
@@ -326,7 +338,7 @@ class OfTheCore(InFolder):
                     question = self.asked(task, drum, by_mass=True)
                     long = self.core.ask(question)
                     if long.accepted and task is not tasks.DEW_TEMPERATURE:
-                        short = shorter.ask_block(shorter_question(question.words(), kept))
+                        short = shorter.ask_block(shorter_question(question.words(), kept, shorter.rule))
                         groups = compare(long, short, kept)
                         self.assertEqual([group for group in groups if group.differing], [], (task.command, drum))
                         compared += 1
@@ -337,29 +349,31 @@ class OfTheCore(InFolder):
             for drum in self.drums(4):
                 for task in tasks.TASKS:
                     question = self.asked(task, drum)
-                    self.assertEqual(self.core.ask(question), first.ask(question))
+                    found, due = self.core.ask(question), first.ask(question)
+                    self.assertEqual(found.head[:63], due.head[:63])
+                    self.assertEqual([words[:63] for words in found.trials], [words[:63] for words in due.trials])
 
 
 class Numbers(InFolder):
-    """34, 35 and 36, by the program: which number, ahead of which others, and the task in its block."""
+    """34, 35, 36 and 38, by the program: which number, ahead of which others, and the task in its block."""
 
     def refused(self, book: bytes, question: Question, **words: int) -> Tuple[int, int]:
         asked = question.words()
         for name, value in words.items():
             asked[int(name[1:])] = value
         with Core(book) as core:
-            head = core.ask_block(joined([asked])).head
+            head = core.ask_block(sealed(asked, core.rule)).head
         return head[answer.REFUSAL], head[answer.TASK]
 
     def setUp(self) -> None:
         super().setUp()
         self.yard = open_yard(str(SAMPLE)).book
-        self.second = books.encode(self.yard)
+        self.second = books.encode(self.yard, 2)
         self.flash = Question(tasks.FLASH, (0.5, 0.5), 351.44, 90000.0)
         self.weighed = replace(self.flash, by_mass=True)
 
     def of(self, *masses: float) -> bytes:
-        return books.encode(with_masses(self.yard, masses))
+        return books.encode(with_masses(self.yard, masses), 2)
 
     def test_35(self):
         for mass in (0.0, -0.0, -0.018, INFINITY, -INFINITY, math.nan):
@@ -383,7 +397,7 @@ class Numbers(InFolder):
             self.assertEqual(self.refused(damaged(first, 1, 45, word), self.flash), (0, 7))
 
     def test_versions(self):
-        for version, number in ((0, 3), (1, 0), (2, 0), (3, 3), (2**64 - 1, 3)):
+        for version, number in ((0, 38), (1, 0), (2, 0), (3, 0), (4, 38), (2**64 - 1, 38)):
             found, _ = self.refused(damaged(self.second, 0, 1, version), self.flash)
             self.assertEqual(found, number, version)
 

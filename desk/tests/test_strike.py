@@ -7,7 +7,7 @@ import unittest
 from desk import question as places
 from desk import tasks
 from desk.answer import Blocks
-from desk.blocks import bits_of, split
+from desk.blocks import Rule, bits_of, split
 from desk.book import due_pairs
 from desk.core import Core
 from desk.openbook import open_book
@@ -46,7 +46,7 @@ class Striking(InFolder):
                     for task in tasks.TASKS:
                         question = asked(task, fractions)
                         long = longer.ask(question)
-                        short = shorter.ask_block(shorter_question(question.words(), kept))
+                        short = shorter.ask_block(shorter_question(question.words(), kept, shorter.rule))
                         self.assertEqual(long.refusal, short.refusal)
                         if long.accepted:
                             self.assertEqual(
@@ -93,9 +93,10 @@ class Striking(InFolder):
         program = self.program(
             [
                 "import os",
+                "from itertools import accumulate",
                 "sys.stdin.buffer.read()",
                 answered,
-                "sys.stdout.buffer.write(struct.pack('<64Q', *words, sum(words)))",
+                "sys.stdout.buffer.write(struct.pack('<64Q', *words, sum(accumulate(words))))",
             ]
         )
         run = sheet("strike", "excess", "--drum", "ethanol=1", "--temperature", "50C", "--program", program)
@@ -168,14 +169,14 @@ class Shorter(unittest.TestCase):
         before, after = split(book), split(shorter_book(book, [1, 4]))
         self.assertEqual(len(after), 4)
         self.assertEqual(
-            [words[:3] for words in after], [[1, 2, 2], [2, 0, before[2][2]], [2, 1, before[5][2]], [3, 0, 1]]
+            [words[:3] for words in after], [[1, 3, 2], [2, 0, before[2][2]], [2, 1, before[5][2]], [3, 0, 1]]
         )
         pair = before[7 + due_pairs(6).index((1, 4))]
         self.assertEqual((after[1][3:63], after[3][3:63]), (before[2][3:63], pair[3:63]))
 
     def test_question(self):
         words = asked(tasks.BY_COMMAND["rachford-rice"], (0.0, 0.25, 0.0, 0.0, 0.75, 0.0)).words()
-        (after,) = split(shorter_question(words, [1, 4]))
+        (after,) = split(shorter_question(words, [1, 4], Rule.PLAIN))
         self.assertEqual(after[places.FRACTIONS : places.FRACTIONS + 2], [bits_of(0.25), bits_of(0.75)])
         self.assertEqual(
             after[places.K_VALUES : places.K_VALUES + 2], [words[places.K_VALUES + 1], words[places.K_VALUES + 4]]

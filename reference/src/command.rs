@@ -2,7 +2,8 @@
 
 use crate::stage::{Stage, STAGES};
 
-pub const USAGE: &str = "numbers|fractions|book|pressure|excess|rice|sheet|mass|all [--count N] [--seed S] [--counts]";
+pub const USAGE: &str =
+    "numbers|fractions|book|pressure|excess|rice|sheet|mass|exchanged|all [--count N] [--seed S] [--counts]";
 
 pub struct Options {
     pub stages: Vec<Stage>,
@@ -35,7 +36,7 @@ impl Options {
         self.count.unwrap_or(match stage {
             Stage::Numbers => 4_000_000,
             Stage::Fractions | Stage::Book | Stage::Pressure | Stage::Excess | Stage::Rice => 400_000,
-            Stage::Sheet | Stage::Mass => 200_000,
+            Stage::Sheet | Stage::Mass | Stage::Exchanged => 200_000,
         })
     }
 }

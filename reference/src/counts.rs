@@ -3,7 +3,8 @@
 use std::collections::BTreeMap;
 
 use crate::generate::cases::{Cases, Kind};
-use crate::sheet::blocks::{words_of, BLOCK};
+use crate::generate::exchanged::{Exchange, PLACES};
+use crate::sheet::blocks::{rule_of, words_of, Rule, BLOCK};
 use crate::sheet::question::{BASIS, BY_MASS, FRACTIONS, TASK};
 use crate::stage::{Case, Stage};
 
@@ -57,7 +58,7 @@ pub struct SheetCounts {
     all: BTreeMap<u64, Tally>,
     realistic: BTreeMap<u64, Tally>,
     ordinary: BTreeMap<u64, usize>,
-    /// Feeds by mass on version 2 books.
+    /// Feeds by mass on books that have molar masses.
     by_mass: BTreeMap<u64, Tally>,
 }
 
@@ -65,15 +66,14 @@ impl SheetCounts {
     pub fn add(&mut self, kind: Kind, case: &Case, refusal: u32) {
         let Case::Sheet { book, question, .. } = case else { return };
         let words = if question.len() == BLOCK { words_of(question) } else { [0; 64] };
-        // Tasks that are none count as 0.
-        let task = if words[TASK] <= 9 { words[TASK] } else { 0 };
+        let task = task_of(question);
         let absent = refusal == 0 && has_absent(&words, words_of(&book[..BLOCK])[2] as usize);
         let mut tallies = vec![self.all.entry(task).or_default()];
         *self.ordinary.entry(task).or_default() += usize::from(kind.is_ordinary());
         if kind == Kind::Realistic {
             tallies.push(self.realistic.entry(task).or_default());
         }
-        if words[BASIS] == BY_MASS && version(book) == Some(2) {
+        if words[BASIS] == BY_MASS && matches!(version(book), Some(2 | 3)) {
             tallies.push(self.by_mass.entry(task).or_default());
         }
         for tally in tallies {
@@ -116,6 +116,82 @@ fn print_by_mass(what: &str, tally: &Tally) {
         tally.absent,
         tally.refused()
     );
+}
+
+/// Sheets of version 3 books by task, and what became of exchanged words, by the core's numbers.
+#[derive(Debug)]
+pub struct Exchanges {
+    third: BTreeMap<u64, Tally>,
+    places: [usize; PLACES],
+    /// In block 0, in solvents and in pairs.
+    blocks: [usize; 3],
+    books: Tally,
+    questions: Tally,
+    /// Exchanges that the book, or the question, was not refused for.
+    pub let_through: usize,
+}
+
+impl Default for Exchanges {
+    fn default() -> Self {
+        let (books, questions) = Default::default();
+        Self { third: BTreeMap::new(), places: [0; PLACES], blocks: [0; 3], books, questions, let_through: 0 }
+    }
+}
+
+impl Exchanges {
+    pub fn add(&mut self, case: &Case, exchange: Option<Exchange>, number: u64) {
+        let Case::Sheet { book, question, .. } = case else { return };
+        let number = number as u32;
+        if rule_of(book) == Rule::Running {
+            self.third.entry(task_of(question)).or_default().add(number);
+        }
+        let refused = match exchange {
+            None => return,
+            Some(Exchange::Book { block, n, place }) => {
+                self.places[place] += 1;
+                self.blocks[usize::from(block > 0) + usize::from(block > n)] += 1;
+                self.books.add(number);
+                matches!(number, 2 | 3 | 38)
+            }
+            Some(Exchange::Question { .. }) => {
+                self.questions.add(number);
+                // The book, or its answer slice, may have been refused first.
+                matches!(number, 4..=11 | 35)
+            }
+        };
+        self.let_through += usize::from(!refused);
+    }
+
+    pub fn print(&self) {
+        let mut sum = Tally::default();
+        for (task, tally) in &self.third {
+            print_version_3(&format!("task {task} of version 3"), tally);
+            sum.join(tally);
+        }
+        print_version_3("version 3", &sum);
+        let [heads, solvents, pairs] = self.blocks;
+        println!(
+            "exchanged in books that pass 1 to 3: {} ({heads} in block 0, {solvents} in solvents, {pairs} in pairs; each of {PLACES} places at least {} times), refused {}",
+            self.books.all(),
+            self.places.iter().min().copied().unwrap_or(0),
+            self.books.refused()
+        );
+        println!("exchanged in questions: {}, refused {}", self.questions.all(), self.questions.refused());
+        println!("exchanges let through: {}", self.let_through);
+    }
+}
+
+fn print_version_3(what: &str, tally: &Tally) {
+    println!("{what}: {} asked, {} accepted, refused {}", tally.all(), tally.accepted(), tally.refused());
+}
+
+/// Tasks that are none count as 0.
+fn task_of(question: &[u8]) -> u64 {
+    if question.len() == BLOCK {
+        Some(words_of(question)[TASK]).filter(|task| *task <= 9).unwrap_or(0)
+    } else {
+        0
+    }
 }
 
 fn version(book: &[u8]) -> Option<u64> {

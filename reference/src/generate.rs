@@ -4,6 +4,7 @@ pub mod absent;
 pub mod books;
 pub mod cases;
 pub mod differences;
+pub mod exchanged;
 pub mod feeds;
 pub mod mass;
 pub mod numbers;

@@ -7,7 +7,7 @@ pub mod reply;
 
 pub use book::{open_book, Book};
 
-use blocks::{bytes_of, seal, Words, BLOCK};
+use blocks::{bytes_of, rule_of, seal, Words, BLOCK};
 use question::Question;
 
 /// One answer block and eight trials.
@@ -31,14 +31,14 @@ fn blocks_of(book: &[u8], question: &[u8], room: usize) -> Result<Vec<Words>, u3
     if room < ANSWER_BYTES {
         return Err(10);
     }
-    let question = Question::read(question)?;
+    let question = Question::read(question, book.rule)?;
     let task = question.task();
     if !(1..=9).contains(&task) {
         return Err(12);
     }
     let feed = question.ask(&book)?;
     let mut blocks = reply::reply(&book, &question, &feed).map_err(|error| error.number())?;
-    blocks.iter_mut().for_each(seal);
+    blocks.iter_mut().for_each(|block| seal(block, book.rule));
     Ok(blocks)
 }
 
@@ -48,16 +48,16 @@ pub fn program_output(book: &[u8], question: &[u8]) -> Vec<u8> {
     let question = &question[..question.len().min(BLOCK + 1)];
     let blocks = match blocks_of(book, question, ANSWER_BYTES) {
         Ok(blocks) => blocks,
-        Err(number) => vec![refusal_block(question, number)],
+        Err(number) => vec![refusal_block(book, question, number)],
     };
     blocks.iter().flat_map(bytes_of).collect()
 }
 
-/// Words 0, 1, 2 and the check; task 0 for numbers 1 to 12 and 35.
-fn refusal_block(question: &[u8], number: u32) -> Words {
-    let task = if number <= 12 || number == 35 { 0 } else { blocks::words_of(question)[1] };
+/// Words 0, 1, 2 and the check; task 0 for numbers 1 to 12, 35 and 38.
+fn refusal_block(book: &[u8], question: &[u8], number: u32) -> Words {
+    let task = if number <= 12 || number == 35 || number == 38 { 0 } else { blocks::words_of(question)[1] };
     let mut words = [0; 64];
     words[..3].copy_from_slice(&[9, task, number.into()]);
-    seal(&mut words);
+    seal(&mut words, rule_of(book));
     words
 }

@@ -6,6 +6,7 @@ use crate::helpers::{self, bits_of};
 use crate::named::liquid::Correlation;
 use crate::named::rachford_rice::{rachford_rice, rachford_rice_negative, RachfordRiceOutcome, RachfordRiceSolution};
 use crate::rattle;
+use crate::sheet::blocks::Rule;
 use crate::sheet::book::Solvent;
 use crate::sheet::{self, open_book, Book};
 use crate::types::Temperature;
@@ -21,9 +22,11 @@ pub enum Stage {
     Sheet,
     /// Sheets of version 2 books.
     Mass,
+    /// Sheets of version 3 books.
+    Exchanged,
 }
 
-pub const STAGES: [Stage; 8] = [
+pub const STAGES: [Stage; 9] = [
     Stage::Numbers,
     Stage::Fractions,
     Stage::Book,
@@ -32,6 +35,7 @@ pub const STAGES: [Stage; 8] = [
     Stage::Rice,
     Stage::Sheet,
     Stage::Mass,
+    Stage::Exchanged,
 ];
 
 impl Stage {
@@ -45,6 +49,7 @@ impl Stage {
             Stage::Rice => "rice",
             Stage::Sheet => "sheet",
             Stage::Mass => "mass",
+            Stage::Exchanged => "exchanged",
         }
     }
 
@@ -66,7 +71,12 @@ impl Stage {
             Stage::Rice => cfg!(feature = "rice"),
             Stage::Sheet => cfg!(feature = "sheet"),
             Stage::Mass => cfg!(feature = "mass"),
+            Stage::Exchanged => cfg!(feature = "exchanged"),
         }
+    }
+
+    pub fn has_sheets(self) -> bool {
+        matches!(self, Stage::Sheet | Stage::Mass | Stage::Exchanged)
     }
 }
 
@@ -384,7 +394,12 @@ fn fractions(x: &[f64]) -> u32 {
     let constant =
         Correlation { t_r: 600.0, reducing_value: 1.0, range: [200.0, 500.0], n: vec![1.0], exponents: vec![1.0] };
     let solvent = |i| Solvent { cas: i as u64 + 1, vapor_pressure: constant.clone(), density: constant.clone() };
-    let book = Book { solvents: (0..x.len()).map(solvent).collect(), molar_masses: None, pairs: Vec::new() };
+    let book = Book {
+        rule: Rule::Plain,
+        solvents: (0..x.len()).map(solvent).collect(),
+        molar_masses: None,
+        pairs: Vec::new(),
+    };
     book.model().with_fractions(x).map_or_else(|error| error.number(), |_| 0)
 }
 

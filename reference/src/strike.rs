@@ -1,9 +1,9 @@
 //! Demand 3 run on sheets: absent solvents struck from book and question leave an accepted answer as it was (docs/FORMAT.md, "The
 //! shorter sheet"). The premise of tasks 4 and 5 holds of every accepted sheet: `excess` refuses a slope of ln γ that is not finite.
 
-use crate::generate::small::{bytes, sealed};
+use crate::generate::small::{bytes, sealed_by};
 use crate::generate::Rng;
-use crate::sheet::blocks::{words_of, Words, BLOCK};
+use crate::sheet::blocks::{rule_of, words_of, Words, BLOCK};
 use crate::sheet::book::due_pairs;
 use crate::sheet::question::{BASIS, BY_MASS, FRACTIONS, K_VALUES};
 use crate::sheet::reply::{LIQUID, TRIALS, VAPOR};
@@ -53,7 +53,7 @@ impl Sheet {
     pub fn shorter(&self, rng: &mut Rng, kept: &[usize]) -> Self {
         let book: Vec<Words> = self.book.chunks_exact(BLOCK).map(words_of).collect();
         let question = shorter_question(rng, &words_of(&self.question), kept);
-        Self { book: bytes(&shorter_book(&book, kept)), question: sealed(question) }
+        Self { book: bytes(&shorter_book(&book, kept)), question: sealed_by(rule_of(&self.book), question) }
     }
 
     /// The blocks written, or the number. Whatever else stood in the slice has to be there still.

@@ -7,7 +7,7 @@ use reference::generate::absent::Base;
 use reference::generate::cases::Cases;
 use reference::generate::mass::{ask, borders, entered, least_mass};
 use reference::generate::Rng;
-use reference::sheet::blocks::{check_right, words_of, Words, BLOCK};
+use reference::sheet::blocks::{check_right, words_of, Rule, Words, BLOCK};
 use reference::sheet::book::MOLAR_MASS;
 use reference::sheet::question::{mole_feed, BASIS, BY_MASS, BY_MOLES, FRACTIONS};
 use reference::sheet::{self, open_book, program_output, ANSWER_BYTES};
@@ -43,9 +43,9 @@ fn changed(block: &[u8], change: impl FnOnce(&mut Words)) -> Vec<u8> {
 }
 
 fn of_version(book: &[u8], version: u64) -> Vec<u8> {
-    let mut all = changed(&book[..BLOCK], |words| words[1] = version);
-    all.extend_from_slice(&book[BLOCK..]);
-    all
+    let mut blocks: Vec<Words> = book.chunks_exact(BLOCK).map(words_of).collect();
+    blocks[0][1] = version;
+    bytes(&blocks)
 }
 
 /// Samples (n), (o) and (p) of docs/FORMAT.md.
@@ -111,7 +111,10 @@ fn mass_equals_converted_moles() {
     for (book, question) in generated(31, 20_000) {
         let Ok(opened) = open_book(&book) else { continue };
         let Some(molar_masses) = &opened.molar_masses else { continue };
-        if question.len() != BLOCK || !check_right(&words_of(&question)) || words_of(&question)[BASIS] != BY_MASS {
+        if question.len() != BLOCK
+            || !check_right(&words_of(&question), Rule::Plain)
+            || words_of(&question)[BASIS] != BY_MASS
+        {
             continue;
         }
         let words = words_of(&question);
@@ -181,7 +184,8 @@ fn molar_masses() {
             for mass in [0.0, -0.0, -TINY, -1.0, f64::NAN, f64::INFINITY, f64::NEG_INFINITY] {
                 let ask = ask(task, &[0.3, 0.7]).word(BASIS, basis);
                 assert_eq!(call(&book(&[0.018, mass]), ask), Err(35));
-                assert_eq!(call(&of_version(&book(&[0.018, mass]), 3), ask), Err(3));
+                assert_eq!(call(&of_version(&book(&[0.018, mass]), 3), ask), Err(35));
+                assert_eq!(call(&of_version(&book(&[0.018, mass]), 4), ask), Err(38));
                 let one = call(&of_version(&book(&[0.018, mass]), 1), ask);
                 assert_eq!(one.is_ok(), basis == BY_MOLES);
             }
@@ -213,8 +217,10 @@ fn the_place_of_35() {
     assert_eq!(number(&all), 5);
     all[2][28] = 9;
     assert_eq!(number(&all), 4);
-    all[0][1] = 3;
+    all[0][2] = 3;
     assert_eq!(number(&all), 3);
+    all[0][1] = 4;
+    assert_eq!(number(&all), 38);
 }
 
 /// 36: word 27 is 0, or 1 where there are molar masses; after 12, ahead of 13.
@@ -287,7 +293,7 @@ fn refusal_blocks() {
         let out = program_output(&book(molar_masses), &ask.bytes());
         assert_eq!(out.len(), BLOCK);
         let words = words_of(&out);
-        assert!(check_right(&words) && words[3..63].iter().all(|word| *word == 0));
+        assert!(check_right(&words, Rule::Plain) && words[3..63].iter().all(|word| *word == 0));
         [words[0], words[1], words[2]]
     };
     for task in 1..=9 {
@@ -301,7 +307,7 @@ fn refusal_blocks() {
 /// What the generator of the comparison makes: every number, and enough of each kind.
 #[test]
 fn generated_sheets() {
-    let mut numbers = [0; 37];
+    let mut numbers = [0; 39];
     let (mut by_mass, mut accepted, mut absent) = (0, [0; 10], 0);
     for case in Cases::new(Stage::Mass, 41, false).take(40_000) {
         let found = case.expected();

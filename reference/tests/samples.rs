@@ -1,9 +1,13 @@
-//! The sample sheets (a) to (m) of docs/FORMAT.md, its "Others" and the traps; (n) to (p) stand in mass.rs.
+//! The sample sheets of docs/FORMAT.md but (n) to (p), which stand in mass.rs; its "Others" and the traps.
 
 mod common;
 
 use common::{answer, blocks, book, bytes, call, float, floats, Ask};
+use reference::generate::mass::entered;
+use reference::generate::small::sealed_by;
 use reference::helpers;
+use reference::sheet::blocks::{check_of, words_of, Rule};
+use reference::sheet::program_output;
 use reference::stage::Case;
 
 const ONE_THIRD: u64 = 0x3fd5_5555_5555_5555;
@@ -75,6 +79,26 @@ fn l_limit_zero() {
 #[test]
 fn m_too_cold() {
     assert_eq!(call(&two(), halves(2).at(273.15)), Err(22));
+}
+
+#[test]
+fn q_r_s_running_sums() {
+    let of_version = |version: u64| {
+        let mut blocks = entered(&[0.5]);
+        blocks[0][1] = version;
+        bytes(&blocks)
+    };
+    let sent = |version: u64, rule: Rule| {
+        let question = sealed_by(rule, Ask::new(1, &[1.0]).at(300.0).0);
+        words_of(&program_output(&of_version(version), &question))
+    };
+    let words = sent(3, Rule::Running);
+    assert_eq!(words[..5], [9, 1, 0, 0, 300f64.to_bits()]);
+    assert_eq!([words[14], words[63]], [0, check_of(&words, Rule::Running)]);
+    assert_ne!(words[63], check_of(&words, Rule::Plain));
+    assert_eq!(sent(3, Rule::Plain)[..3], [9, 0, 11]);
+    let words = sent(4, Rule::Plain);
+    assert_eq!([words[0], words[1], words[2], words[63]], [9, 0, 38, 9 + 38]);
 }
 
 #[test]
@@ -256,7 +280,7 @@ fn refusal_blocks() {
         let out = reference::sheet::program_output(book, question);
         assert_eq!(out.len(), 512);
         let words = reference::sheet::blocks::words_of(&out);
-        assert!(reference::sheet::blocks::check_right(&words));
+        assert!(reference::sheet::blocks::check_right(&words, reference::sheet::blocks::rule_of(book)));
         [words[0], words[1], words[2]]
     };
     assert_eq!(words(&[], &halves(2).bytes()), [9, 0, 1]);

@@ -2,7 +2,7 @@
 
 use std::fmt;
 
-use crate::block::Block;
+use crate::block::{Block, Rule};
 use crate::format::answer::{
     BALANCE, BUBBLE, DEW, INFERRED, ITERATIONS, LIQUID, LN_GAMMA, NOTES, OUTCOME, PRESSURE, REDUCED_GIBBS, REFUSAL,
     RESIDUAL, SLOPES, STABLE, TASK, TEMPERATURE, TRIALS, VALIDITY, VAPOR, VAPOR_FRACTION,
@@ -252,8 +252,8 @@ impl fmt::Display for Malformed {
 impl std::error::Error for Malformed {}
 
 impl Answer {
-    /// Reads an answer slice, or what the program `still` wrote, for a book of `solvents` solvents. Bytes behind the
-    /// blocks are not read.
+    /// Reads an answer slice, or what the program `still` wrote, for a book of version 1 or 2 and `solvents` solvents.
+    /// Bytes behind the blocks are not read.
     ///
     /// # Errors
     ///
@@ -268,7 +268,16 @@ impl Answer {
     /// assert_eq!(flash.tested.map(|tested| tested.trials.len()), Some(2));
     /// ```
     pub fn decode(bytes: &[u8], solvents: usize) -> Result<Result<Self, Refusal>, Malformed> {
-        let reader = Reader { bytes, solvents: solvents.min(8) };
+        Self::decode_by(Rule::Plain, bytes, solvents)
+    }
+
+    /// The same, checked by the [rule](crate::Book::rule) of the book.
+    ///
+    /// # Errors
+    ///
+    /// As [`decode`](Self::decode).
+    pub fn decode_by(rule: Rule, bytes: &[u8], solvents: usize) -> Result<Result<Self, Refusal>, Malformed> {
+        let reader = Reader { rule, bytes, solvents: solvents.min(8) };
         let head = reader.block(0, kind::ANSWER)?;
         if head.word(REFUSAL) == 0 {
             return reader.answer(head).map(Ok);
@@ -294,6 +303,7 @@ impl Answer {
 }
 
 struct Reader<'a> {
+    rule: Rule,
     bytes: &'a [u8],
     solvents: usize,
 }
@@ -301,7 +311,7 @@ struct Reader<'a> {
 impl Reader<'_> {
     fn block(&self, at: usize, kind: u64) -> Result<Block<'_>, Malformed> {
         let block = Block::of(self.bytes, at).ok_or(Malformed::Length)?;
-        if !block.check_is_right() {
+        if !block.check_is_right_by(self.rule) {
             return Err(Malformed::Check(at));
         }
         if block.word(any::KIND) != kind {

@@ -1,10 +1,42 @@
-//! Blocks of 512 bytes: 64 little-endian words of 64 bits, a float as its bits; word 63 is the sum of words 0 to 62
-//! modulo 2^64.
+//! Blocks of 512 bytes: 64 little-endian words of 64 bits, a float as its bits; word 63 is the check of words 0 to 62.
 
 use crate::format::any::{CHECK, KIND};
+use crate::format::VERSION_RUNNING;
 
 /// Bytes of a block.
 pub const BLOCK: usize = 512;
+
+/// What the check is of words 0 to 62, modulo 2^64. All blocks of a call go by the version of its book.
+///
+/// ```
+/// use zektonk::{Block, Rule, Words};
+///
+/// let words = Words::new(1).word(1, 3).word(2, 2);
+/// assert_eq!(Rule::of_version(3), Rule::Running);
+/// // Word k is in it 63 − k times.
+/// assert_eq!(Block::new(&words.clone().seal_by(Rule::Running)).word(63), 63 + 62 * 3 + 61 * 2);
+/// assert_eq!(Block::new(&words.seal()).word(63), 6);
+/// ```
+#[derive(Debug, Clone, Copy, PartialEq, Eq, Hash, Default)]
+pub enum Rule {
+    /// Their sum.
+    #[default]
+    Plain,
+    /// The sum of the running sums after each of them, in which two exchanged neighbours show.
+    Running,
+}
+
+impl Rule {
+    /// Of a book of this version.
+    #[must_use]
+    pub fn of_version(version: u64) -> Self {
+        if version == VERSION_RUNNING {
+            Self::Running
+        } else {
+            Self::Plain
+        }
+    }
+}
 
 /// A block of somebody's bytes, read where it lies.
 ///
@@ -66,13 +98,33 @@ impl<'a> Block<'a> {
     /// Sum of words 0 to 62 modulo 2^64.
     #[must_use]
     pub fn sum(self) -> u64 {
-        (0..CHECK).fold(0, |sum, at| sum.wrapping_add(self.word(at)))
+        self.sum_by(Rule::Plain)
     }
 
-    /// Whether word 63 is that sum.
+    /// The check of words 0 to 62.
+    #[must_use]
+    pub fn sum_by(self, rule: Rule) -> u64 {
+        let (mut sum, mut running) = (0u64, 0u64);
+        for at in 0..CHECK {
+            sum = sum.wrapping_add(self.word(at));
+            running = running.wrapping_add(sum);
+        }
+        match rule {
+            Rule::Plain => sum,
+            Rule::Running => running,
+        }
+    }
+
+    /// Whether word 63 is the sum, as with books of version 1 and 2.
     #[must_use]
     pub fn check_is_right(self) -> bool {
-        self.word(CHECK) == self.sum()
+        self.check_is_right_by(Rule::Plain)
+    }
+
+    /// Whether word 63 is the check.
+    #[must_use]
+    pub fn check_is_right_by(self, rule: Rule) -> bool {
+        self.word(CHECK) == self.sum_by(rule)
     }
 }
 
@@ -116,10 +168,16 @@ impl Words {
         values.iter().zip(at..).fold(self, |words, (value, at)| words.float(at, *value))
     }
 
+    /// The block's bytes with its check, as books of version 1 and 2 have it.
+    #[must_use]
+    pub fn seal(self) -> [u8; BLOCK] {
+        self.seal_by(Rule::Plain)
+    }
+
     /// The block's bytes with its check.
     #[must_use]
-    pub fn seal(mut self) -> [u8; BLOCK] {
-        let sum = Block::new(&self.0).sum();
+    pub fn seal_by(mut self, rule: Rule) -> [u8; BLOCK] {
+        let sum = Block::new(&self.0).sum_by(rule);
         self.0[8 * CHECK..].copy_from_slice(&sum.to_le_bytes());
         self.0
     }
@@ -134,6 +192,35 @@ mod tests {
         let bytes = Words::new(u64::MAX).word(1, 3).word(62, 1).seal();
         assert_eq!(Block::new(&bytes).word(63), 3);
         assert!(Block::new(&bytes).check_is_right());
+    }
+
+    #[test]
+    fn running_sums_weigh_each_word() {
+        let mut state = 1u64;
+        let words = (0..CHECK).fold(Words::new(0), |words, at| {
+            state = state.wrapping_mul(6_364_136_223_846_793_005).wrapping_add(1_442_695_040_888_963_407);
+            words.word(at, state)
+        });
+        let bytes = words.seal_by(Rule::Running);
+        let block = Block::new(&bytes);
+        let weighed = (0..CHECK).map(|at| block.word(at).wrapping_mul((CHECK - at) as u64));
+        assert_eq!(block.word(CHECK), weighed.fold(0, u64::wrapping_add));
+        assert!(block.check_is_right_by(Rule::Running) && !block.check_is_right());
+        for at in 0..CHECK - 1 {
+            let mut exchanged = bytes;
+            exchanged.copy_within(8 * at..8 * at + 8, 8 * at + 8);
+            exchanged[8 * at..8 * at + 8].copy_from_slice(&bytes[8 * at + 8..8 * at + 16]);
+            assert_eq!(Block::new(&exchanged).sum(), block.sum());
+            assert!(!Block::new(&exchanged).check_is_right_by(Rule::Running), "{at}");
+        }
+    }
+
+    #[test]
+    fn rules_of_versions() {
+        assert_eq!(
+            [0, 1, 2, 3, 4, 1 << 32 | 3].map(Rule::of_version).map(|rule| rule == Rule::Running),
+            [false, false, false, true, false, false]
+        );
     }
 
     #[test]

@@ -3,7 +3,7 @@
 use std::borrow::Cow;
 use std::fmt;
 
-use crate::block::{Block, Words, BLOCK};
+use crate::block::{Block, Rule, Words, BLOCK};
 use crate::format::solvent::{
     CAS, DENSITY_T_R, INDEX, MOLAR_MASS, VAPOR_EXPONENT, VAPOR_HIGH, VAPOR_LOW, VAPOR_N, VAPOR_REDUCING, VAPOR_TERMS,
     VAPOR_T_R,
@@ -13,6 +13,8 @@ use crate::UpToEight;
 
 /// Bytes of the largest book: eight solvents and their 28 pairs.
 pub const BOOK_LARGEST: usize = 37 * BLOCK;
+
+const VERSIONS: [u64; 3] = [format::VERSION, format::VERSION_MASS, format::VERSION_RUNNING];
 
 /// One block more than any book has: who reads a book up to here sees that it is too long.
 pub const BOOK_MOST: usize = 38 * BLOCK;
@@ -62,11 +64,23 @@ impl Book<'_> {
         Block::of(&self.bytes, at)
     }
 
-    /// The version that block 0 says, 1 or 2.
+    /// The version that block 0 says, 1 to 3.
     #[must_use]
     pub fn version(&self) -> Option<u64> {
         let version = self.block(0)?.word(format::book::VERSION);
-        [format::VERSION, format::VERSION_MASS].contains(&version).then_some(version)
+        VERSIONS.contains(&version).then_some(version)
+    }
+
+    /// By which rule the core checks the blocks of a call with this book: running sums where it is of whole blocks and
+    /// block 0 is of kind 1 and version 3.
+    #[must_use]
+    pub fn rule(&self) -> Rule {
+        match self.block(0) {
+            Some(head) if self.bytes.len() % BLOCK == 0 && head.word(format::any::KIND) == kind::BOOK => {
+                Rule::of_version(head.word(format::book::VERSION))
+            }
+            _ => Rule::Plain,
+        }
     }
 
     /// How many solvents block 0 says there are, if that is 1 to 8.
@@ -134,12 +148,12 @@ pub struct Solvent {
 }
 
 impl Solvent {
-    fn encode(&self, index: usize, molar_mass: Option<f64>) -> [u8; BLOCK] {
+    fn words(&self, index: usize, molar_mass: Option<f64>) -> Words {
         let words = Words::new(kind::SOLVENT).word(INDEX, index as u64).word(CAS, self.cas);
         let words = self.density.put(self.vapor_pressure.put(words, VAPOR_T_R), DENSITY_T_R);
         match molar_mass {
-            None => words.seal(),
-            Some(mass) => words.float(MOLAR_MASS, mass).seal(),
+            None => words,
+            Some(mass) => words.float(MOLAR_MASS, mass),
         }
     }
 }
@@ -169,7 +183,7 @@ pub struct Pair {
 }
 
 impl Pair {
-    fn encode(&self, i: usize, j: usize) -> [u8; BLOCK] {
+    fn words(&self, i: usize, j: usize) -> Words {
         let words = Words::new(kind::PAIR)
             .word(pair::I, i as u64)
             .word(pair::J, j as u64)
@@ -177,15 +191,14 @@ impl Pair {
             .floats(pair::TAU_JI, &self.tau_ji)
             .floats(pair::ALPHA_IJ, &self.alpha)
             .floats(pair::ALPHA_JI, &self.alpha);
-        let words = match self.interval {
+        match self.interval {
             None => words,
             Some(Interval { low, high, inferred }) => words
                 .word(pair::INTERVAL, 1)
                 .float(pair::LOW, low)
                 .float(pair::HIGH, high)
                 .word(pair::INFERRED, inferred.into()),
-        };
-        words.seal()
+        }
     }
 }
 
@@ -205,9 +218,11 @@ impl Pair {
 /// let lacking = Book::builder().solvent(solvent(64_175)).solvent(solvent(7_732_185)).build();
 /// assert_eq!(lacking, Err(Incomplete::PairMissing(0, 1)));
 ///
-/// // With molar masses it takes feeds by mass.
-/// let alone = Book::builder().solvent(solvent(7_732_185)).molar_masses([0.01801528]).build()?;
-/// assert_eq!(alone.version(), Some(2));
+/// // With molar masses it takes feeds by mass, and finds exchanged words.
+/// let alone = Book::builder().solvent(solvent(7_732_185)).molar_masses([0.01801528]);
+/// assert_eq!(alone.build()?.version(), Some(3));
+/// // For a desk that knows no later version.
+/// assert_eq!(alone.version(2).build()?.version(), Some(2));
 /// # Ok::<(), Incomplete>(())
 /// ```
 #[derive(Debug, Clone, Default)]
@@ -216,6 +231,7 @@ pub struct Builder {
     solvents: Vec<Solvent>,
     pairs: Vec<(usize, usize, Pair)>,
     molar_masses: Option<UpToEight<f64>>,
+    version: Option<u64>,
 }
 
 /// Why there is no book yet. What its numbers are worth is for the core to say.
@@ -232,6 +248,8 @@ pub enum Incomplete {
     PairMissing(usize, usize),
     /// Molar masses, but not one for each solvent; how many.
     MolarMasses(usize),
+    /// A version that is none, or one with molar masses, where there are none.
+    Version(u64),
 }
 
 impl fmt::Display for Incomplete {
@@ -242,6 +260,7 @@ impl fmt::Display for Incomplete {
             Self::PairTwice(i, j) => write!(f, "pair ({i}, {j}) is given twice"),
             Self::PairMissing(i, j) => write!(f, "pair ({i}, {j}) is missing"),
             Self::MolarMasses(count) => write!(f, "{count} molar masses where each solvent has one, or none has"),
+            Self::Version(version) => write!(f, "version {version} where there is 1, and 2 and 3 with molar masses"),
         }
     }
 }
@@ -261,9 +280,16 @@ impl Builder {
         self
     }
 
-    /// Molar masses in kg/mol, one for each solvent in its order. The book is of version 2 then, and takes feeds by mass.
+    /// Molar masses in kg/mol, one for each solvent in its order. The book is of version 3 then, and takes feeds by mass.
     pub fn molar_masses(mut self, masses: impl Into<UpToEight<f64>>) -> Self {
         self.molar_masses = Some(masses.into());
+        self
+    }
+
+    /// Another version than 3 with molar masses and 1 without, for who knows no later one: 2, or 1, which leaves them
+    /// out.
+    pub fn version(mut self, version: u64) -> Self {
+        self.version = Some(version);
         self
     }
 
@@ -271,8 +297,8 @@ impl Builder {
     ///
     /// # Errors
     ///
-    /// [`Incomplete`] where there are not 1 to 8 solvents, a pair is missing, given twice or of no two solvents, or
-    /// molar masses are not as many as the solvents.
+    /// [`Incomplete`] where there are not 1 to 8 solvents, a pair is missing, given twice or of no two solvents, molar
+    /// masses are not as many as the solvents, or the version is none that these can have.
     pub fn build(&self) -> Result<Book<'static>, Incomplete> {
         let n = self.solvents.len();
         if !(1..=8).contains(&n) {
@@ -281,21 +307,26 @@ impl Builder {
         if let Some((i, j, _)) = self.pairs.iter().find(|(i, j, _)| i >= j || *j >= n) {
             return Err(Incomplete::PairPlaces(*i, *j));
         }
-        let version = match &self.molar_masses {
+        let latest = match &self.molar_masses {
             None => format::VERSION,
-            Some(masses) if masses.len() == n => format::VERSION_MASS,
+            Some(masses) if masses.len() == n => format::VERSION_RUNNING,
             Some(masses) => return Err(Incomplete::MolarMasses(masses.len())),
         };
+        let version = self.version.unwrap_or(latest);
+        if !(format::VERSION..=latest).contains(&version) {
+            return Err(Incomplete::Version(version));
+        }
+        let molar_masses = self.molar_masses.filter(|_| version != format::VERSION);
         let head = Words::new(kind::BOOK).word(format::book::VERSION, version).word(format::book::SOLVENTS, n as u64);
-        let mut bytes = Vec::with_capacity((1 + n + n * (n - 1) / 2) * BLOCK);
-        bytes.extend_from_slice(&head.seal());
+        let mut blocks = vec![head];
         for (index, solvent) in self.solvents.iter().enumerate() {
-            bytes.extend_from_slice(&solvent.encode(index, self.molar_masses.map(|masses| masses[index])));
+            blocks.push(solvent.words(index, molar_masses.map(|masses| masses[index])));
         }
         for (i, j) in (0..n).flat_map(|i| (i + 1..n).map(move |j| (i, j))) {
-            bytes.extend_from_slice(&self.due(i, j)?.encode(i, j));
+            blocks.push(self.due(i, j)?.words(i, j));
         }
-        Ok(Book::from(bytes))
+        let rule = Rule::of_version(version);
+        Ok(Book::from(blocks.into_iter().flat_map(|words| words.seal_by(rule)).collect::<Vec<u8>>()))
     }
 
     fn due(&self, i: usize, j: usize) -> Result<&Pair, Incomplete> {
@@ -328,7 +359,7 @@ mod tests {
 
     #[test]
     fn words_of_a_solvent() {
-        let bytes = solvent(77).encode(3, None);
+        let bytes = solvent(77).words(3, None).seal();
         let block = Block::new(&bytes);
         assert_eq!([0, 1, 2, 7, 28].map(|at| block.word(at)), [2, 3, 77, 2, 2]);
         assert_eq!(
@@ -340,19 +371,34 @@ mod tests {
             [20.0, 21.0, 22.0, 23.0, 24.0, 26.0, 25.0, 27.0]
         );
         assert!([10, 15, 18, 23, 31, 36, 39, 44, 45, 62].iter().all(|at| block.word(*at) == 0));
-        let with = solvent(77).encode(3, Some(0.018));
+        let with = solvent(77).words(3, Some(0.018)).seal();
         assert_eq!(Block::new(&with).float(45), 0.018);
         assert!((0..63).filter(|at| *at != 45).all(|at| Block::new(&with).word(at) == block.word(at)));
     }
 
     #[test]
-    fn molar_masses_make_version_2() {
+    fn molar_masses_make_version_3() {
         let two = Book::builder().solvent(solvent(1)).solvent(solvent(2)).pair(0, 1, pair(1.0));
-        assert_eq!(two.build().unwrap().version(), Some(1));
-        let book = two.clone().molar_masses([0.046, 0.018]).build().unwrap();
-        assert_eq!(book.version(), Some(2));
+        let first = two.build().unwrap();
+        assert_eq!((first.version(), first.rule()), (Some(1), Rule::Plain));
+        let weighed = two.clone().molar_masses([0.046, 0.018]);
+        let book = weighed.build().unwrap();
+        assert_eq!(book, weighed.clone().version(3).build().unwrap());
+        assert_eq!((book.version(), book.rule()), (Some(3), Rule::Running));
         assert_eq!([1, 2].map(|at| book.block(at).unwrap().float(45)), [0.046, 0.018]);
-        assert!((0..4).all(|at| book.block(at).unwrap().check_is_right()));
+        assert!((0..4).all(|at| book.block(at).unwrap().check_is_right_by(Rule::Running)));
+        let second = weighed.clone().version(2).build().unwrap();
+        assert_eq!((second.version(), second.rule()), (Some(2), Rule::Plain));
+        assert!((0..4).all(|at| second.block(at).unwrap().check_is_right()));
+        let differ = |at: usize, word| book.block(at).unwrap().word(word) != second.block(at).unwrap().word(word);
+        assert!((0..4).all(|at| (0..63).all(|word| differ(at, word) == ((at, word) == (0, 1)))));
+        assert_eq!(weighed.clone().version(1).build().unwrap(), first);
+        for version in [0, 4] {
+            assert_eq!(weighed.clone().version(version).build(), Err(Incomplete::Version(version)));
+        }
+        for version in [2, 3] {
+            assert_eq!(two.clone().version(version).build(), Err(Incomplete::Version(version)));
+        }
         for masses in [UpToEight::from([0.046]), [0.046, 0.018, 0.032].into(), UpToEight::default()] {
             assert_eq!(two.clone().molar_masses(masses).build(), Err(Incomplete::MolarMasses(masses.len())));
         }
@@ -360,15 +406,28 @@ mod tests {
     }
 
     #[test]
+    fn rules_of_books() {
+        let book = Book::builder().solvent(solvent(1)).molar_masses([0.018]).build().unwrap();
+        let rule = |bytes: &[u8]| Book::from(bytes).rule();
+        assert_eq!(rule(book.bytes()), Rule::Running);
+        assert!([0, 1, BLOCK - 1, BLOCK + 1].iter().all(|length| rule(&book.bytes()[..*length]) == Rule::Plain));
+        for (at, word) in [(0, 2), (1, 2), (1, 4)] {
+            let mut bytes = book.bytes().to_vec();
+            bytes[8 * at] = word;
+            assert_eq!(rule(&bytes), Rule::Plain);
+        }
+    }
+
+    #[test]
     fn words_of_a_pair() {
         let interval = Some(Interval { low: 300.0, high: 350.0, inferred: true });
         let with = Pair { tau_ij: [1.0, 2.0, 3.0, 4.0], tau_ji: [5.0, 6.0, 7.0, 8.0], alpha: [9.0, 10.0], interval };
-        let bytes = with.encode(2, 5);
+        let bytes = with.words(2, 5).seal();
         let block = Block::new(&bytes);
         assert_eq!([0, 1, 2, 15, 18].map(|at| block.word(at)), [3, 2, 5, 1, 1]);
         let floats: Vec<f64> = (3..15).chain(16..18).map(|at| block.float(at)).collect();
         assert_eq!(floats, [1.0, 2.0, 3.0, 4.0, 5.0, 6.0, 7.0, 8.0, 9.0, 10.0, 9.0, 10.0, 300.0, 350.0]);
-        let bytes = Pair { interval: None, ..with }.encode(2, 5);
+        let bytes = Pair { interval: None, ..with }.words(2, 5).seal();
         assert!((15..63).all(|at| Block::new(&bytes).word(at) == 0));
     }
 

@@ -23,18 +23,21 @@ pub const VERSION: u64 = 1;
 /// Version of a book with molar masses, which takes feeds by mass too.
 pub const VERSION_MASS: u64 = 2;
 
+/// Version of a book with molar masses whose checks are running sums ([`Rule`](crate::Rule)).
+pub const VERSION_RUNNING: u64 = 3;
+
 named! {
     /// Words of every block.
     any: usize {
         KIND = 0 "Which kind of block it is"
-        CHECK = 63 "Sum of the words before it modulo 2^64"
+        CHECK = 63 "Check of the words before it, by the version of the book"
     }
 }
 
 named! {
     /// Words of block 0 of a book.
     book: usize {
-        VERSION = 1 "1, or 2 with molar masses"
+        VERSION = 1 "1; 2 with molar masses; 3 with running sums too"
         SOLVENTS = 2 "n, 1 to 8"
     }
 }

@@ -40,7 +40,7 @@ mod up_to_eight;
 pub use answer::{
     Answer, Energies, Excess, Flash, Malformed, Notes, Phases, Saturation, Split, Stability, Trial, TwoPhase, Validity,
 };
-pub use block::{Block, Words, BLOCK};
+pub use block::{Block, Rule, Words, BLOCK};
 pub use book::{Book, Builder, Correlation, Incomplete, Interval, Pair, Solvent, Term, BOOK_LARGEST, BOOK_MOST};
 pub use call::answer_bytes;
 pub use question::{Feed, Kelvin, Options, Pascal, Question, Task};
@@ -88,7 +88,8 @@ pub fn answer(book: &Book<'_>, question: &Question) -> Result<Answer, Refusal> {
         question.fits(solvents)?;
     }
     let mut room = [0; ANSWER_ROOM];
-    answer_bytes(book.bytes(), &question.encode(), &mut room)?;
+    let rule = book.rule();
+    answer_bytes(book.bytes(), &question.encode_by(rule), &mut room)?;
     let solvents = book.solvents().expect("an accepted book counts its solvents");
-    Answer::decode(&room, solvents).expect("the core's own blocks are right")
+    Answer::decode_by(rule, &room, solvents).expect("the core's own blocks are right")
 }

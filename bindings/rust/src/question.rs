@@ -1,6 +1,6 @@
 //! Questions: a task with the inputs that it reads, put to a feed.
 
-use crate::block::{Words, BLOCK};
+use crate::block::{Rule, Words, BLOCK};
 use crate::format::question::{
     ENERGY_TOLERANCE, FEED, FRACTIONS, K_VALUES, LOW, MAX_ITERATIONS, MAX_TEMPERATURE_ITERATIONS, PRESSURE, TASK,
     TEMPERATURE, TM_THRESHOLD, TOLERANCE,
@@ -207,9 +207,15 @@ impl Question {
         }
     }
 
-    /// The question's block. Words that the task doesn't read are 0.
+    /// The question's block to a book of version 1 or 2. Words that the task doesn't read are 0.
     #[must_use]
     pub fn encode(&self) -> [u8; BLOCK] {
+        self.encode_by(Rule::Plain)
+    }
+
+    /// The question's block, checked by the [rule](crate::Book::rule) of the book that is asked.
+    #[must_use]
+    pub fn encode_by(&self, rule: Rule) -> [u8; BLOCK] {
         let words = Words::new(kind::QUESTION).word(TASK, self.task.number());
         let words = words.floats(FRACTIONS, self.feed.fractions()).word(FEED, self.feed.kind());
         let heat = |words: Words, t: &Kelvin| words.float(TEMPERATURE, t.0);
@@ -229,7 +235,7 @@ impl Question {
                 words.floats(K_VALUES, k).word(MAX_ITERATIONS, *max_iterations)
             }
         };
-        words.seal()
+        words.seal_by(rule)
     }
 }
 
@@ -265,6 +271,15 @@ mod tests {
         assert_eq!((before.word(27), after.word(27)), (0, 1));
         assert!((0..63).filter(|at| *at != 27).all(|at| before.word(at) == after.word(at)));
         assert!(after.check_is_right());
+    }
+
+    #[test]
+    fn the_check_goes_by_the_rule() {
+        let question = Question::new(Task::ExcessAt { temperature: Kelvin(300.0) }, [0.25, 0.75]);
+        let (plain, running) = (question.encode_by(Rule::Plain), question.encode_by(Rule::Running));
+        assert_eq!(plain, question.encode());
+        assert_eq!(plain[..BLOCK - 8], running[..BLOCK - 8]);
+        assert!(Block::new(&running).check_is_right_by(Rule::Running) && !Block::new(&running).check_is_right());
     }
 
     #[test]

@@ -9,8 +9,8 @@ use zektonk::{
     liquid_stability, rachford_rice, rachford_rice_negative, tp_flash,
 };
 use zektonk::{
-    Answer, Book, Correlation, Feed, Kelvin, Options, Pair, Pascal, Phases, Question, Refusal, Solvent, Split, Task,
-    UpToEight, Validity, Words, ANSWER_ROOM, BLOCK,
+    Answer, Block, Book, Correlation, Feed, Kelvin, Options, Pair, Pascal, Phases, Question, Refusal, Rule, Solvent,
+    Split, Task, UpToEight, Validity, Words, ANSWER_ROOM, BLOCK,
 };
 
 const STORED_BOOK: &[u8] = include_bytes!("../../../crates/still/data/book.bin");
@@ -244,6 +244,52 @@ fn a_feed_by_mass() {
     }
     let bubble = bubble_pressure(&book, Feed::mass(w), T).unwrap();
     assert_eq!(bubble.liquid, moles.into(), "compositions of an answer are mole fractions");
+}
+
+/// A version 3 book is answered as that of version 2, its words exchanged are found, and a question is checked by its rule.
+#[test]
+fn running_sums() {
+    let weighed = in_the_making().molar_masses([0.046_068_44, 0.018_015_28]);
+    let [second, third] = [2, 3].map(|version| weighed.clone().version(version).build().unwrap());
+    assert_eq!([second.rule(), third.rule()], [Rule::Plain, Rule::Running]);
+    for feed in [Feed::from([0.5, 0.5]), Feed::mass([0.7, 0.3])] {
+        let question = Question::new(flash_at(T, P), feed);
+        assert!(matches!(answer(&third, &question), Ok(Answer::TpFlash(_))));
+        assert_eq!(answer(&second, &question), answer(&third, &question));
+        let mut room = [0; ANSWER_ROOM];
+        for book in [&second, &third] {
+            let other = if book.rule() == Rule::Plain { Rule::Running } else { Rule::Plain };
+            let refused = answer_bytes(book.bytes(), &question.encode_by(other), &mut room);
+            assert_eq!(refused, Err(Refusal::QuestionBlock));
+            assert_eq!(answer_bytes(book.bytes(), &question.encode_by(book.rule()), &mut room), Ok(()));
+            assert!(Block::of(&room, 0).unwrap().check_is_right_by(book.rule()));
+            assert!(Answer::decode_by(book.rule(), &room, 2).is_ok_and(|answered| answered.is_ok()));
+        }
+    }
+    // The first two coefficients of ethanol's vapor pressure.
+    let exchanged = |book: &Book<'_>| {
+        let (mut bytes, at) = (book.bytes().to_vec(), BLOCK + 8 * 8);
+        bytes[at..at + 16].rotate_left(8);
+        bubble_pressure(&Book::from(bytes), [0.5, 0.5], T).err()
+    };
+    assert_ne!(exchanged(&second), Some(Refusal::BookCheck));
+    assert_eq!(exchanged(&third), Some(Refusal::BookCheck));
+}
+
+/// 38 ahead of 2 and 3, whatever the sums.
+#[test]
+fn versions_that_are_none() {
+    for version in [0, 4, 1 << 32 | 3, u64::MAX] {
+        for rule in [Rule::Plain, Rule::Running] {
+            let head = Words::new(1).word(1, version).word(2, 2).seal_by(rule);
+            let book = Book::from([&head[..], &STORED_BOOK[BLOCK..]].concat());
+            assert_eq!((book.version(), book.rule()), (None, Rule::Plain));
+            assert_eq!(excess_at(&book, [0.5, 0.5], T), Err(Refusal::BookVersion));
+        }
+    }
+    let other = Words::new(2).word(1, 3).word(2, 2).seal();
+    let book = Book::from([&other[..], &STORED_BOOK[BLOCK..]].concat());
+    assert_eq!(excess_at(&book, [0.5, 0.5], T), Err(Refusal::BookHead));
 }
 
 /// Ethanol and water with these molar masses.

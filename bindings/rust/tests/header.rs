@@ -94,6 +94,7 @@ fn sizes_and_version() {
     }
     assert_eq!(defined("FORMAT_VERSION"), format::VERSION.to_string());
     assert_eq!(defined("FORMAT_VERSION_MASS"), format::VERSION_MASS.to_string());
+    assert_eq!(defined("FORMAT_VERSION_RUNNING"), format::VERSION_RUNNING.to_string());
 }
 
 #[test]

@@ -10,18 +10,18 @@ use mathlib.Core.Logic.{⊎-elim}
 use borrow.Author.Tests.{le-leb, lt-leb}
 use lib.Seq.{sets-eq, take-at, take-all, take-nil, drop-append-add, drop-drop, getD-append-add}
 use borrow.Rule.Slice.PartMut.{putMid}
-use Rattle.blocks.specs.Words.{checkSum, sumBy, byte, wordFrom, word, block}
+use Rattle.blocks.specs.Words.{checkSum, runningSum, sumBy, byte, wordFrom, word, block}
 use Rattle.blocks.specs.Bytes.{bytes, rowTo, blockBytes, put, stored}
 use Rattle.blocks.specs.declared.Rule.{Rule}
-use Rattle.blocks.specs.declared.Rule.the-variants.{Plain}
+use Rattle.blocks.specs.declared.Rule.the-variants.{Plain, Running}
 
 pub sum-turn : (f : ℕ → ℕ) {s w r : ℕ} (k : ℕ) → s ≡ checkSum f k → w ≡ f k → r ≡ (s + w) % 2 ^ 64 → r ≡ checkSum f (k + 1)
 unfolding checkSum
 sum-turn f k e v h = rw add-one (h ∙ rw (e, v))
 
-pub plain-sum : (rule : Rule) (w : ℕ → ℕ) {r : ℕ} → r ≡ checkSum w 63 → r ≡ sumBy rule w
-unfolding sumBy
-plain-sum Plain w e = e
+pub runs-turn : (f : ℕ → ℕ) {s r r' : ℕ} (k : ℕ) → r ≡ runningSum f k → s ≡ checkSum f (k + 1) → r' ≡ (r + s) % 2 ^ 64 → r' ≡ runningSum f (k + 1)
+unfolding runningSum
+runs-turn f k e v h = rw add-one (h ∙ rw (e, v, add-one))
 
 pub length-block : (s : List ℕ) (k : ℕ) → 512 * k + 512 ≤ length s → length (block s k) ≡ 512
 unfolding block
@@ -205,9 +205,15 @@ unfolding checkSum
 sum-small w zero = omega arith
 sum-small w (suc n) = omega arith
 
+runs-small : (w : ℕ → ℕ) (n : ℕ) → runningSum w n < 2 ^ 64
+unfolding runningSum
+runs-small w zero = omega arith
+runs-small w (suc n) = omega arith
+
 check-small : (rule : Rule) (w : ℕ → ℕ) → sumBy rule w < 2 ^ 64
 unfolding sumBy
 check-small Plain w = sum-small w 63
+check-small Running w = runs-small w 63
 
 -- a block that was written has its words, and its check is right
 pub block-read : (rule : Rule) (w : ℕ → ℕ) (k : ℕ) (r : List ℕ) → k < 63 → word (blockBytes rule w ++ r) k ≡ wordFrom (bytes (w k)) 0
@@ -224,13 +230,20 @@ block-check rule w r =
     ∙ word-front (sumBy rule w) r ∙ word-bytes (sumBy rule w) (check-small rule w))
 
 -- equal words have equal checks
+plain-same : (w v : ℕ → ℕ) → ((k : ℕ) → k < 63 → w k ≡ v k) → (n : ℕ) → n ≤ 63 → checkSum w n ≡ checkSum v n
+unfolding checkSum
+plain-same w v same zero l = refl
+plain-same w v same (suc n) l = rw (plain-same w v same n (omega arith), same n (omega arith))
+
+runs-same : (w v : ℕ → ℕ) → ((k : ℕ) → k < 63 → w k ≡ v k) → (n : ℕ) → n ≤ 63 → runningSum w n ≡ runningSum v n
+unfolding runningSum
+runs-same w v same zero l = refl
+runs-same w v same (suc n) l = rw (runs-same w v same n (omega arith), plain-same w v same (suc n) l)
+
 pub sum-same : (rule : Rule) (w v : ℕ → ℕ) → ((k : ℕ) → k < 63 → w k ≡ v k) → sumBy rule w ≡ sumBy rule v
-unfolding sumBy checkSum
-sum-same Plain w v same = go 63 (omega arith)
-  where
-    go : (n : ℕ) → n ≤ 63 → checkSum w n ≡ checkSum v n
-    go zero l = refl
-    go (suc n) l = rw (go n (omega arith), same n (omega arith))
+unfolding sumBy
+sum-same Plain w v same = plain-same w v same 63 (omega arith)
+sum-same Running w v same = runs-same w v same 63 (omega arith)
 
 -- what a slice holds once bytes are written: they fit, or the slice stays as it was
 pub stored-fits : (l bs : List ℕ) (from : ℕ) {n : ℕ} → length bs ≡ n → from + n ≤ length l → stored l from bs ≡ put l from bs

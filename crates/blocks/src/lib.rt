@@ -1,14 +1,15 @@
 // Blocks of 512 bytes: 64 little-endian words of 64 bits, the last the check of the others.
 ghost use mathlib.Core.Path.{_≡_};
 ghost use mathlib.Core.List.{_++_};
-ghost use Prim.Native.Nat.{_≤_, _<_, _+_, _*_};
+ghost use Prim.Native.Nat.{_≤_, _<_, _+_, _*_, _%_, _^_};
 ghost use lib.ListN.{length, drop};
-ghost use Rattle.blocks.specs.Words.{byte, word, wordOf, wordFrom, block, checkSum, sumBy, checkRight};
+ghost use Rattle.blocks.specs.Words.{byte, word, wordOf, wordFrom, block, checkSum, runningSum, sumBy, checkRight};
 ghost use Rattle.blocks.specs.Bytes.{bytes, rowTo, put, stored, blockBytes, wordAt};
 
-// How a block's check is worked out: plainly the sum of its words 0 to 62.
+// How a block's check is worked out of its words 0 to 62: plainly their sum, or the sum of their running sums.
 pub enum Rule {
     Plain,
+    Running,
 }
 
 fn wide(x: u8) -> u64
@@ -138,11 +139,85 @@ fn plain_sum(s: &[u8]) -> u64
     }
 }
 
+fn lanes_sum(a0: u64, a1: u64, a2: u64, t0: u64, t1: u64, t2: u64, t3: u64) -> u64
+    ensures { λ r. ⌜ r ≡ (4 * (t0 + t1 + t2 + t3) + 3 * a0 + 2 * a1 + a2) % 2 ^ 64 ⌝ }
+{
+    let low = std::num::wrapping_add_u64(t0, t1);
+    let t = std::num::wrapping_add_u64(low, std::num::wrapping_add_u64(t2, t3));
+    let twice = std::num::wrapping_add_u64(t, t);
+    let two = std::num::wrapping_add_u64(a0, a1);
+    let three = std::num::wrapping_add_u64(two, a2);
+    let ends = std::num::wrapping_add_u64(a0, std::num::wrapping_add_u64(two, three));
+    std::num::wrapping_add_u64(std::num::wrapping_add_u64(twice, twice), ends)
+}
+
+// The rows of four words that a slice has, at most a block's sixteen.
+fn row_count(s: &[u8]) -> usize
+    ensures { λ r. ⌜ (r ≤ 16) × (32 * r ≤ length (now (s .entry))) × (512 ≤ length (now (s .entry)) → 16 ≤ r) ⌝ }
+{
+    let n = s.len() / 32;
+    if n < 16 { n } else { 16 }
+}
+
+// Word k counts 63 - k times, which is 4 (15 - r) + (3 - c) for k = 4 r + c. So each of four lanes, c, keeps its sum a
+// and the sum t of what a was before each row, and no row waits for the one word before. The rows go by the slice, and
+// its length is tested after them: a count of 16 would have the compiler take the loop apart before it puts two lanes
+// to a step, and the sum would take twice as long.
+fn running_rows(s: &[u8]) -> u64
+    ensures { λ r. ⌜ (512 ≤ length (now (s .entry)) → r ≡ runningSum (word (now (s .entry))) 63) ⌝ }
+{
+    let rows = row_count(s);
+    let mut a0: u64 = 0;
+    let mut a1: u64 = 0;
+    let mut a2: u64 = 0;
+    let mut a3: u64 = 0;
+    let mut t0: u64 = 0;
+    let mut t1: u64 = 0;
+    let mut t2: u64 = 0;
+    let mut t3: u64 = 0;
+    for r in 0usize..rows {
+        t0 = std::num::wrapping_add_u64(t0, a0);
+        t1 = std::num::wrapping_add_u64(t1, a1);
+        t2 = std::num::wrapping_add_u64(t2, a2);
+        t3 = std::num::wrapping_add_u64(t3, a3);
+        a0 = std::num::wrapping_add_u64(a0, word_from(s, 32 * r));
+        a1 = std::num::wrapping_add_u64(a1, word_from(s, 32 * r + 8));
+        a2 = std::num::wrapping_add_u64(a2, word_from(s, 32 * r + 16));
+        a3 = std::num::wrapping_add_u64(a3, word_from(s, 32 * r + 24));
+    }
+    lanes_sum(a0, a1, a2, t0, t1, t2, t3)
+}
+
+fn running_short(s: &[u8]) -> u64
+    ensures { λ r. ⌜ r ≡ runningSum (word (now (s .entry))) 63 ⌝ }
+{
+    let mut sum: u64 = 0;
+    let mut runs: u64 = 0;
+    for k in 0usize..63 {
+        sum = std::num::wrapping_add_u64(sum, short_word(s, k));
+        runs = std::num::wrapping_add_u64(runs, sum);
+    }
+    runs
+}
+
+// The sum of the running sums after words 0, 1 and on to 62 of a block, modulo 2^64.
+fn running_sum(s: &[u8]) -> u64
+    ensures { λ r. ⌜ r ≡ runningSum (word (now (s .entry))) 63 ⌝ }
+{
+    let sum = running_rows(s);
+    if 512 <= s.len() {
+        sum
+    } else {
+        running_short(s)
+    }
+}
+
 fn sum_by(rule: Rule, s: &[u8]) -> u64
     ensures { λ r. ⌜ r ≡ sumBy rule (word (now (s .entry))) ⌝ }
 {
     match rule {
         Rule::Plain => plain_sum(s),
+        Rule::Running => running_sum(s),
     }
 }
 
@@ -193,11 +268,24 @@ fn words_sum(ws: &[u64; 64]) -> u64
     sum
 }
 
+fn words_running(ws: &[u64; 64]) -> u64
+    ensures { λ r. ⌜ r ≡ runningSum (wordAt (now (ws .entry))) 63 ⌝ }
+{
+    let mut sum: u64 = 0;
+    let mut runs: u64 = 0;
+    for k in 0usize..63 {
+        sum = std::num::wrapping_add_u64(sum, ws[k]);
+        runs = std::num::wrapping_add_u64(runs, sum);
+    }
+    runs
+}
+
 fn words_sum_by(rule: Rule, ws: &[u64; 64]) -> u64
     ensures { λ r. ⌜ r ≡ sumBy rule (wordAt (now (ws .entry))) ⌝ }
 {
     match rule {
         Rule::Plain => words_sum(ws),
+        Rule::Running => words_running(ws),
     }
 }
 

@@ -16,7 +16,7 @@ use Rattle.floats.proofs.Outcomes.{need-inv, each-ok, each-need}
 use Rattle.book.proofs.Laws.{place-above, place-within}
 use Rattle.book.specs.declared.Head.{Head}
 use Rattle.book.specs.Places.{words, pairCount, blockCount, rowFrom, pairPlace}
-use Rattle.book.specs.Book.{headRight, solventRight, recordsRight, massesRight, casNew, pairRight, rowRight, pairFinite, alphasEqual}
+use Rattle.book.specs.Book.{versionRight, headRight, solventRight, recordsRight, massesRight, casNew, pairRight, rowRight, pairFinite, alphasEqual}
 use Rattle.book.specs.Book.{headIn, pairsOf, solventsOf, headOf, ruleOf, bookOf}
 
 pub record Accepted (s : List ℕ) (n : ℕ) : Type 0 where
@@ -24,6 +24,7 @@ pub record Accepted (s : List ℕ) (n : ℕ) : Type 0 where
   pub few : n ≤ 8
   pub size : length s ≡ 512 * blockCount n
   pub count : words s 0 2 ≡ n
+  pub version : versionRight (words s 0) ≡ true
   pub checks : allTo (λ k. checkRight (ruleOf s) (words s k)) (blockCount n) ≡ true
   pub head : headRight (words s 0) ≡ true
   pub solvents : allTo (λ i. solventRight (words s (i + 1)) i) n ≡ true
@@ -54,7 +55,7 @@ unfolding bookOf headOf solventsOf pairsOf
 opened-head s {h} e = let P : Head → Type 0 = λ g. headIn (words s 0) ≡ g in
     let pairs = each-need P _ 7 (each-need P _ 8 (each-need P _ 9 (each-ok P refl))) in
     let solvents = each-need P _ 4 (each-need P _ 5 (each-need P _ 35 (each-need P _ 6 pairs))) in
-    each-need P _ 1 (each-need P _ 1 (each-need P _ 2 (each-need P _ 3 (each-need P _ 3 solvents)))) .each h e
+    each-need P _ 1 (each-need P _ 1 (each-need P _ 38 (each-need P _ 2 (each-need P _ 3 (each-need P _ 3 solvents))))) .each h e
 
 pub accepted : (s : List ℕ) {h : Head} → bookOf s ≡ ok h → Accepted s (h .n)
 unfolding bookOf headOf solventsOf pairsOf headIn headRight
@@ -63,7 +64,8 @@ accepted s {h = g} h =
     let l = length s in
     let q1 = passed (eqb (l % 512) 0) 1 _ h in
     let q1' = passed (ltb 0 l) 1 _ (q1 .1) in
-    let q2 = passed (allTo (λ k. checkRight (ruleOf s) (w k)) (l / 512)) 2 _ (q1' .1) in
+    let q38 = passed (versionRight (w 0)) 38 _ (q1' .1) in
+    let q2 = passed (allTo (λ k. checkRight (ruleOf s) (w k)) (l / 512)) 2 _ (q38 .1) in
     let q3 = passed (headRight (w 0)) 3 _ (q2 .1) in
     let q3' = passed (eqb (l / 512) (blockCount (w 0 2))) 3 _ (q3 .1) in
     let q4 = passed (allTo (λ i. solventRight (w (i + 1)) i) (w 0 2)) 4 _ (q3' .1) in
@@ -75,13 +77,13 @@ accepted s {h = g} h =
     let q9 = passed (allTo (λ d. alphasEqual (w (1 + w 0 2 + d))) (pairCount (w 0 2))) 9 _ (q8 .1) in
     let e : w 0 2 ≡ g .n = ap (λ (g : Head). g .n) (opened-head s h) in
     let z = eqb-true (l / 512) (blockCount (w 0 2)) (q3' .0) in
-    let kinds = eqb (w 0 0) 1 && ltb 0 (w 0 1) && leb (w 0 1) 2 in
     let a : Accepted s (w 0 2) =
     record {
-      some = ltb-true 0 (w 0 2) (second kinds (ltb 0 (w 0 2)) (first (kinds && ltb 0 (w 0 2)) (leb (w 0 2) 8) (q3 .0)));
-      few = leb-true (w 0 2) 8 (second (kinds && ltb 0 (w 0 2)) (leb (w 0 2) 8) (q3 .0));
+      some = ltb-true 0 (w 0 2) (second (eqb (w 0 0) 1) (ltb 0 (w 0 2)) (first (eqb (w 0 0) 1 && ltb 0 (w 0 2)) (leb (w 0 2) 8) (q3 .0)));
+      few = leb-true (w 0 2) 8 (second (eqb (w 0 0) 1 && ltb 0 (w 0 2)) (leb (w 0 2) 8) (q3 .0));
       size = whole l (eqb-true (l % 512) 0 (q1 .0)) ∙ ap (λ (x : ℕ). 512 * x) z;
       count = refl;
+      version = q38 .0;
       checks = rw z at (q2 .0);
       head = q3 .0;
       solvents = q4 .0;

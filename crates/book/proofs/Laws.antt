@@ -1,19 +1,22 @@
 -- Laws of questions in a row and of the places of pairs. Assumes nothing.
 use mathlib.Core.Path.{_≡_, refl, sym, _∙_}
-use mathlib.Core.Bool.{Bool, true, false, not, _&&_, true≢false}
-use Prim.Native.Nat.{ℕ, zero, suc, _+_, _≤_, _<_, _-_, _*_}
+use mathlib.Core.List.{List}
+use mathlib.Core.Bool.{Bool, true, false, not, cond, _&&_, true≢false}
+use Prim.Native.Nat.{ℕ, zero, suc, _+_, _≤_, _<_, _-_, _*_, _%_}
 use native.Mathlib.Numerals.{add-one}
 use native.Mathlib.Omega.{arith}
 use borrow.Author.Tests.{leb-true, eq-eqb, ne-eqb, lt-ltb, le-ltb}
 use lib.Dec.{eqb, ltb, leb}
+use lib.ListN.{length}
+use Rattle.blocks.specs.declared.Rule.the-variants.{Plain, Running}
 use Rattle.floats.specs.Fold.{allTo}
 use Rattle.floats.specs.Outcome.{Out, ok, no, need}
 use Rattle.floats.proofs.Folds.{all-at}
 use Rattle.book.specs.declared.Head.{Head}
 use Rattle.book.specs.declared.Opened.{Opened}
 use Rattle.book.specs.declared.Opened.the-variants.{Book, No}
-use Rattle.book.specs.Places.{pairCount, blockCount, rowFrom, pairPlace}
-use Rattle.book.specs.Book.{headRight, openedOf}
+use Rattle.book.specs.Places.{words, pairCount, blockCount, rowFrom, pairPlace}
+use Rattle.book.specs.Book.{headRight, ruleIn, ruleOf, openedOf}
 
 pub opened-ok : (o : Out Head) {h : Head} → Book h ≡ openedOf o → o ≡ ok h
 unfolding openedOf
@@ -40,6 +43,27 @@ none {l} e = le-ltb 0 l (omega arith)
 
 pub some : {l : ℕ} → (l ≡ 0 → ⊥) → ltb 0 l ≡ true
 some {l} f = lt-ltb 0 l (omega arith)
+
+-- the rule: of what is no book by question 1, and of whole blocks
+pub rule-cut : (s : List ℕ) → (length s % 512 ≡ 0 → ⊥) → Plain ≡ ruleOf s
+unfolding ruleOf
+rule-cut s f = rw (ne-eqb (length s % 512) 0 f)
+
+pub rule-none : (s : List ℕ) → length s ≡ 0 → Plain ≡ ruleOf s
+unfolding ruleOf
+rule-none s e = rw e
+
+pub rule-whole : (s : List ℕ) → length s % 512 ≡ 0 → (length s ≡ 0 → ⊥) → ruleOf s ≡ ruleIn (words s 0)
+unfolding ruleOf
+rule-whole s e f = rw (eq-eqb (length s % 512) 0 e, some f)
+
+pub rule-sized : (s : List ℕ) (n : ℕ) → length s ≡ 512 * blockCount n → ruleOf s ≡ ruleIn (words s 0)
+rule-sized s n e = rule-whole s (omega arith) (λ (z : length s ≡ 0). omega arith)
+
+pub rule-read : (s : List ℕ) {b : Bool} → length s % 512 ≡ 0 → (length s ≡ 0 → ⊥) → (eqb (words s 0 0) 1 && eqb (words s 0 1) 3) ≡ b
+    → cond b Running Plain ≡ ruleOf s
+unfolding ruleIn
+rule-read s e f h = rw (rule-whole s e f, h)
 
 -- the rows of pairs end where the book does, and a count of pairs is small: at n up to 8 antt computes it
 fitting : ℕ → ℕ → Bool
@@ -85,7 +109,7 @@ second false e = absurd (true≢false (sym e))
 
 pub head-few : (w : ℕ → ℕ) → headRight w ≡ true → w 2 ≤ 8
 unfolding headRight
-head-few w h = leb-true (w 2) 8 (second (eqb (w 0) 1 && ltb 0 (w 1) && leb (w 1) 2 && ltb 0 (w 2)) h)
+head-few w h = leb-true (w 2) 8 (second (eqb (w 0) 1 && ltb 0 (w 2)) h)
 
 pub count-no : {count r n m : ℕ} → (count ≡ 1 + n + r → ⊥) → r ≡ pairCount n → n ≡ m → eqb count (blockCount m) ≡ false
 count-no {count} {r} {n} {m} f e q = ne-eqb count (blockCount m) (λ p. f (rw (e, q) p))

@@ -15,9 +15,9 @@ use Rattle.floats.proofs.Folds.{all-cong}
 use Rattle.book.proofs.Laws.{row-above}
 use Rattle.book.specs.Places.{words, pairCount, rowFrom}
 use Rattle.book.specs.Named.{solventNamed, pairNamed, named, Agree}
-use Rattle.book.specs.Book.{floatsFinite, headRight, solventRight, rangeRight, termCount, recordRight, recordsRight, hasMasses, molarMass, massesRight}
+use Rattle.book.specs.Book.{floatsFinite, versionRight, headRight, solventRight, rangeRight, termCount, recordRight, recordsRight, hasMasses, molarMass, massesRight}
 use Rattle.book.specs.Book.{casNew, pairRight, rowRight}
-use Rattle.book.specs.Book.{boundsFinite, pairFinite, alphasEqual, headIn, pairsOf, solventsOf, headOf, ruleOf, bookOf}
+use Rattle.book.specs.Book.{boundsFinite, pairFinite, alphasEqual, headIn, pairsOf, solventsOf, headOf, ruleIn, ruleOf, bookOf}
 
 -- a block's tests read only its named words
 pub floats-same : (w v : ℕ → ℕ) (f n : ℕ) → ((k : ℕ) → k < n → w (f + k) ≡ v (f + k)) → floatsFinite w f n ≡ floatsFinite v f n
@@ -26,7 +26,11 @@ floats-same w v f n e = all-cong n (λ k l. ap (λ (x : ℕ). isFinite (floatOf 
 
 head-same : (w v : ℕ → ℕ) → ((k : ℕ) → k < 3 → w k ≡ v k) → headRight w ≡ headRight v
 unfolding headRight
-head-same w v e = rw (e 0 (omega arith), e 1 (omega arith), e 2 (omega arith))
+head-same w v e = rw (e 0 (omega arith), e 2 (omega arith))
+
+version-same : (w v : ℕ → ℕ) → ((k : ℕ) → k < 3 → w k ≡ v k) → versionRight w ≡ versionRight v
+unfolding versionRight
+version-same w v e = rw (e 0 (omega arith), e 1 (omega arith))
 
 module _ (w v : ℕ → ℕ) (e : (k : ℕ) → k < 45 → w k ≡ v k) where
   solvent-same : (i : ℕ) → solventRight w i ≡ solventRight v i
@@ -193,11 +197,16 @@ module _ (s t : List ℕ) (a : Agree s t) where
   unfolding headIn
   head-in-same = rw (head-agrees s t a 1 (omega arith), head-agrees s t a 2 (omega arith))
 
+  pub rule-unread : ruleOf s ≡ ruleOf t
+  unfolding ruleIn ruleOf
+  rule-unread = rw (a .size, head-agrees s t a 0 (omega arith), head-agrees s t a 1 (omega arith))
+
   -- the checks of both are right: then the same is answered
   pub book-unread : allTo (λ k. checkRight (ruleOf s) (words s k)) (length s / 512) ≡ true
       → allTo (λ k. checkRight (ruleOf t) (words t k)) (length t / 512) ≡ true → bookOf s ≡ bookOf t
   unfolding bookOf headOf
   book-unread p q =
+      let v = version-same (words s 0) (words t 0) (head-agrees s t a) in
       let h = head-same (words s 0) (words t 0) (head-agrees s t a) in
       let n = head-agrees s t a 2 (omega arith) in
-      rw (p, q, h, solvents-same, head-in-same, a .size, n)
+      rw (v, p, q, h, solvents-same, head-in-same, a .size, n)

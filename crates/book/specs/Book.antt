@@ -1,4 +1,4 @@
--- Questions 1 to 9 and 35 in the order of docs/FORMAT.md, each put to all blocks before the next. In a test of one block w k is its word k; over a whole book
+-- Questions 1 to 9, 35 and 38 in the order of docs/FORMAT.md, each put to all blocks before the next. In a test of one block w k is its word k; over a whole book
 -- w j k is word k of block j. Assumes nothing.
 use mathlib.Core.List.{List}
 use mathlib.Core.Bool.{Bool, true, not, cond, _&&_, _||_}
@@ -8,7 +8,7 @@ use lib.Ieee.{Float, lt, le, eq}
 use lib.ListN.{length}
 use Rattle.blocks.specs.Words.{checkRight}
 use Rattle.blocks.specs.declared.Rule.{Rule}
-use Rattle.blocks.specs.declared.Rule.the-variants.{Plain}
+use Rattle.blocks.specs.declared.Rule.the-variants.{Plain, Running}
 use Rattle.floats.specs.Arithmetic.{0f}
 use Rattle.floats.specs.Small.{isFinite, positive, float}
 use Rattle.floats.specs.Fold.{allTo}
@@ -23,9 +23,13 @@ use Rattle.book.specs.declared.Opened.the-variants.{Book, No}
 unfoldable pub floatsFinite : (ℕ → ℕ) → ℕ → ℕ → Bool
 floatsFinite w f n = allTo (λ k. isFinite (float w (f + k))) n
 
--- 3. block 0: kind 1, version 1 or 2, n 1 to 8
+-- 38. block 0 of kind 1 has version 1 to 3
+unfoldable pub versionRight : (ℕ → ℕ) → Bool
+versionRight w = not (eqb (w 0) 1) || (ltb 0 (w 1) && leb (w 1) 3)
+
+-- 3. block 0: kind 1, n 1 to 8
 unfoldable pub headRight : (ℕ → ℕ) → Bool
-headRight w = eqb (w 0) 1 && ltb 0 (w 1) && leb (w 1) 2 && ltb 0 (w 2) && leb (w 2) 8
+headRight w = eqb (w 0) 1 && ltb 0 (w 2) && leb (w 2) 8
 
 -- 4. a solvent's block: kind 2, its own index, CAS not 0, term counts 1 to 8
 unfoldable pub solventRight : (ℕ → ℕ) → ℕ → Bool
@@ -107,16 +111,25 @@ solventsOf w h =
 unfoldable pub headOf : (ℕ → ℕ → ℕ) → ℕ → Out Head
 headOf w count = need (headRight (w 0)) 3 (need (eqb count (blockCount (w 0 2))) 3 (solventsOf w (headIn (w 0))))
 
--- by which rule the blocks of a call are checked, from the book's bytes
-unfoldable pub ruleOf : List ℕ → Rule
-ruleOf s = Plain
+-- 1. whole blocks, at least one
+abbrev pub wholeBlocks : List ℕ → Bool
+wholeBlocks s = eqb (length s % 512) 0 && ltb 0 (length s)
 
--- questions 1 and 2, then the others: what block 0 says, or the number of the first question that is answered no
+-- by which rule the blocks of a call are checked, from the words of block 0: by running sums in version 3
+unfoldable pub ruleIn : (ℕ → ℕ) → Rule
+ruleIn w = cond (eqb (w 0) 1 && eqb (w 1) 3) Running Plain
+
+-- from the book's bytes: plainly where 1 is answered no
+unfoldable pub ruleOf : List ℕ → Rule
+ruleOf s = cond (wholeBlocks s) (ruleIn (words s 0)) Plain
+
+-- questions 1, 38 and 2, then the others: what block 0 says, or the number of the first question that is answered no
 unfoldable pub bookOf : List ℕ → Out Head
 bookOf s =
     need (eqb (length s % 512) 0) 1
     (need (ltb 0 (length s)) 1
-    (need (allTo (λ k. checkRight (ruleOf s) (words s k)) (length s / 512)) 2 (headOf (words s) (length s / 512))))
+    (need (versionRight (words s 0)) 38
+    (need (allTo (λ k. checkRight (ruleOf s) (words s k)) (length s / 512)) 2 (headOf (words s) (length s / 512)))))
 
 -- as the code answers
 unfoldable pub openedOf : Out Head → Opened

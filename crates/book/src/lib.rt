@@ -1,4 +1,4 @@
-// The book: questions 1 to 9, and 35.
+// The book: questions 1 to 9, 35 and 38.
 ghost use mathlib.Core.Path.{_≡_};
 ghost use mathlib.Core.Bool.{_&&_};
 ghost use Prim.Native.Nat.{_≤_, _<_, _+_, _*_, _-_};
@@ -8,7 +8,7 @@ ghost use Rattle.blocks.specs.Words.{word, wordFrom, block, checkRight};
 ghost use Rattle.floats.specs.Small.{isFinite, positive, floatOf, float};
 ghost use Rattle.floats.specs.Fold.{allTo};
 ghost use Rattle.book.specs.Places.{words, pairCount, blockCount, rowFrom};
-ghost use Rattle.book.specs.Book.{floatsFinite, headRight, solventRight, rangeRight, recordRight, recordsRight, hasMasses, molarMass, massesRight, casNew, pairRight, rowRight, boundsFinite, pairFinite, alphasEqual, pairsOf, solventsOf, headOf, ruleOf, bookOf, openedOf};
+ghost use Rattle.book.specs.Book.{floatsFinite, versionRight, headRight, solventRight, rangeRight, recordRight, recordsRight, hasMasses, molarMass, massesRight, casNew, pairRight, rowRight, boundsFinite, pairFinite, alphasEqual, pairsOf, solventsOf, headOf, ruleOf, bookOf, openedOf};
 use blocks::Rule;
 
 // What block 0 says: the number of solvents, and the version.
@@ -96,13 +96,21 @@ fn checks_right(rule: Rule, book: &[u8], count: usize) -> bool
     true
 }
 
+// Kind 1 has version 1 to 3.
+fn version_right(s: &[u8]) -> bool
+    requires { ⌜ length (now s) ≡ 512 ⌝ }
+    ensures { λ r. ⌜ r ≡ versionRight (word (now (s .entry))) ⌝ }
+{
+    let version = word(s, 1);
+    (word(s, 0) != 1) | ((0 < version) & (version <= 3))
+}
+
 fn head_right(s: &[u8]) -> bool
     requires { ⌜ length (now s) ≡ 512 ⌝ }
     ensures { λ r. ⌜ r ≡ headRight (word (now (s .entry))) ⌝ }
 {
-    let version = word(s, 1);
     let n = word(s, 2);
-    (word(s, 0) == 1) & (0 < version) & (version <= 2) & (0 < n) & (n <= 8)
+    (word(s, 0) == 1) & (0 < n) & (n <= 8)
 }
 
 fn pair_count(n: usize) -> usize
@@ -436,10 +444,20 @@ fn open_head(book: &[u8], count: usize) -> Opened
 pub fn rule_of(book: &[u8]) -> Rule
     ensures { λ r. ⌜ r ≡ ruleOf (now (book .entry)) ⌝ }
 {
+    if book.len() % 512 != 0 {
+        return Rule::Plain;
+    }
+    if book.len() == 0 {
+        return Rule::Plain;
+    }
+    let first = whole_block(book, 0);
+    if (word(first, 0) == 1) & (word(first, 1) == 3) {
+        return Rule::Running;
+    }
     Rule::Plain
 }
 
-// Questions 1 to 9: what block 0 says, or the number of the first question that is answered no.
+// Questions 1 to 9, 35 and 38: what block 0 says, or the number of the first question that is answered no.
 pub fn open_book(book: &[u8]) -> Opened
     ensures { λ r. ⌜ r ≡ openedOf (bookOf (now (book .entry))) ⌝ }
 {
@@ -448,6 +466,9 @@ pub fn open_book(book: &[u8]) -> Opened
     }
     if book.len() == 0 {
         return Opened::No(1);
+    }
+    if !version_right(whole_block(book, 0)) {
+        return Opened::No(38);
     }
     let count = book.len() / 512;
     if !checks_right(rule_of(book), book, count) {

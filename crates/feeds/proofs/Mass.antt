@@ -1,26 +1,25 @@
 -- A question by mass and the one in moles that has its feed converted are read alike. Assumes nothing.
 use Prim.Native.Nat.{ℕ, _+_, _≤_, _<_}
-use mathlib.Core.Path.{_≡_, ap}
+use mathlib.Core.Path.{_≡_}
 use mathlib.Core.Logic.{inl, inr}
 use mathlib.Core.Bool.{true}
 use mathlib.Core.List.{List}
 use native.Mathlib.Omega.{arith}
 use lib.Ieee.{Float}
 use Rattle.floats.specs.Arithmetic.{_⊘_}
-use Rattle.floats.specs.Small.{positive, floatOf}
+use Rattle.floats.specs.Small.{positive}
 use Rattle.floats.specs.Fold.{allTo}
-use Rattle.floats.specs.Vector.{at, zeros8}
-use Rattle.floats.specs.Outcome.{ok, bind, choose}
-use Rattle.floats.proofs.Fills.{fill-cong}
+use Rattle.floats.specs.Vector.{at}
+use Rattle.floats.specs.Outcome.{ok, choose}
 use Rattle.thermo_types.specs.Composition.{allFinite, noneNegative, sumsToOne, normalizeOf}
 use Rattle.blocks.specs.declared.Rule.{Rule}
 use Rattle.blocks.specs.Words.{word, checkRight}
 use Rattle.book.specs.Book.{hasMasses}
-use Rattle.question.specs.Asked.{taskIn, kindRight, ratio, feedOf, ratiosOf, inputsRight, optionsRight, limitsRight}
-use Rattle.question.specs.Asked.{molesOf, optionsIn, questionFrom, restOf, questionOf}
+use Rattle.question.specs.Asked.{taskIn, kindRight, feedOf, inputsRight, molesOf, restOf, questionOf}
 use Rattle.feeds.specs.Feeds.{InMoles}
 use Rattle.feeds.proofs.Fractions.{moles-pass, moles-read}
 use Rattle.feeds.proofs.Moles.{kind-moles, moles-moles}
+use Rattle.feeds.proofs.Rest.{restIn, rest-alike}
 
 kind-mass : (version : ℕ) (w : ℕ → ℕ) → w 27 ≡ 1 → hasMasses version ≡ true → kindRight version w ≡ true
 unfolding kindRight
@@ -37,48 +36,23 @@ module _ (n : ℕ) (l : n ≤ 8) (z : List Float) (q r : List ℕ) (a : InMoles 
   middle : (k : ℕ) → 12 ≤ k → k < 27 → word q k ≡ word r k
   middle k h g = a .others k (omega arith) (inr h) (λ e. omega arith)
 
-  ratios-alike : ratiosOf q n ≡ ratiosOf r n
-  ratios-alike = fill-cong (ratio (word q)) (ratio (word r)) n zeros8 (λ k h. ap floatOf (middle (19 + k) (omega arith) (omega arith)))
-
   task-alike : (rule : Rule) → checkRight rule (word q) ≡ true → checkRight rule (word r) ≡ true → taskIn rule q ≡ taskIn rule r
   unfolding taskIn
   task-alike rule c d = rw (c, d, a .size, front 0 (omega arith), front 1 (omega arith))
 
   module _ (m : ℕ → Float) (p : allTo (λ i. positive (m i)) n ≡ true) (e : normalizeOf (λ i. at (feedOf q n) i ⊘ m i) n ≡ ok z) where
-    rest-alike : allFinite (at (feedOf q n)) n ≡ true → noneNegative (at (feedOf q n)) n ≡ true → sumsToOne (at (feedOf q n)) n ≡ true
+    rest-mass : allFinite (at (feedOf q n)) n ≡ true → noneNegative (at (feedOf q n)) n ≡ true → sumsToOne (at (feedOf q n)) n ≡ true
         → restOf q m n (feedOf q n) ≡ restOf r m n (feedOf r n)
-    unfolding restOf inputsRight limitsRight optionsRight questionFrom optionsIn bind
-    rest-alike f g h =
+    unfolding restOf restIn inputsRight
+    rest-mass f g h =
         let y : feedOf r n ≡ z = moles-read (at (feedOf q n)) m n l z e (λ i. word r (4 + i)) (a .fraction) in
         let s = moles-pass (at (feedOf q n)) m n l z e g p in
-        let o : (k : ℕ) → 12 ≤ k → k < 19 → word q k ≡ word r k = λ k l h. middle k l (omega arith) in
-        rw (
-          y,
-          moles-mass (word q) m n (feedOf q n) (a .kind),
-          moles-moles (word r) m n z (a .kind'),
-          e,
-          f,
-          g,
-          h,
-          s .0,
-          s .1,
-          s .2,
-          ratios-alike,
-          front 1 (omega arith),
-          front 2 (omega arith),
-          front 3 (omega arith),
-          o 12 (omega arith) (omega arith),
-          o 13 (omega arith) (omega arith),
-          o 14 (omega arith) (omega arith),
-          o 15 (omega arith) (omega arith),
-          o 16 (omega arith) (omega arith),
-          o 17 (omega arith) (omega arith),
-          o 18 (omega arith) (omega arith),
-        )
+        let b = rest-alike q r n l front middle z (ok z) in
+        rw (y, moles-mass (word q) m n (feedOf q n) (a .kind), moles-moles (word r) m n z (a .kind'), e, f, g, h, ← b, s .0, s .1, s .2)
 
     pub question-mass : (rule : Rule) (version : ℕ) → hasMasses version ≡ true → checkRight rule (word q) ≡ true → checkRight rule (word r) ≡ true
         → allFinite (at (feedOf q n)) n ≡ true → noneNegative (at (feedOf q n)) n ≡ true → sumsToOne (at (feedOf q n)) n ≡ true
         → questionOf rule q version m n ≡ questionOf rule r version m n
     unfolding questionOf
     question-mass rule version v c d f g h =
-        rw (kind-mass version (word q) (a .kind) v, kind-moles version (word r) (a .kind'), task-alike rule c d, rest-alike f g h)
+        rw (kind-mass version (word q) (a .kind) v, kind-moles version (word r) (a .kind'), task-alike rule c d, rest-mass f g h)

@@ -23,7 +23,7 @@ use Rattle.refusals.proofs.Flash.{num-flash}
 
 num-book : (book : List ℕ) → Numbered (bookOf book)
 unfolding bookOf headOf solventsOf pairsOf
-num-book book = search numbers depth 13
+num-book book = search numbers depth 14
 
 num-question : (rule : Rule) (question : List ℕ) (version : ℕ) (m : ℕ → Float) (n : ℕ) → Numbered (questionOf rule question version m n)
 unfolding questionOf taskIn restOf inputsRight limitsRight molesOf

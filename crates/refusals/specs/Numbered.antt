@@ -3,13 +3,13 @@ use mathlib.Core.Path.{_≡_}
 use mathlib.Core.Bool.{Bool, _&&_, _||_}
 use mathlib.Core.List.{List}
 use Prim.Native.Nat.{ℕ}
-use lib.Dec.{T, leb}
+use lib.Dec.{T, eqb, leb}
 use Rattle.floats.specs.Outcome.{Out, ok, no}
 use Rattle.sheet.specs.Sheet.{sheetOf, numberOf}
 
--- the numbers that there are: 1 to 30, and 34 to 36
+-- the numbers that there are: 1 to 30, 34 to 36, and 38
 abbrev pub isNumber : ℕ → Bool
-isNumber r = (leb 1 r && leb r 30) || (leb 34 r && leb r 36)
+isNumber r = (leb 1 r && leb r 30) || (leb 34 r && leb r 36) || eqb r 38
 
 -- an outcome whose refusal, if it is one, has such a number
 pub record Numbered {A : Type 0} (o : Out A) : Type 0 where

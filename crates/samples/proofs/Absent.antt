@@ -11,7 +11,7 @@ use Rattle.thermo_types.specs.Quantities.{positiveOf}
 use Rattle.blocks.specs.Words.{word, block, checkSum, sumBy, checkRight}
 use Rattle.blocks.specs.Bytes.{bytes, rowTo, blockBytes}
 use Rattle.book.specs.Places.{rowFrom, pairPlace}
-use Rattle.book.specs.Book.{ruleOf}
+use Rattle.book.specs.Book.{ruleIn, ruleOf}
 use Rattle.records.specs.Records.{rangeOf, ancillaryOf}
 use Rattle.records.specs.Parameters.{termIn, parameter, parameterRow, parameterRows, parametersOf}
 use Rattle.liquid.specs.Vapor.{inRange, term, slopeTerm, curvatureTerm, sumsOf, vaporFrom, vaporOf, representable, vaporPressureOf}
@@ -42,7 +42,7 @@ use Rattle.samples.proofs.Shorter.{shorter}
 
 pub absent : Absent
 unfolding ofBits toBits add sub mul div neg lt le eq isNan ofInt toSigned size word block checkSum sumBy checkRight bytes rowTo blockBytes isFinite foldTo allTo
-    fillFrom fill bind need choose expOf lnOf sumsToOne withFractions positiveOf rowFrom pairPlace ruleOf rangeOf termIn parameter parameterRow parameterRows
+    fillFrom fill bind need choose expOf lnOf sumsToOne withFractions positiveOf rowFrom pairPlace ruleIn ruleOf rangeOf termIn parameter parameterRow parameterRows
     parametersOf inRange constJ addJ subJ negJ mulJ scaleJ divJ expWith basisOf tauJ alphaJ exponentJ tauIJ gIJ alphaRight allRight colS colC termJ lnFrom
     gibbsFrom gibbsOf enthalpyOf heatCapacityOf entropyOf stateWith stateFrom withState nrtlOf excessOf solventCovers temperatureInDomain pureLiquidsOf positive
     toleranceRight optionsRight optionsIn questionFrom inputsRight limitsRight taskIn kindRight molesOf restOf questionOf bit statusNumber stateWords modelWords answerWords

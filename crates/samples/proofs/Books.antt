@@ -3,18 +3,19 @@ use Prim.Native.Nat.{ℕ}
 use mathlib.Core.Path.{_≡_, refl}
 use mathlib.Core.List.{List}
 use lib.Ieee.{ofBits, lt, le, eq, size}
-use Rattle.blocks.specs.Words.{word, block, checkSum, sumBy, checkRight}
+use Rattle.blocks.specs.declared.Rule.the-variants.{Plain, Running}
+use Rattle.blocks.specs.Words.{word, block, checkSum, runningSum, sumBy, checkRight}
 use Rattle.blocks.specs.Bytes.{bytes, rowTo, blockBytes}
 use Rattle.floats.specs.Small.{isFinite, positive}
 use Rattle.floats.specs.Fold.{allTo}
 use Rattle.floats.specs.Outcome.{Out, ok, no, bind, need}
 use Rattle.book.specs.Places.{rowFrom}
-use Rattle.book.specs.Book.{floatsFinite, headRight, solventRight, rangeRight, recordRight, recordsRight, massesRight, casNew, pairRight, rowRight, boundsFinite, pairFinite, alphasEqual}
-use Rattle.book.specs.Book.{headIn, pairsOf, solventsOf, headOf, ruleOf, bookOf}
+use Rattle.book.specs.Book.{floatsFinite, versionRight, headRight, solventRight, rangeRight, recordRight, recordsRight, massesRight, casNew, pairRight, rowRight, boundsFinite, pairFinite, alphasEqual}
+use Rattle.book.specs.Book.{headIn, pairsOf, solventsOf, headOf, ruleIn, ruleOf, bookOf}
 use Rattle.book.specs.declared.Head.{Head}
-use Rattle.replies.specs.Blocks.{answerRoom}
-use Rattle.sheet.specs.Sheet.{sheetFrom, sheetOf}
-use Rattle.samples.specs.Sheets.{½, book1, book2, wide, book2-weighed}
+use Rattle.replies.specs.Blocks.{answerRoom, refusalBytes}
+use Rattle.sheet.specs.Sheet.{sheetFrom, sheetOf, replyOf, replyTo}
+use Rattle.samples.specs.Sheets.{½, book1, book2, wide, book2-weighed, book1-of}
 use Rattle.samples.specs.Absent.{book3}
 
 pub answered : (book question : List ℕ) {h : Head} {o : Out (List ℕ)} → bookOf book ≡ ok h → sheetFrom book (h .version) (h .n) question answerRoom ≡ o → sheetOf book question answerRoom ≡ o
@@ -24,6 +25,10 @@ answered book question e h = rw e h
 pub unopened : (book question : List ℕ) {r : ℕ} → bookOf book ≡ no r → sheetOf book question answerRoom ≡ no r
 unfolding sheetOf bind
 unopened book question e = rw e
+
+pub unsent : (book question : List ℕ) {r : ℕ} {b : List ℕ} → bookOf book ≡ no r → refusalBytes (ruleOf book) question r ≡ b → replyTo book question ≡ b
+unfolding replyOf replyTo
+unsent book question e h = rw (unopened book question e) h
 
 -- a book of n solvents
 abbrev Has : List ℕ → ℕ → Type 0
@@ -36,8 +41,10 @@ pub record BooksOpened : Type 0 where
   pub wide : Has wide 2
   pub weighed : bookOf (book2-weighed ½ ½) ≡ ok (record { n = 2; version = 2 })
   pub weightless : bookOf (book2-weighed ½ 0) ≡ no 35
+  pub running : bookOf (book1-of Running 3) ≡ ok (record { n = 1; version = 3 })
+  pub unknown : bookOf (book1-of Plain 4) ≡ no 38
 
 pub opened : BooksOpened
-unfolding ofBits lt le eq size word block checkSum sumBy checkRight bytes rowTo blockBytes isFinite positive allTo need rowFrom floatsFinite headRight solventRight rangeRight
-    recordRight recordsRight massesRight casNew pairRight rowRight boundsFinite pairFinite alphasEqual headIn pairsOf solventsOf headOf ruleOf bookOf
-opened = record { solvents1 = refl; solvents2 = refl; solvents3 = refl; wide = refl; weighed = refl; weightless = refl }
+unfolding ofBits lt le eq size word block checkSum runningSum sumBy checkRight bytes rowTo blockBytes isFinite positive allTo need rowFrom floatsFinite versionRight headRight solventRight rangeRight
+    recordRight recordsRight massesRight casNew pairRight rowRight boundsFinite pairFinite alphasEqual headIn pairsOf solventsOf headOf ruleIn ruleOf bookOf
+opened = record { solvents1 = refl; solvents2 = refl; solvents3 = refl; wide = refl; weighed = refl; weightless = refl; running = refl; unknown = refl }

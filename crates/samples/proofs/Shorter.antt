@@ -12,7 +12,7 @@ use Rattle.floats.proofs.Folds.{all-at}
 use Rattle.blocks.specs.Words.{word, block, checkSum, sumBy, checkRight}
 use Rattle.blocks.specs.Bytes.{bytes, rowTo, blockBytes}
 use Rattle.book.specs.Places.{words, blockCount, rowFrom, pairPlace}
-use Rattle.book.specs.Book.{ruleOf}
+use Rattle.book.specs.Book.{ruleIn, ruleOf}
 use Rattle.striking.specs.Places.{cnt}
 use Rattle.striking.specs.Books.{ShorterBook}
 use Rattle.striking.specs.Questions.{keptIn, ShorterQuestion, solvents, Shorter}
@@ -57,7 +57,7 @@ record Closed : Type 0 where
   unnamed : alike (λ k. ltb k 27) (word question3) (word question2) 63 ≡ true
 
 closed : Closed
-unfolding word block checkSum sumBy checkRight bytes rowTo blockBytes allTo rowFrom pairPlace ruleOf cnt keptIn
+unfolding word block checkSum sumBy checkRight bytes rowTo blockBytes allTo rowFrom pairPlace ruleIn ruleOf cnt keptIn
 closed = record {
   solvents3 = refl;
   absent0 = refl;

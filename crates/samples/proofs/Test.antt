@@ -8,10 +8,11 @@ use Rattle.floats.specs.Outcome.{bind, need, choose}
 use Rattle.numerics.specs.Numerics.{expOf, lnOf}
 use Rattle.thermo_types.specs.Composition.{sumsToOne, withFractions, sharesOf, normalizeOf}
 use Rattle.thermo_types.specs.Quantities.{positiveOf}
-use Rattle.blocks.specs.Words.{word, block, checkSum, sumBy, checkRight}
+use Rattle.blocks.specs.declared.Rule.the-variants.{Plain, Running}
+use Rattle.blocks.specs.Words.{word, block, checkSum, runningSum, sumBy, checkRight}
 use Rattle.blocks.specs.Bytes.{bytes, rowTo, blockBytes}
 use Rattle.book.specs.Places.{rowFrom, pairPlace}
-use Rattle.book.specs.Book.{ruleOf}
+use Rattle.book.specs.Book.{ruleIn, ruleOf}
 use Rattle.records.specs.Records.{rangeOf, regressionOf}
 use Rattle.records.specs.Parameters.{termIn, parameter, parameterRow, parameterRows, parametersOf}
 use Rattle.liquid.specs.Vapor.{inRange}
@@ -27,21 +28,21 @@ use Rattle.rachford_rice.specs.Rachford.{turnOf, residualOf, slopeOf, kMax, kMi
 use Rattle.rachford_rice.specs.Rachford.{twoPhase, onePhase, constrained}
 use Rattle.saturation.specs.Saturation.{bubblePressure}
 use Rattle.question.specs.Asked.{kindRight, molesOf, toleranceRight, optionsRight, optionsIn, questionFrom, inputsRight, limitsRight, taskIn, restOf, questionOf}
-use Rattle.replies.specs.Blocks.{bit, statusNumber, stateWords, modelWords, answerWords, answerBytes}
+use Rattle.replies.specs.Blocks.{bit, statusNumber, stateWords, modelWords, answerWords, answerBytes, refusedTask, refusalWords, refusalBytes}
 use Rattle.replies.specs.Answers.{riceBlock}
 use Rattle.sheet.specs.Tasks.{taskAt, taskOf, excessFound, saturated, task1, task2, task8, task9, taskSplit}
 use Rattle.sheet.specs.Sheet.{answerTo, roomy, sheetFrom}
-use Rattle.samples.specs.Sheets.{½, book1, book2, wide, book2-weighed}
+use Rattle.samples.specs.Sheets.{½, book1, book2, wide, book2-weighed, book1-of}
 use Rattle.samples.specs.Samples.{Samples}
-use Rattle.samples.proofs.Books.{answered, unopened, opened}
+use Rattle.samples.proofs.Books.{answered, unopened, unsent, opened}
 
 pub samples : Samples
-unfolding ofBits toBits add sub mul div neg lt le eq isNan ofInt toSigned size word block checkSum sumBy checkRight bytes rowTo blockBytes isFinite foldTo allTo
-    fillFrom fill bind need choose expOf lnOf sumsToOne withFractions sharesOf normalizeOf positiveOf rowFrom pairPlace ruleOf rangeOf termIn parameter parameterRow parameterRows
+unfolding ofBits toBits add sub mul div neg lt le eq isNan ofInt toSigned size word block checkSum runningSum sumBy checkRight bytes rowTo blockBytes isFinite foldTo allTo
+    fillFrom fill bind need choose expOf lnOf sumsToOne withFractions sharesOf normalizeOf positiveOf rowFrom pairPlace ruleIn ruleOf rangeOf termIn parameter parameterRow parameterRows
     parametersOf inRange constJ addJ subJ negJ mulJ scaleJ divJ expWith basisOf tauJ alphaJ exponentJ tauIJ gIJ alphaRight allRight colS colC termJ lnFrom
     gibbsFrom gibbsOf enthalpyOf heatCapacityOf entropyOf stateWith stateFrom withState nrtlOf excessOf solventCovers temperatureInDomain pureLiquidsOf positive
     toleranceRight optionsRight optionsIn questionFrom inputsRight limitsRight taskIn kindRight molesOf restOf questionOf bit statusNumber stateWords modelWords answerWords
-    answerBytes taskAt taskOf answerTo roomy sheetFrom regressionOf unseen noted visited rowSeen allSeen statusOf validityOf turnOf residualOf slopeOf kMax kMin
+    answerBytes refusedTask refusalWords refusalBytes taskAt taskOf answerTo roomy sheetFrom regressionOf unseen noted visited rowSeen allSeen statusOf validityOf turnOf residualOf slopeOf kMax kMin
     validate liquidPart vaporPart solutionAt iterate between negative twoPhase onePhase constrained bubblePressure riceBlock excessFound saturated task1 task2
     task8 task9 taskSplit
 samples = record {
@@ -61,4 +62,8 @@ samples = record {
   n = answered (book2-weighed ½ ½) _ (opened .weighed) refl;
   o = answered book2 _ (opened .solvents2) refl;
   p = unopened (book2-weighed ½ 0) _ (opened .weightless);
+  q = answered (book1-of Running 3) _ (opened .running) refl;
+  r = answered (book1-of Running 3) _ (opened .running) refl;
+  s = unopened (book1-of Plain 4) _ (opened .unknown);
+  s-block = unsent (book1-of Plain 4) _ (opened .unknown) refl;
 }

@@ -1,4 +1,4 @@
--- The samples (a) to (p) of docs/FORMAT.md as one list: (a) to (c) on the helper numbers, (d) to (p) on the whole call, from the bytes of book and question to every byte of
+-- The samples (a) to (s) of docs/FORMAT.md as one list: (a) to (c) on the helper numbers, (d) to (s) on the whole call, from the bytes of book and question to every byte of
 -- the answer, in a slice with room for any answer. Assumes nothing.
 use Prim.Native.Nat.{ℕ}
 use mathlib.Core.Path.{_≡_}
@@ -6,9 +6,12 @@ use mathlib.Core.List.{List, [], _∷_}
 use Rattle.floats.specs.Arithmetic.{#, 0f, 1f, ∞}
 use Rattle.floats.specs.Outcome.{Out, ok, no}
 use Rattle.numerics.specs.Numerics.{expOf, lnOf}
+use Rattle.blocks.specs.declared.Rule.{Rule}
+use Rattle.blocks.specs.declared.Rule.the-variants.{Plain, Running}
 use Rattle.replies.specs.Blocks.{answerRoom}
-use Rattle.sheet.specs.Sheet.{sheetOf}
-use Rattle.samples.specs.Sheets.{⅓, ½, ⅔, one, two, -zero, 300K, 350K, 100kPa, book1, book2, wide, book2-weighed, question, byMass, answer}
+use Rattle.sheet.specs.Sheet.{sheetOf, replyTo}
+use Rattle.samples.specs.Sheets.{⅓, ½, ⅔, one, two, -zero, 300K, 350K, 100kPa, blockOf, book1, book2, wide, book2-weighed, book1-of}
+use Rattle.samples.specs.Sheets.{questionBy, question, byMass, answerBy, answer}
 
 -- tasks 8 and 9 with two solvents and M = 200: fractions and K
 abbrev pub splitIn : List ℕ → ℕ → List ℕ → List ℕ → Out (List ℕ)
@@ -26,8 +29,15 @@ abbrev pub onePhase : ℕ → Out (List ℕ)
 onePhase outcome = ok (answer 8 outcome [] [] [] [])
 
 -- task 1 at 300 K with ln γ 0: slopes and energies are 0 too, three of them -0
+abbrev pub idealBy : Rule → Out (List ℕ)
+idealBy rule = ok (answerBy rule 1 0 (300K ∷ 0 ∷ 0 ∷ 0 ∷ 0 ∷ 0 ∷ 0 ∷ 0 ∷ 0 ∷ 0 ∷ []) (0 ∷ 0 ∷ []) (0 ∷ 0 ∷ []) (0 ∷ 0 ∷ -zero ∷ -zero ∷ -zero ∷ 0 ∷ 0 ∷ 0 ∷ []))
+
 abbrev pub ideal : Out (List ℕ)
-ideal = ok (answer 1 0 (300K ∷ 0 ∷ 0 ∷ 0 ∷ 0 ∷ 0 ∷ 0 ∷ 0 ∷ 0 ∷ 0 ∷ []) (0 ∷ 0 ∷ []) (0 ∷ 0 ∷ []) (0 ∷ 0 ∷ -zero ∷ -zero ∷ -zero ∷ 0 ∷ 0 ∷ 0 ∷ []))
+ideal = idealBy Plain
+
+-- task 1 with one solvent at 300 K, the question's check by a rule
+abbrev pub pure : Rule → List ℕ
+pure rule = questionBy rule 1 300K 0 (one ∷ []) 200 []
 
 pub record Samples : Type 0 where
   -- (a) exp 0 = 1
@@ -47,7 +57,7 @@ pub record Samples : Type 0 where
   -- (h) task 9, K 2 2: 28
   pub h : split 9 (½ ∷ ½ ∷ []) (two ∷ two ∷ []) ≡ no 28
   -- (i) task 1, one solvent, fraction 1, 300 K: ln γ 0
-  pub i : sheetOf book1 (question 1 300K 0 (one ∷ []) 200 []) answerRoom ≡ ideal
+  pub i : sheetOf book1 (pure Plain) answerRoom ≡ ideal
   -- (j) task 1, 300 K, τ 0, α 0.3, x 0.5 0.5: both ln γ 0
   pub j : sheetOf book2 (question 1 300K 0 (½ ∷ ½ ∷ []) 200 []) answerRoom ≡ ideal
   -- (k) as (d) with fractions 0.5 and 0.5000000002: 18
@@ -62,3 +72,10 @@ pub record Samples : Type 0 where
   pub o : split 8 (½ ∷ ½ ∷ []) (byMass (two ∷ ½ ∷ [])) ≡ no 36
   -- (p) as (d), a question in moles, one molar mass 0: 35
   pub p : splitIn (book2-weighed ½ 0) 8 (½ ∷ ½ ∷ []) (two ∷ ½ ∷ []) ≡ no 35
+  -- (q) as (i), the book of version 3 and the question with running sums: ln γ 0, the answer with running sums
+  pub q : sheetOf (book1-of Running 3) (pure Running) answerRoom ≡ idealBy Running
+  -- (r) the same book, the question summed the plain way: 11
+  pub r : sheetOf (book1-of Running 3) (pure Plain) answerRoom ≡ no 11
+  -- (s) version 4: 38, and the refusal's block is summed the plain way
+  pub s : sheetOf (book1-of Plain 4) (pure Plain) answerRoom ≡ no 38
+  pub s-block : replyTo (book1-of Plain 4) (pure Plain) ≡ blockOf (9 ∷ 0 ∷ 38 ∷ [])

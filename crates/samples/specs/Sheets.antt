@@ -1,12 +1,16 @@
 -- Books, questions and answers from their words, in the order of docs/FORMAT.md. Floats stand as their bits; words that aren't given are 0. Assumes nothing.
 use Prim.Native.Nat.{ℕ}
 use mathlib.Core.List.{List, [], _∷_, _++_}
+use Rattle.blocks.specs.declared.Rule.{Rule}
 use Rattle.blocks.specs.declared.Rule.the-variants.{Plain}
 use Rattle.blocks.specs.Bytes.{wordAt, rowTo, blockBytes}
 
--- a block from its first words, with its check
+-- a block from its first words, with its check by a rule, and summed the plain way
+abbrev pub blockBy : Rule → List ℕ → List ℕ
+blockBy rule ws = blockBytes rule (wordAt ws)
+
 abbrev pub blockOf : List ℕ → List ℕ
-blockOf ws = blockBytes Plain (wordAt ws)
+blockOf = blockBy Plain
 
 -- eight words: those given, and 0
 abbrev pub eight : List ℕ → List ℕ
@@ -100,18 +104,25 @@ book2 = head 2 ++ solvent 0 101 4MPa ++ solvent 1 102 1MPa ++ pair 0 1 0 0
 abbrev pub wide : List ℕ
 wide = head 2 ++ ranged 200K 500K 0 101 4MPa ++ ranged 200K 500K 1 102 1MPa ++ pair 0 1 0 0
 
--- solvent i as of version 2, with its molar mass (kg/mol)
-abbrev pub weighed : ℕ → ℕ → ℕ → ℕ → List ℕ
-weighed i cas p mass = blockOf ((2 ∷ i ∷ cas ∷ []) ++ correlation 273K 450K p ++ correlation 273K 450K 0x40c1940000000000 ++ mass ∷ [])
+-- solvent i as of version 2 on, with its molar mass (kg/mol)
+abbrev pub weighed : Rule → ℕ → ℕ → ℕ → ℕ → List ℕ
+weighed rule i cas p mass = blockBy rule ((2 ∷ i ∷ cas ∷ []) ++ correlation 273K 450K p ++ correlation 273K 450K 0x40c1940000000000 ++ mass ∷ [])
 
 -- book2 as of version 2, with its molar masses
 abbrev pub book2-weighed : ℕ → ℕ → List ℕ
-book2-weighed m₀ m₁ = blockOf (1 ∷ 2 ∷ 2 ∷ []) ++ weighed 0 101 4MPa m₀ ++ weighed 1 102 1MPa m₁ ++ pair 0 1 0 0
+book2-weighed m₀ m₁ = blockOf (1 ∷ 2 ∷ 2 ∷ []) ++ weighed Plain 0 101 4MPa m₀ ++ weighed Plain 1 102 1MPa m₁ ++ pair 0 1 0 0
+
+-- book1 with its molar mass, checked by a rule, as of a version
+abbrev pub book1-of : Rule → ℕ → List ℕ
+book1-of rule version = blockBy rule (1 ∷ version ∷ 1 ∷ []) ++ weighed rule 0 101 4MPa ½
 
 -- ---- a question: task, T, p, fractions, M, K; 200 outer iterations, tolerances 1e-10, threshold -1e-8, the whole bracket
+abbrev pub questionBy : Rule → ℕ → ℕ → ℕ → List ℕ → ℕ → List ℕ → List ℕ
+questionBy rule task t p x m k =
+    blockBy rule ((8 ∷ task ∷ t ∷ p ∷ []) ++ eight x ++ (m ∷ ε ∷ 200 ∷ ε ∷ 0xbe45798ee2308c3a ∷ 273K ∷ 450K ∷ []) ++ k)
+
 abbrev pub question : ℕ → ℕ → ℕ → List ℕ → ℕ → List ℕ → List ℕ
-question task t p x m k =
-    blockOf ((8 ∷ task ∷ t ∷ p ∷ []) ++ eight x ++ (m ∷ ε ∷ 200 ∷ ε ∷ 0xbe45798ee2308c3a ∷ 273K ∷ 450K ∷ []) ++ k)
+question = questionBy Plain
 
 -- by mass: word 27 is 1
 abbrev pub byMass : List ℕ → List ℕ
@@ -120,8 +131,11 @@ byMass k = eight k ++ 1 ∷ []
 -- ---- an answer
 
 -- words 3, 4 to 13 (T, P, bubble, dew, iterations, residual, balance, vapor fraction, trials, notes), 14 to 21, 22 to 29, 30 and on
+abbrev pub answerBy : Rule → ℕ → ℕ → List ℕ → List ℕ → List ℕ → List ℕ → List ℕ
+answerBy rule task outcome state liquid vapor model = blockBy rule ((9 ∷ task ∷ 0 ∷ outcome ∷ state) ++ eight liquid ++ eight vapor ++ model)
+
 abbrev pub answer : ℕ → ℕ → List ℕ → List ℕ → List ℕ → List ℕ → List ℕ
-answer task outcome state liquid vapor model = blockOf ((9 ∷ task ∷ 0 ∷ outcome ∷ state) ++ eight liquid ++ eight vapor ++ model)
+answer = answerBy Plain
 
 -- component, distance, iterations, trivial, fractions
 abbrev pub trial : ℕ → ℕ → ℕ → ℕ → List ℕ → List ℕ

@@ -4,14 +4,16 @@ use mathlib.Core.List.{List}
 use Prim.Native.Nat.{ℕ}
 use native.Mathlib.Omega.{arith}
 use Rattle.floats.specs.Outcome.{Out, ok, no, bind}
+use Rattle.blocks.specs.declared.Rule.{Rule}
 use Rattle.book.specs.declared.Head.{Head}
 use Rattle.book.specs.Places.{words}
 use Rattle.book.specs.Book.{molarMass, headIn, ruleOf, bookOf}
 use Rattle.book.proofs.Accepted.{accepted, opened-head}
-use Rattle.book.proofs.Unread.{AgreeBehind, book-unread, mass-agrees, agree-behind}
+use Rattle.book.proofs.Unread.{AgreeBehind, rule-unread, book-unread, mass-agrees, agree-behind}
 use Rattle.thermo_models.proofs.Unread.{mixture-unread}
-use Rattle.thermo_models.specs.Mixture.{Mixture}
+use Rattle.thermo_models.specs.Mixture.{Mixture, mixtureOf}
 use Rattle.question.specs.declared.Question.{Question}
+use Rattle.question.specs.Asked.{questionOf}
 use Rattle.question.specs.Named.{AgreeAsked}
 use Rattle.question.proofs.Unread.{SameMasses, question-unread}
 use Rattle.sheet.specs.Tasks.{taskOf}
@@ -19,7 +21,7 @@ use Rattle.sheet.specs.Sheet.{replied, answerTo, roomy, questionTo, shee
 use Rattle.sheet.specs.Unread.{SameCall, Unread}
 
 pub unread : Unread
-unfolding ruleOf answerTo roomy sheetFrom sheetOf bind headIn
+unfolding answerTo roomy sheetFrom sheetOf bind headIn
 unread s t q r room c = rw (book-unread s t (c .books) (c .checks) (c .checks')) (go (bookOf s) refl (book-unread s t (c .books) (c .checks) (c .checks')))
   where
     opened : (h : Head) → bookOf s ≡ ok h → sheetFrom s (h .version) (h .n) q room ≡ sheetFrom t (h .version) (h .n) r room
@@ -31,6 +33,7 @@ unread s t q r room c = rw (book-unread s t (c .books) (c .checks) (c .checks'))
         record { mass = λ w i l. mass-agrees s t (c .books) i (rw n l) (rw v w) } in
         let b : AgreeBehind s t (h .n) = rw n at (agree-behind s t (c .books)) in
         ap (λ (o : Out Question). roomy room (bind o (answerTo s (h .n)))) (question-unread q r (h .n) k (h .version) _ _ m (ruleOf s) (c .check) (c .check'))
+        ∙ ap (λ (rule : Rule). roomy room (bind (questionOf rule r (h .version) (molarMass (words t)) (h .n)) (λ x. replied rule (x .task) (taskOf (mixtureOf s (h .n)) x)))) (rule-unread s t (c .books))
         ∙ ap (λ (m : Mixture). roomy room (bind (questionTo t (h .version) (h .n) r) (λ x. replied (ruleOf t) (x .task) (taskOf m x)))) (mixture-unread s t (h .n) b)
 
     go : (o : Out Head) → bookOf s ≡ o → o ≡ bookOf t

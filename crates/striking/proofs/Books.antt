@@ -19,7 +19,8 @@ use Rattle.floats.proofs.Folds.{all-at}
 use Rattle.floats.proofs.Outcomes.{need-yes}
 use Rattle.book.specs.Places.{words, pairCount, blockCount, rowFrom, pairPlace}
 use Rattle.book.specs.declared.Head.{Head}
-use Rattle.book.specs.Book.{headIn, ruleOf, floatsFinite, headRight, solventRight, rangeRight, termCount, recordRight, recordsRight, hasMasses, molarMass, massesRight, casNew, pairRight, rowRight, boundsFinite, pairFinite, alphasEqual, pairsOf, solventsOf, headOf, bookOf}
+use Rattle.book.specs.Book.{headIn, ruleIn, ruleOf, floatsFinite, versionRight, headRight, solventRight, rangeRight, termCount, recordRight, recordsRight, hasMasses, molarMass, massesRight, casNew, pairRight, rowRight, boundsFinite, pairFinite, alphasEqual, pairsOf, solventsOf, headOf, bookOf}
+use Rattle.book.proofs.Laws.{rule-sized}
 use Rattle.book.proofs.Unread.{floats-same}
 use Rattle.book.proofs.Accepted.{Accepted, accepted, opened-head, solvent-stands, records-stand, pair-stands, floats-stand, alphas-stand}
 use Rattle.striking.specs.Places.{cnt}
@@ -46,10 +47,9 @@ two-of true true false d e h = absurd (false≢true h)
 two-of true false c d e h = absurd (false≢true h)
 two-of false b c d e h = absurd (false≢true h)
 
-last-of : (a b c d : Bool) → a && b && c && d ≡ true → a && b && true && true ≡ true
-last-of true true c d h = refl
-last-of true false c d h = absurd (false≢true h)
-last-of false b c d h = absurd (false≢true h)
+last-of : (a b c : Bool) → a && b && c ≡ true → a && true && true ≡ true
+last-of true b c h = refl
+last-of false b c h = absurd (false≢true h)
 
 -- a test put only from version 2 on
 weighed-to : {b b' : Bool} (t t' : Bool) → b ≡ b' → (b ≡ true → t ≡ true → t' ≡ true) → (not b || t) ≡ true → (not b' || t') ≡ true
@@ -63,8 +63,11 @@ head-right : (w v : ℕ → ℕ) → ((k : ℕ) → k < 63 → k ≢ 2 → w k �
 unfolding headRight
 head-right w v e l m h =
     let a : w 0 ≡ v 0 = e 0 (omega arith) (λ (z : 0 ≡ 2). omega arith) in
-    let b : w 1 ≡ v 1 = e 1 (omega arith) (λ (z : 1 ≡ 2). omega arith) in
-    rw (← a, ← b, lt-ltb 0 (v 2) l, le-leb (v 2) 8 m) (last-of (eqb (w 0) 1 && ltb 0 (w 1)) (leb (w 1) 2) (ltb 0 (w 2)) (leb (w 2) 8) h)
+    rw (← a, lt-ltb 0 (v 2) l, le-leb (v 2) 8 m) (last-of (eqb (w 0) 1) (ltb 0 (w 2)) (leb (w 2) 8) h)
+
+version-right : (w v : ℕ → ℕ) → ((k : ℕ) → k < 63 → k ≢ 2 → w k ≡ v k) → versionRight w ≡ versionRight v
+unfolding versionRight
+version-right w v e = rw (e 0 (omega arith) (λ (z : 0 ≡ 2). omega arith), e 1 (omega arith) (λ (z : 1 ≡ 2). omega arith))
 
 solvent-right : (w v : ℕ → ℕ) (i j : ℕ) → ((k : ℕ) → k < 63 → k ≢ 1 → w k ≡ v k) → v 1 ≡ j → solventRight w i ≡ true → solventRight v j ≡ true
 unfolding solventRight
@@ -232,6 +235,7 @@ module _ (keep : ℕ → Bool) (n : ℕ) where
       opens =
           need-yes 1 _ (eq-eqb (length s' % 512) 0 (omega (arith, h .size)))
           ∙ need-yes 1 _ (lt-ltb 0 (length s') (omega (arith, h .size)))
+          ∙ need-yes 38 _ (sym (version-right (words s 0) (words s' 0) (h .head)) ∙ a .version)
           ∙ need-yes 2 _ (subst (λ (c : ℕ). allTo (λ k. checkRight (ruleOf s') (words s' k)) c ≡ true) (sym blocks) (is-true _ (h .checks)))
           ∙ need-yes 3 _ (head-right (words s 0) (words s' 0) (h .head) (subst (λ (x : ℕ). 0 < x) (sym (h .count)) some) (subst (λ (x : ℕ). x ≤ 8) (sym (h .count)) few) (a .head))
           ∙ need-yes 3 _ (eq-eqb (length s' / 512) (blockCount (words s' 0 2)) (blocks ∙ ap (λ (x : ℕ). blockCount x) (sym (h .count))))
@@ -262,6 +266,10 @@ strike-masses keep g s s' h e = record {
     there false v h = absurd (false≢true v)
 
 -- both books are summed by one rule
-pub rule-same : (keep : ℕ → Bool) (n : ℕ) (s s' : List ℕ) → ShorterBook keep n s s' → ruleOf s ≡ ruleOf s'
-unfolding ruleOf
-rule-same keep n s s' h = refl
+pub rule-same : (keep : ℕ → Bool) (g : Head) (s s' : List ℕ) → ShorterBook keep (g .n) s s' → bookOf s ≡ ok g → ruleOf s ≡ ruleOf s'
+unfolding ruleIn
+rule-same keep g s s' h e =
+    let kind = h .head 0 (omega arith) (λ (z : 0 ≡ 2). omega arith) in
+    let version = h .head 1 (omega arith) (λ (z : 1 ≡ 2). omega arith) in
+    let same : ruleIn (words s 0) ≡ ruleIn (words s' 0) = rw (kind, version) in
+    rule-sized s (g .n) (accepted s e .size) ∙ same ∙ sym (rule-sized s' (cnt keep (g .n)) (h .size))

@@ -3,7 +3,7 @@ use mathlib.Core.Path.{_≡_, refl, sym, _∙_}
 use mathlib.Core.Logic.{_≢_, inl, inr}
 use mathlib.Core.Bool.{Bool, true, false, not, cond, _&&_}
 use mathlib.Core.List.{List, _++_}
-use Prim.Native.Nat.{ℕ, zero, suc, _+_, _-_, _*_, _^_, _≤_, _<_}
+use Prim.Native.Nat.{ℕ, zero, suc, _+_, _-_, _*_, _%_, _^_, _≤_, _<_}
 use native.Mathlib.Nat.{le-refl, le-trans, eq-or-lt-of-le}
 use native.Mathlib.Numerals.{add-one}
 use native.Mathlib.Omega.{arith}
@@ -12,11 +12,12 @@ use lib.ListN.{length, length-append}
 use lib.Dec.{T, eqb, ltb, leb, ltb→lt, nltb→le}
 use lib.Ieee.Bits.{is-true}
 use Rattle.floats.specs.Outcome.{Out, ok, no, bind}
-use Rattle.blocks.specs.Words.{word, checkRight}
+use Rattle.blocks.specs.Words.{Bytes, word, checkRight}
 use Rattle.blocks.specs.Bytes.{rowTo, blockBytes}
 use Rattle.blocks.proofs.Laws.{length-row, length-block-bytes}
+use Rattle.blocks.proofs.Small.{Small, word-small, words-small, append-bytes, row-bytes, block-bytes}
 use Rattle.book.specs.Places.{words, blockCount, rowFrom, pairPlace}
-use Rattle.book.specs.Book.{bookOf, ruleOf}
+use Rattle.book.specs.Book.{ruleIn, ruleOf, bookOf}
 use Rattle.book.specs.declared.Head.{Head}
 use Rattle.blocks.specs.declared.Rule.{Rule}
 use Rattle.sheet.specs.Sheet.{sheetOf}
@@ -25,14 +26,13 @@ use Rattle.book.proofs.Accepted as open-book
 use Rattle.striking.specs.Places.{cnt}
 use Rattle.striking.specs.Books.{ShorterBook}
 use Rattle.striking.specs.Questions.{ShorterQuestion, Shorter, keptIn, solvents}
-use Rattle.striking.specs.Build.{Bytes, keptAt, change, headWords, solventWords, pairWords, pairRow, shorterBook, moveUp, shorterQuestion, shorterOf, shorterAsk}
+use Rattle.striking.specs.Build.{keptAt, change, headWords, solventWords, pairWords, pairRow, shorterBook, moveUp, shorterQuestion, shorterOf, shorterAsk}
 use Rattle.striking.specs.Theorem.{Accepted}
 use Rattle.striking.proofs.Strike.{cnt-lt}
 use Rattle.striking.proofs.Acc.{all-of}
 use Rattle.striking.proofs.Excess.{cnt-le}
 use Rattle.striking.proofs.Books.{PairOf, found, rows-end}
-use Rattle.striking.proofs.Written.{Small, word-small, words-small, Stands, first-of, last-of, inside, in-row, written-word, written-check, read-word, read-check}
-use Rattle.striking.proofs.Written.{append-bytes, row-bytes, block-bytes}
+use Rattle.striking.proofs.Written.{Stands, first-of, last-of, inside, in-row, written-word, written-check, read-word, read-check}
 
 cond-small : (b : Bool) (x y : ℕ) → x < 2 ^ 64 → y < 2 ^ 64 → cond b x y < 2 ^ 64
 cond-small true x y p q = p
@@ -66,7 +66,7 @@ module _ (f x : ℕ) (w : ℕ → ℕ) where
 -- ---- the book: where each block stands
 module _ (keep : ℕ → Bool) (n : ℕ) (book : List ℕ) where
   abbrev rule : Rule
-  rule = ruleOf book
+  rule = ruleIn (words book 0)
 
   solvents-long : (k : ℕ) → length (rowTo (λ k. blockBytes rule (solventWords keep n book k)) k) ≡ k * 512
   solvents-long k = length-row (λ k. blockBytes rule (solventWords keep n book k)) 512 k (λ k. length-block-bytes rule (solventWords keep n book k))
@@ -162,8 +162,14 @@ module _ (keep : ℕ → Bool) (n : ℕ) (book : List ℕ) where
 
     -- the rule that its blocks were made by is its own
     pub built-rule : ruleOf (shorterBook keep n book) ≡ rule
-    unfolding ruleOf
-    built-rule = refl
+    unfolding ruleOf ruleIn
+    built-rule =
+        let b = shorterBook keep n book in
+        let kind : words b 0 0 ≡ words book 0 0 = head-read 0 (omega arith) ∙ change-other 2 _ _ 0 (λ (z : 0 ≡ 2). omega arith) in
+        let version : words b 0 1 ≡ words book 0 1 = head-read 1 (omega arith) ∙ change-other 2 _ _ 1 (λ (z : 1 ≡ 2). omega arith) in
+        let whole : length b % 512 ≡ 0 = omega (arith, book-long) in
+        let long : 0 < length b = omega (arith, book-long) in
+        rw (eq-eqb (length b % 512) 0 whole, lt-ltb 0 (length b) long, kind, version)
 
     pub builds-book : ShorterBook keep n book (shorterBook keep n book)
     builds-book = record {
@@ -230,7 +236,7 @@ module _ (rule : Rule) (keep : ℕ → Bool) (n : ℕ) (question : List ℕ) whe
 pub builds : (book question : List ℕ) → solvents book ≤ 8 → Bytes book → Bytes question → Shorter book question (shorterOf book question) (shorterAsk book question)
 builds book question few b q = record {
   of-book = builds-book (keptIn question) (solvents book) book few b;
-  of-question = rw (built-rule (keptIn question) (solvents book) book few b) (builds-question (ruleOf book) (keptIn question) (solvents book) question few q);
+  of-question = rw (built-rule (keptIn question) (solvents book) book few b) (builds-question (ruleIn (words book 0)) (keptIn question) (solvents book) question few q);
 }
 
 -- so of every accepted call

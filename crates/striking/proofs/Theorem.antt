@@ -62,7 +62,7 @@ module _ (book question book' question' : List ℕ) (h : Head) (opened : bookOf 
   answers q q' s =
       acc-bind (SameAnswer keep n) (taskOf (mixtureOf book n) q) (taskOf (mixtureOf book' (cnt keep n)) q') _ _
       (strike-task keep n few _ _ (strike-mixture keep n few book book' (shorter-solvents keep n book book' hb) (shorter-pairs keep n book book' hb)) q q' s) (λ a a' t.
-      acc-ok (λ r r'. rw (← rule-same keep n book book' hb, ← same-task) (sheet-same keep n few (ruleOf book) (q .task) a a' t r r')))
+      acc-ok (λ r r'. rw (← rule-same keep h book book' hb opened, ← same-task) (sheet-same keep n few (ruleOf book) (q .task) a a' t r r')))
     where
       same-task : q .task ≡ q' .task
       same-task = sym (ap (λ (x : Question). x .task) (s .rest))
@@ -75,7 +75,7 @@ module _ (book question book' question' : List ℕ) (h : Head) (opened : bookOf 
   asked =
       go (questionTo book (h .version) n question)
       (subst (λ (rule : Rule). Acc (λ (a b : Question). SameQuestion keep n a b × (0 < cnt keep n)) (questionOf rule question (h .version) (molarMass (words book)) n) (questionTo book' (h .version) (cnt keep n) question'))
-      (sym (rule-same keep n book book' hb)) (strike-question keep n few (ruleOf book') question question' hq (h .version) _ _ masses (λ i l t. absent-zero question i t)))
+      (sym (rule-same keep h book book' hb opened)) (strike-question keep n few (ruleOf book') question question' hq (h .version) _ _ masses (λ i l t. absent-zero question i t)))
     where
       go : (o : Out Question) → Acc (λ (a b : Question). SameQuestion keep n a b × (0 < cnt keep n)) o (questionTo book' (h .version) (cnt keep n) question')
           → Acc (Alike keep n) (bind o (answerTo book n)) (sheetOf book' question' room')

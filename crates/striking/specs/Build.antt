@@ -1,19 +1,15 @@
 -- The shorter book and question, made (docs/FORMAT.md, "The shorter sheet"). Assumes nothing.
-use Prim.Native.Nat.{ℕ, zero, suc, _+_, _-_, _<_}
+use Prim.Native.Nat.{ℕ, zero, suc, _+_, _-_}
 use mathlib.Core.Bool.{Bool, cond, _&&_}
 use mathlib.Core.List.{List, _++_}
 use lib.Dec.{eqb, leb, ltb}
-use Rattle.blocks.specs.Words.{byte, word}
+use Rattle.blocks.specs.Words.{word}
 use Rattle.blocks.specs.Bytes.{rowTo, blockBytes}
 use Rattle.blocks.specs.declared.Rule.{Rule}
 use Rattle.book.specs.Places.{words, pairPlace}
-use Rattle.book.specs.Book.{ruleOf}
+use Rattle.book.specs.Book.{ruleIn}
 use Rattle.striking.specs.Places.{cnt}
 use Rattle.striking.specs.Questions.{keptIn, solvents}
-
--- the elements are bytes, as those of every slice of u8 are
-pub record Bytes (s : List ℕ) : Type 0 where
-  pub small : (i : ℕ) → byte s i < 256
 
 -- the old index of place k: the kept index below n before which k are kept; 0 where there is none
 unfoldable pub keptAt : (ℕ → Bool) → ℕ → ℕ → ℕ
@@ -36,10 +32,10 @@ pairWords keep n book i j = change 1 i (change 2 j (words book (pairPlace n (kep
 
 -- the pairs (i, i + 1), (i, i + 2) and on
 unfoldable pub pairRow : (ℕ → Bool) → ℕ → List ℕ → ℕ → List ℕ
-pairRow keep n book i = rowTo (λ d. blockBytes (ruleOf book) (pairWords keep n book i (i + 1 + d))) (cnt keep n - i - 1)
+pairRow keep n book i = rowTo (λ d. blockBytes (ruleIn (words book 0)) (pairWords keep n book i (i + 1 + d))) (cnt keep n - i - 1)
 
 unfoldable pub shorterBook : (ℕ → Bool) → ℕ → List ℕ → List ℕ
-shorterBook keep n book = blockBytes (ruleOf book) (headWords keep n book) ++ rowTo (λ k. blockBytes (ruleOf book) (solventWords keep n book k)) (cnt keep n) ++ rowTo (pairRow keep n book) (cnt keep n)
+shorterBook keep n book = blockBytes (ruleIn (words book 0)) (headWords keep n book) ++ rowTo (λ k. blockBytes (ruleIn (words book 0)) (solventWords keep n book k)) (cnt keep n) ++ rowTo (pairRow keep n book) (cnt keep n)
 
 -- words w, but of the eight from f on the kept ones first, then 0
 unfoldable pub moveUp : (ℕ → Bool) → ℕ → ℕ → (ℕ → ℕ) → ℕ → ℕ
@@ -54,4 +50,4 @@ abbrev pub shorterOf : List ℕ → List ℕ → List ℕ
 shorterOf book question = shorterBook (keptIn question) (solvents book) book
 
 abbrev pub shorterAsk : List ℕ → List ℕ → List ℕ
-shorterAsk book question = shorterQuestion (ruleOf book) (keptIn question) (solvents book) question
+shorterAsk book question = shorterQuestion (ruleIn (words book 0)) (keptIn question) (solvents book) question

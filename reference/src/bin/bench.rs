@@ -5,7 +5,7 @@
 use std::hint::black_box;
 use std::process::ExitCode;
 
-use reference::generate::{books, feeds, questions, Rng};
+use reference::generate::{books, feeds, mass, questions, Rng};
 use reference::helpers;
 use reference::named::rachford_rice::{rachford_rice, rachford_rice_negative, RachfordRiceOutcome};
 use reference::rattle;
@@ -134,10 +134,15 @@ fn drop_value<T>(value: T) {
 
 fn bench_book() {
     let mut rng = Rng::new(7);
-    let right = books::realistic(&mut rng, 8).bytes();
-    let mut wrong = right.clone();
+    let draft = books::realistic(&mut rng, 8);
+    let right = draft.bytes();
+    let third = of_version_3(draft);
     // The last check: every block is summed, and number 2 comes.
-    *wrong.last_mut().expect("not empty") ^= 1;
+    let [wrong, third_wrong] = [&right, &third].map(|book| {
+        let mut wrong = book.clone();
+        *wrong.last_mut().expect("not empty") ^= 1;
+        wrong
+    });
     let core = |book: &Vec<u8>| rattle::open_book(black_box(book)).map(drop_value);
     let reference = |book: &Vec<u8>| drop_value(open_book(black_box(book)).is_ok());
     let sums = [wrong];
@@ -145,9 +150,23 @@ fn bench_book() {
     line("book, sums of 37 blocks, the reference a plain loop", &sums, core, |book| {
         drop_value(sums_right(black_box(book)))
     });
+    let sums = [third_wrong];
+    line("version 3, running sums of 37 blocks", &sums, core, reference);
+    line("version 3, running sums of 37 blocks, the reference a plain loop", &sums, core, |book| {
+        drop_value(running_sums_right(black_box(book)))
+    });
     line("book, questions 1 to 9, n = 8", &[right], core, reference);
+    line("version 3, questions 1 to 9, 35 and 38, n = 8", &[third], core, reference);
     let pool: Vec<_> = (0..POOL).map(|_| books::realistic(&mut rng, 8).bytes()).collect();
     cold_line("book, questions 1 to 9, n = 8, not in a cache", &pool, core, reference);
+    let pool: Vec<_> = (0..POOL).map(|_| of_version_3(books::realistic(&mut rng, 8))).collect();
+    cold_line("version 3, questions 1 to 9, 35 and 38, n = 8, not in a cache", &pool, core, reference);
+}
+
+fn of_version_3(mut draft: books::Draft) -> Vec<u8> {
+    mass::enter(&mut Rng::new(7), &mut draft);
+    draft.blocks[0][1] = 3;
+    draft.bytes()
 }
 
 /// One line as `line` has it, but each book is sent out of the caches before it is opened.
@@ -176,12 +195,28 @@ fn flush(book: &[u8]) {
     unsafe { std::arch::x86_64::_mm_mfence() };
 }
 
+fn word(bytes: &[u8]) -> u64 {
+    u64::from_le_bytes(bytes.try_into().expect("eight bytes"))
+}
+
 /// As plain as Rust has it: the words of each block up to its check are summed.
 fn sums_right(book: &[u8]) -> bool {
-    let word = |bytes: &[u8]| u64::from_le_bytes(bytes.try_into().expect("eight bytes"));
     book.chunks_exact(512).all(|block| {
         let (words, check) = block.split_at(504);
         words.chunks_exact(8).fold(0, |sum: u64, bytes| sum.wrapping_add(word(bytes))) == word(check)
+    })
+}
+
+/// The same of the sums after each word.
+fn running_sums_right(book: &[u8]) -> bool {
+    book.chunks_exact(512).all(|block| {
+        let (words, check) = block.split_at(504);
+        let (mut sum, mut all) = (0u64, 0u64);
+        for bytes in words.chunks_exact(8) {
+            sum = sum.wrapping_add(word(bytes));
+            all = all.wrapping_add(sum);
+        }
+        all == word(check)
     })
 }
 

@@ -5,7 +5,7 @@
 use std::process::ExitCode;
 
 use reference::command::{not_built_in_fails, Options, USAGE};
-use reference::counts::{count_sheets, SheetCounts, Tally};
+use reference::counts::{count_sheets, Exchanges, SheetCounts, Tally};
 use reference::generate::cases::Cases;
 use reference::stage::{hex_words, Case, Stage};
 
@@ -28,7 +28,7 @@ fn main() -> ExitCode {
 /// The number of differences; a stage that isn't built in is one under CI=true.
 fn compare(stage: Stage, options: &Options) -> usize {
     if !stage.built_in() {
-        if matches!(stage, Stage::Sheet | Stage::Mass) {
+        if stage.has_sheets() {
             count_sheets(stage, options.seed, options.count_of(stage)).print();
         }
         println!("{}: not built in", stage.name());
@@ -37,13 +37,16 @@ fn compare(stage: Stage, options: &Options) -> usize {
     let mut cases = Cases::new(stage, options.seed, false);
     let mut tally = Tally::default();
     let mut tasks = SheetCounts::default();
+    let mut exchanges = Exchanges::default();
     let mut differences = 0;
     for _ in 0..options.count_of(stage) {
         let (kind, case) = cases.draw();
         let expected = case.expected();
         tally.add(expected.refusal);
         tasks.add(kind, &case, expected.refusal);
-        if case.offered().as_ref() != Some(&expected.words) {
+        let offered = case.offered();
+        exchanges.add(&case, cases.exchange(), offered.as_ref().map_or(0, |words| words[0]));
+        if offered.as_ref() != Some(&expected.words) {
             differences += 1;
             if differences <= SHOWN {
                 show(&case, &expected.words);
@@ -51,6 +54,10 @@ fn compare(stage: Stage, options: &Options) -> usize {
         }
     }
     tasks.print();
+    if stage == Stage::Exchanged {
+        exchanges.print();
+        differences += exchanges.let_through;
+    }
     let (all, accepted, refused) = (tally.all(), tally.accepted(), tally.refused());
     println!("{}: {all} compared, {accepted} accepted, refused {refused}, {differences} differences", stage.name());
     differences

@@ -6,12 +6,15 @@
 //!
 //! `question` task, T, P, eight fractions, M, tolerance, temperature limit, energy tolerance, threshold, low, high, eight K.
 //! `massquestion` is the same by mass.
+//!
+//! `running` before any of these: checks are running sums, as version 3 has them, and `massbook` is of that version.
 
 use std::io::{stdin, BufRead};
 use std::process::ExitCode;
 use std::str::{FromStr, SplitWhitespace};
 
-use reference::sheet::blocks::{bytes_of, seal, Words};
+use reference::generate::small::sealed_by;
+use reference::sheet::blocks::{Rule, Words};
 use reference::sheet::book::{due_pairs, open_book, DENSITY, MOLAR_MASS, VAPOR_PRESSURE};
 use reference::sheet::question::{
     Question, BASIS, BRACKET, BY_MASS, BY_MOLES, ENERGY_TOLERANCE, FRACTIONS, K_VALUES, MAX_ITERATIONS,
@@ -33,22 +36,21 @@ fn main() -> ExitCode {
 }
 
 fn encoded(line: &str) -> Option<Vec<u8>> {
+    let (rule, line) = match line.strip_prefix("running ") {
+        Some(rest) => (Rule::Running, rest),
+        None => (Rule::Plain, line),
+    };
     let mut numbers = Numbers(line.split_whitespace());
     let blocks = match numbers.0.next()? {
-        "book" => book(&mut numbers, 1)?,
-        "massbook" => book(&mut numbers, 2)?,
+        "book" if rule == Rule::Plain => book(&mut numbers, 1)?,
+        "massbook" => book(&mut numbers, if rule == Rule::Plain { 2 } else { 3 })?,
         "question" => vec![question(&mut numbers, BY_MOLES)?],
         "massquestion" => vec![question(&mut numbers, BY_MASS)?],
         _ => return None,
     };
-    let bytes: Vec<u8> = blocks.into_iter().flat_map(sealed).collect();
-    let read_back = if bytes[0] == 8 { Question::read(&bytes).is_ok() } else { open_book(&bytes).is_ok() };
+    let bytes: Vec<u8> = blocks.into_iter().flat_map(|words| sealed_by(rule, words)).collect();
+    let read_back = if bytes[0] == 8 { Question::read(&bytes, rule).is_ok() } else { open_book(&bytes).is_ok() };
     (read_back && numbers.0.next().is_none()).then_some(bytes)
-}
-
-fn sealed(mut words: Words) -> [u8; 512] {
-    seal(&mut words);
-    bytes_of(&words)
 }
 
 struct Numbers<'a>(SplitWhitespace<'a>);
@@ -83,7 +85,7 @@ fn book(numbers: &mut Numbers, version: u64) -> Option<Vec<Words>> {
 fn solvent(numbers: &mut Numbers, i: u64, version: u64) -> Option<Words> {
     let mut words = [0; 64];
     words[..3].copy_from_slice(&[2, i, numbers.next()?]);
-    if version == 2 {
+    if version > 1 {
         numbers.floats(&mut words, MOLAR_MASS, 1)?;
     }
     for at in [VAPOR_PRESSURE, DENSITY] {

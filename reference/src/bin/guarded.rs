@@ -16,7 +16,7 @@ use reference::generate::cases::sheets;
 use reference::generate::Rng;
 use reference::rattle::zektonk_answer;
 use reference::sheet;
-use reference::sheet::blocks::{bytes_of, seal, words_of, BLOCK};
+use reference::sheet::blocks::{bytes_of, rule_of, seal, words_of, Rule, BLOCK};
 use reference::sheet::question::{MAX_ITERATIONS, MAX_TEMPERATURE_ITERATIONS};
 use reference::stage::Case;
 
@@ -184,9 +184,10 @@ fn calls(rng: &mut Rng, book: &[u8], question: &[u8]) -> Vec<Call> {
     }
     for sealed in [true, true, false] {
         let [of_book, of_question] = rng.pick(&[[true, true], [true, false], [false, true]]);
-        let book = if of_book { mutated(rng, book, BOOK, sealed) } else { book.to_vec() };
-        let question = if of_question { mutated(rng, question, QUESTION, sealed) } else { question.to_vec() };
-        all.push(call(rng, book, if sealed { quick(question) } else { question }));
+        let book = if of_book { mutated(rng, book, BOOK, sealed, rule_of) } else { book.to_vec() };
+        let rule = rule_of(&book);
+        let question = if of_question { mutated(rng, question, QUESTION, sealed, |_| rule) } else { question.to_vec() };
+        all.push(call(rng, book, if sealed { quick(question, rule) } else { question }));
     }
     let book = if rng.one_in(3) { book.to_vec() } else { noise(rng, BOOK / 16) };
     let question = noise(rng, QUESTION);
@@ -201,27 +202,29 @@ fn noise(rng: &mut Rng, most: usize) -> Vec<u8> {
 }
 
 /// Limits low enough that a changed tolerance doesn't keep the call busy.
-fn quick(mut question: Vec<u8>) -> Vec<u8> {
+fn quick(mut question: Vec<u8>, rule: Rule) -> Vec<u8> {
     if question.len() == BLOCK {
         let mut words = words_of(&question);
         words[MAX_ITERATIONS] = words[MAX_ITERATIONS].min(300);
         words[MAX_TEMPERATURE_ITERATIONS] = words[MAX_TEMPERATURE_ITERATIONS].min(60);
-        seal(&mut words);
+        seal(&mut words, rule);
         question.copy_from_slice(&bytes_of(&words));
     }
     question
 }
 
-/// One to three changes: a bit, a byte, a word, or the length; then the checks of all whole blocks made right, or left.
-fn mutated(rng: &mut Rng, bytes: &[u8], most: usize, sealed: bool) -> Vec<u8> {
+/// One to three changes: a bit, a byte, a word, or the length; then the checks of all whole blocks made right by the rule of what
+/// has come of it, or left.
+fn mutated(rng: &mut Rng, bytes: &[u8], most: usize, sealed: bool, rule: impl Fn(&[u8]) -> Rule) -> Vec<u8> {
     let mut bytes = bytes.to_vec();
     for _ in 0..rng.between(1, 3) {
         change(rng, &mut bytes, most, sealed);
     }
     if sealed {
+        let rule = rule(&bytes);
         for block in bytes.chunks_exact_mut(BLOCK) {
             let mut words = words_of(block);
-            seal(&mut words);
+            seal(&mut words, rule);
             block.copy_from_slice(&bytes_of(&words));
         }
     }

@@ -4,6 +4,7 @@
 //! oracle --counts [STAGE] [--count N] [--seed S]
 //! oracle differences                             the inputs that docs/DIFFERENCES.md names
 //! oracle borders                                 feeds by mass at the borders of 34, 35 and 36
+//! oracle exchanged-borders                       version 3 books, and others, at the borders of 1, 38, 2, 3 and 11
 
 use std::io::{BufWriter, Write};
 use std::process::ExitCode;
@@ -11,7 +12,7 @@ use std::process::ExitCode;
 use reference::command::{Options, USAGE};
 use reference::counts::{count_sheets, count_stage};
 use reference::generate::cases::Cases;
-use reference::generate::{differences, mass};
+use reference::generate::{differences, exchanged, mass};
 use reference::stage::{hex, hex_words, Case, Stage};
 
 /// Lines of a stage where no count is given.
@@ -22,13 +23,14 @@ fn main() -> ExitCode {
     let named = match words.iter().map(String::as_str).collect::<Vec<_>>()[..] {
         ["differences"] => Some(differences::cases()),
         ["borders"] => Some(mass::borders().into_iter().map(|(case, _)| case).collect()),
+        ["exchanged-borders"] => Some(exchanged::borders().into_iter().map(|(case, _)| case).collect()),
         _ => None,
     };
     if let Some(cases) = named {
         return if write(cases.into_iter()).is_ok() { ExitCode::SUCCESS } else { ExitCode::FAILURE };
     }
     let Some(options) = Options::read(words.into_iter()) else {
-        eprintln!("usage: oracle differences|borders|{USAGE}");
+        eprintln!("usage: oracle differences|borders|exchanged-borders|{USAGE}");
         return ExitCode::from(2);
     };
     for stage in &options.stages {
@@ -46,7 +48,7 @@ fn main() -> ExitCode {
 
 fn count(stage: Stage, options: &Options) {
     let number = options.count_of(stage);
-    if matches!(stage, Stage::Sheet | Stage::Mass) {
+    if stage.has_sheets() {
         count_sheets(stage, options.seed, number).print();
     } else {
         let tally = count_stage(stage, options.seed, number);

@@ -8,6 +8,7 @@ use std::process::ExitCode;
 use reference::command::not_built_in_fails;
 use reference::generate::absent::Base;
 use reference::generate::Rng;
+use reference::sheet::blocks::{rule_of, Rule};
 use reference::sheet::ANSWER_BYTES;
 use reference::stage::{hex_bytes, Stage};
 use reference::strike::{core, reference, shown, Call, Sheet, Shown, TASKS};
@@ -22,6 +23,8 @@ struct Counts {
     calls: usize,
     accepted: usize,
     by_mass: usize,
+    /// Of version 3 books.
+    third: usize,
     /// With an absent +0, with an absent −0, with two absent solvents and more, with one kept.
     zeros: [usize; 2],
     several: usize,
@@ -108,6 +111,7 @@ fn add(counts: &mut Counts, sheet: &Sheet) {
     let (feed, kept) = (sheet.feed(), sheet.kept());
     counts.accepted += 1;
     counts.by_mass += usize::from(sheet.by_mass());
+    counts.third += usize::from(rule_of(&sheet.book) == Rule::Running);
     for (zero, seen) in [0.0f64, -0.0].iter().zip(&mut counts.zeros) {
         *seen += usize::from(feed.iter().any(|z| z.to_bits() == zero.to_bits()));
     }
@@ -116,9 +120,10 @@ fn add(counts: &mut Counts, sheet: &Sheet) {
 }
 
 fn print(task: u64, counts: &Counts) {
-    let Counts { calls, accepted, by_mass, zeros: [plus, minus], several, alone, failures, differences } = counts;
+    let Counts { calls, accepted, by_mass, third, zeros: [plus, minus], several, alone, failures, differences } =
+        counts;
     println!(
-        "task {task}: {calls} asked, {accepted} accepted ({by_mass} by mass, {plus} with +0, {minus} with -0, {several} with two absent and more, {alone} with one kept), {failures} failures, {differences} differences"
+        "task {task}: {calls} asked, {accepted} accepted ({by_mass} by mass, {third} of version 3, {plus} with +0, {minus} with -0, {several} with two absent and more, {alone} with one kept), {failures} failures, {differences} differences"
     );
 }
 

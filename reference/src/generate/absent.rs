@@ -32,9 +32,11 @@ impl Base {
         let feed = feed(rng, n);
         let absent: Vec<usize> = (0..n).filter(|i| feed[*i] == 0.0).collect();
         let mut book = book(rng, n);
-        let by_mass = rng.one_in(2);
-        if by_mass {
+        // Half of version 3, and half by mass.
+        let (version, by_mass) = rng.pick(&[(1, false), (2, true), (3, false), (3, true)]);
+        if version > 1 {
             enter(rng, &mut book, &feed);
+            book.blocks[0][1] = version;
         }
         let opened = open_book(&book.bytes()).expect("questions 1 to 9 and 35 pass");
         let question = if by_mass { mass::question } else { questions::with_feed };

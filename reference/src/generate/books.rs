@@ -1,7 +1,7 @@
-//! Books: realistic, with wild floats, and damaged for each of the numbers 1 to 9.
+//! Books: realistic, with wild floats, and damaged for each of the numbers 1 to 9, and 38.
 
 use super::{beside, numbers, Rng};
-use crate::sheet::blocks::{bytes_of, seal, Words, BLOCK};
+use crate::sheet::blocks::{book_bytes, Words, BLOCK};
 use crate::sheet::book::{due_pairs, DENSITY, VAPOR_PRESSURE};
 
 /// Places in a correlation record.
@@ -32,12 +32,7 @@ pub struct Draft {
 
 impl Draft {
     pub fn bytes(&self) -> Vec<u8> {
-        let sealed = self.blocks.iter().map(|words| {
-            let mut words = *words;
-            seal(&mut words);
-            bytes_of(&words)
-        });
-        sealed.flatten().collect()
+        book_bytes(&self.blocks)
     }
 
     fn solvent(&mut self, i: usize) -> &mut Words {
@@ -335,11 +330,12 @@ fn damage_length(rng: &mut Rng, bytes: &mut Vec<u8>) {
     }
 }
 
+/// 38 where the version is none.
 fn damage_head(rng: &mut Rng, draft: &mut Draft) {
     let n = draft.n as u64;
     match rng.below(8) {
         0 => draft.blocks[0][0] = rng.pick(&[0, 2, 1 << 32 | 1, rng.clone().bits()]),
-        1 => draft.blocks[0][1] = rng.pick(&[0, 4, 3, 1 << 63 | 1]),
+        1 => draft.blocks[0][1] = rng.pick(&[0, 4, 5, 1 << 63 | 1]),
         2 => draft.blocks[0][2] = rng.pick(&[0, 9, n + 1, n - 1, u64::MAX, 1 << 32 | n]),
         3 => drop(draft.blocks.pop()),
         4 => {

@@ -1,6 +1,7 @@
 //! The cases of each stage.
 
-use super::{books, differences, feeds, mass, numbers, questions, rice, small, Rng};
+use super::exchanged::Exchange;
+use super::{books, differences, exchanged, feeds, mass, numbers, questions, rice, small, Rng};
 use crate::sheet::open_book;
 use crate::stage::{Case, Function, Stage};
 
@@ -37,6 +38,9 @@ pub struct Cases {
     compact: bool,
     /// Cases that come before the random ones.
     first: std::vec::IntoIter<Case>,
+    /// Where the stage is of version 3 books.
+    third: Option<Box<exchanged::Sheets>>,
+    exchange: Option<Exchange>,
 }
 
 impl Cases {
@@ -47,10 +51,17 @@ impl Cases {
                 small::others().into_iter().map(|(case, _)| case).chain(differences::cases()).collect()
             }
             Stage::Mass if !compact => mass::borders().into_iter().map(|(case, _)| case).collect(),
+            Stage::Exchanged if !compact => exchanged::borders().into_iter().map(|(case, _)| case).collect(),
             _ => Vec::new(),
         };
         let rng = if compact { Rng::tidy(seed) } else { Rng::new(seed) };
-        Self { rng, stage, compact, first: first.into_iter() }
+        let third = (stage == Stage::Exchanged).then(|| Box::new(exchanged::Sheets::new(seed, compact)));
+        Self { rng, stage, compact, first: first.into_iter(), third, exchange: None }
+    }
+
+    /// What was exchanged in the case drawn last.
+    pub fn exchange(&self) -> Option<Exchange> {
+        self.exchange
     }
 
     fn solvents(&mut self) -> usize {
@@ -66,6 +77,11 @@ impl Cases {
         if let Some(case) = self.first.next() {
             return (Kind::Edge, case);
         }
+        if let Some(third) = &mut self.third {
+            let drawn = third.draw();
+            self.exchange = drawn.exchange;
+            return (drawn.kind, drawn.case);
+        }
         let n = self.solvents();
         if self.stage == Stage::Sheet {
             return self.draw_sheet(n);
@@ -73,7 +89,7 @@ impl Cases {
         if self.stage == Stage::Mass {
             return mass::draw(&mut self.rng, n);
         }
-        // The stored ones of version 2 stand among the sheets.
+        // The stored ones of versions 2 and 3 stand among the sheets.
         if self.stage == Stage::Book && !self.compact && self.rng.one_in(3) {
             return (Kind::Realistic, Case::Book { book: mass::book(&mut self.rng, n) });
         }
@@ -103,10 +119,10 @@ impl Iterator for Cases {
     }
 }
 
-/// Book and question of sheets of both stages that have them, by turns.
+/// Book and question of sheets of the stages that have them, by turns.
 pub fn sheets(seed: u64) -> impl Iterator<Item = (Vec<u8>, Vec<u8>)> {
-    let mut stages = [Stage::Sheet, Stage::Mass].map(|stage| Cases::new(stage, seed, false));
-    (0usize..).map(move |turn| match stages[turn % 2].draw() {
+    let mut stages = [Stage::Sheet, Stage::Mass, Stage::Exchanged].map(|stage| Cases::new(stage, seed, false));
+    (0usize..).map(move |turn| match stages[turn % 3].draw() {
         (_, Case::Sheet { book, question, .. }) => (book, question),
         _ => unreachable!("a sheet was asked for"),
     })
@@ -120,7 +136,7 @@ fn plain(rng: &mut Rng, stage: Stage, n: usize) -> Case {
         Stage::Book => Case::Book { book: book(rng, n) },
         Stage::Pressure => pressure(rng, n),
         Stage::Excess => excess(rng, n),
-        Stage::Rice | Stage::Sheet | Stage::Mass => split(rng, n),
+        Stage::Rice | Stage::Sheet | Stage::Mass | Stage::Exchanged => split(rng, n),
     }
 }
 

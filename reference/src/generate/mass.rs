@@ -32,8 +32,8 @@ const NO_MASS: [f64; 8] = [
 const NO_BASIS: [u64; 9] =
     [2, 3, 1 << 32, 1 << 32 | 1, 1 << 63, 1 << 63 | 1, 0x3ff0_0000_0000_0000, u64::MAX, 0x0100_0000_0000_0000];
 
-/// Versions that are neither 1 nor 2: other counts, and 2.0 as a float.
-const NO_VERSION: [u64; 7] = [0, 3, 4, 1 << 32 | 1, 1 << 32 | 2, 1 << 63 | 2, 0x4000_0000_0000_0000];
+/// Versions that are none: other counts, and 2.0 as a float.
+const NO_VERSION: [u64; 7] = [0, 5, 4, 1 << 32 | 1, 1 << 32 | 2, 1 << 63 | 2, 0x4000_0000_0000_0000];
 
 /// What is particular about a sheet.
 #[derive(Debug, Clone, Copy, PartialEq, Eq)]
@@ -194,10 +194,11 @@ fn damage(rng: &mut Rng, question: &mut Draft) {
     questions::damage(rng, question, number);
 }
 
-/// A version 2 book, or one of no version; a molar mass that is none, and another damage, each in a third.
+/// A version 2 or 3 book, or one of no version; a molar mass that is none, and another damage, each in a third.
 pub fn book(rng: &mut Rng, n: usize) -> Vec<u8> {
     let mut draft = books::any(rng, n);
     enter(rng, &mut draft);
+    draft.blocks[0][1] = rng.pick(&[2, 3]);
     let i = rng.below(n);
     match rng.below(6) {
         0 | 1 => put(&mut draft.blocks[1 + i], MOLAR_MASS, no_mass(rng)),
@@ -324,7 +325,9 @@ pub fn ask(task: u64, w: &[f64]) -> Ask {
 /// Sheets at the borders of 34, 35 and 36, with their numbers; compared before any others and stored for the replay.
 pub fn borders() -> Vec<(Case, u32)> {
     let case = |(book, ask, number): (Vec<Words>, Ask, u32)| {
-        (Case::Sheet { book: bytes(&book), question: ask.bytes(), room: ANSWER_BYTES }, number)
+        let book = bytes(&book);
+        let question = ask.bytes_for(&book);
+        (Case::Sheet { book, question, room: ANSWER_BYTES }, number)
     };
     [answers(), overflows(), no_masses(), no_bases()].into_iter().flatten().map(case).collect()
 }
@@ -406,7 +409,9 @@ fn no_masses() -> Vec<Asked> {
     first[0][1] = 1;
     asked.push((first.clone(), moles, 0));
     first[0][1] = 3;
-    asked.push((first, moles, 3));
+    asked.push((first.clone(), moles, 35));
+    first[0][1] = 4;
+    asked.push((first, moles, 38));
     asked
 }
 

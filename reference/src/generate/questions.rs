@@ -5,7 +5,7 @@ use super::{beside, numbers, rice, Rng};
 use crate::helpers;
 use crate::named::model::ActivityModel;
 use crate::named::solvers::{activity_bubble_pressure, activity_dew_pressure, ActivityOptions};
-use crate::sheet::blocks::{bytes_of, seal, Words};
+use crate::sheet::blocks::{bytes_of, seal, Rule, Words};
 use crate::sheet::question::{
     BASIS, BRACKET, BY_MOLES, ENERGY_TOLERANCE, FRACTIONS, K_VALUES, MAX_ITERATIONS, MAX_TEMPERATURE_ITERATIONS,
     PRESSURE, TASK, TEMPERATURE, TM_THRESHOLD, TOLERANCE,
@@ -25,6 +25,8 @@ const HIGHEST_LIMIT: u64 = 1_000_000;
 #[derive(Debug, Clone)]
 pub struct Draft {
     pub words: Words,
+    /// Its book's.
+    pub rule: Rule,
     pub room: usize,
     /// Bytes instead of a sealed block.
     pub bytes: Option<Vec<u8>>,
@@ -47,7 +49,7 @@ impl Draft {
 
     fn sealed(&self) -> Vec<u8> {
         let mut words = self.words;
-        seal(&mut words);
+        seal(&mut words, self.rule);
         bytes_of(&words).to_vec()
     }
 
@@ -89,6 +91,7 @@ pub fn with_trace(rng: &mut Rng, book: &Book, task: u64, trace: usize) -> Draft 
 pub fn with_feed(rng: &mut Rng, book: &Book, task: u64, feed: &[f64]) -> Draft {
     let n = feed.len();
     let mut draft = options(rng, task);
+    draft.rule = book.rule;
     draft.put_all(FRACTIONS, feed);
     let model = book.model().with_fractions(feed);
     match (task, &model) {
@@ -103,7 +106,7 @@ pub fn with_feed(rng: &mut Rng, book: &Book, task: u64, feed: &[f64]) -> Draft {
 fn options(rng: &mut Rng, task: u64) -> Draft {
     let junk = rng.junk();
     let words = std::array::from_fn(|_| if junk { rng.bits() } else { 0 });
-    let mut draft = Draft { words, room: room(rng), bytes: None };
+    let mut draft = Draft { words, rule: Rule::Plain, room: room(rng), bytes: None };
     draft.words[0] = 8;
     draft.words[TASK] = task;
     draft.words[BASIS] = BY_MOLES;

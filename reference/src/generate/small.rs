@@ -1,11 +1,15 @@
 //! Small books and questions, word by word; and the sheets that are compared before any others.
 
-use crate::sheet::blocks::{bytes_of, seal, words_of, Words, BLOCK};
+use crate::sheet::blocks::{book_bytes, bytes_of, rule_of, seal, words_of, Rule, Words, BLOCK};
 use crate::sheet::{self, ANSWER_BYTES};
 use crate::stage::Case;
 
-pub fn sealed(mut words: Words) -> Vec<u8> {
-    seal(&mut words);
+pub fn sealed(words: Words) -> Vec<u8> {
+    sealed_by(Rule::Plain, words)
+}
+
+pub fn sealed_by(rule: Rule, mut words: Words) -> Vec<u8> {
+    seal(&mut words, rule);
     bytes_of(&words).to_vec()
 }
 
@@ -58,7 +62,7 @@ pub fn constant(pressures: &[f64], tau: [f64; 2]) -> Vec<Words> {
 }
 
 pub fn bytes(blocks: &[Words]) -> Vec<u8> {
-    blocks.iter().flat_map(|words| sealed(*words)).collect()
+    book_bytes(blocks)
 }
 
 /// One solvent for each reducing pressure (Pa), all pairs with the same τ.
@@ -110,8 +114,14 @@ impl Ask {
         self.word(12, limit).word(14, limit)
     }
 
+    /// To a book of version 1 or 2.
     pub fn bytes(self) -> Vec<u8> {
         sealed(self.0)
+    }
+
+    /// To a book of any version.
+    pub fn bytes_for(self, book: &[u8]) -> Vec<u8> {
+        sealed_by(rule_of(book), self.0)
     }
 }
 

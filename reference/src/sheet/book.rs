@@ -1,6 +1,6 @@
-//! The book: questions 1 to 9 and 35, and its records.
+//! The book: questions 1 to 9, 35 and 38, and its records.
 
-use super::blocks::{bytes_check_right, words_of, Words, BLOCK};
+use super::blocks::{bytes_check_right, rule_of, words_of, Rule, Words, BLOCK};
 use crate::named::liquid::{Correlation, PureLiquid};
 use crate::named::model::ActivityModel;
 use crate::named::nrtl::{NrtlModel, NrtlParameters, Pair};
@@ -9,7 +9,7 @@ use crate::types::ComponentId;
 /// First word of a solvent's two correlation records.
 pub const VAPOR_PRESSURE: usize = 3;
 pub const DENSITY: usize = 24;
-/// Word of its molar mass, which only version 2 has.
+/// Word of its molar mass, which versions 2 and 3 have.
 pub const MOLAR_MASS: usize = 45;
 
 #[derive(Debug, Clone, PartialEq)]
@@ -22,6 +22,8 @@ pub struct Solvent {
 
 #[derive(Debug, Clone, PartialEq)]
 pub struct Book {
+    /// By which its checks were made.
+    pub rule: Rule,
     pub solvents: Vec<Solvent>,
     /// kg/mol; a version 1 book has none.
     pub molar_masses: Option<Vec<f64>>,
@@ -38,10 +40,12 @@ impl Book {
     }
 }
 
-/// The accepted book, or a number from 1 to 9 or 35. Each question is put to all blocks before the next.
+/// The accepted book, or a number from 1 to 9, 35 or 38. Each question is put to all blocks before the next.
 pub fn open_book(book: &[u8]) -> Result<Book, u32> {
     need(!book.is_empty() && book.len().is_multiple_of(BLOCK), 1)?;
-    need(book.chunks_exact(BLOCK).all(bytes_check_right), 2)?;
+    need(version_known(&words_of(&book[..BLOCK])), 38)?;
+    let rule = rule_of(book);
+    need(book.chunks_exact(BLOCK).all(|block| bytes_check_right(block, rule)), 2)?;
     let blocks: Vec<Words> = book.chunks_exact(BLOCK).map(words_of).collect();
     let (version, n) = head(&blocks).ok_or(3u32)?;
     let (solvents, pairs) = blocks[1..].split_at(n);
@@ -55,6 +59,7 @@ pub fn open_book(book: &[u8]) -> Result<Book, u32> {
     need(pairs.iter().all(pair_is_finite), 8)?;
     need(pairs.iter().all(alphas_are_equal), 9)?;
     Ok(Book {
+        rule,
         solvents: solvents.iter().map(solvent).collect(),
         molar_masses,
         pairs: pairs.iter().zip(&due).map(|(w, &(i, j))| pair(w, i, j)).collect(),
@@ -69,10 +74,15 @@ fn need(yes: bool, number: u32) -> Result<(), u32> {
     }
 }
 
+/// Kind 1 has version 1 to 3.
+fn version_known(head: &Words) -> bool {
+    head[0] != 1 || (1..=3).contains(&head[1])
+}
+
 /// Version and n, if block 0 is right and the number of blocks fits it.
 fn head(blocks: &[Words]) -> Option<(u64, usize)> {
     let [kind, version, n] = [blocks[0][0], blocks[0][1], blocks[0][2]];
-    if kind != 1 || !(1..=2).contains(&version) || !(1..=8).contains(&n) {
+    if kind != 1 || !(1..=8).contains(&n) {
         return None;
     }
     let n = n as usize;
@@ -80,7 +90,7 @@ fn head(blocks: &[Words]) -> Option<(u64, usize)> {
 }
 
 fn molar_masses(version: u64, solvents: &[Words]) -> Option<Vec<f64>> {
-    (version == 2).then(|| solvents.iter().map(|w| float(w, MOLAR_MASS)).collect())
+    (version != 1).then(|| solvents.iter().map(|w| float(w, MOLAR_MASS)).collect())
 }
 
 /// Finite and positive.

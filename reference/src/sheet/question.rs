@@ -1,6 +1,6 @@
 //! The question: its words, and questions 11, 36, 13 to 18, 34 and 19 to 21.
 
-use super::blocks::{check_right, words_of, Words, BLOCK};
+use super::blocks::{check_right, words_of, Rule, Words, BLOCK};
 use super::book::{is_positive, Book};
 use crate::helpers;
 use crate::named::solvers::ActivityOptions;
@@ -30,13 +30,13 @@ pub struct Question {
 }
 
 impl Question {
-    /// Question 11.
-    pub fn read(question: &[u8]) -> Result<Self, u32> {
+    /// Question 11, by the book's rule.
+    pub fn read(question: &[u8], rule: Rule) -> Result<Self, u32> {
         if question.len() != BLOCK {
             return Err(11);
         }
         let words = words_of(question);
-        if !check_right(&words) || words[0] != 8 {
+        if !check_right(&words, rule) || words[0] != 8 {
             return Err(11);
         }
         Ok(Self { words })

@@ -1,0 +1,2 @@
+-- What an exchange of words does to a book. Assumes nothing.
+pub mod Exchanges
