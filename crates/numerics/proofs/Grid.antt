@@ -4,7 +4,7 @@ use mathlib.Core.Bool.{Bool, true, false, not, cond, _&&_, Bool·beq, true≢fal
 use Prim.Native.Nat.{ℕ, _+_, _-_, _*_, _^_, _<_, _≤_}
 use native.Mathlib.Nat.{le-trans, le-of-eq, mul-le-mul, mul-le-mul-left, mul-le-mul-right, le-of-mul-le-mul-right, mul-assoc, mul-comm, mul-left-comm, mul-right-comm, mul-pos, add-mul, zero-mul, lt-of-lt-of-le, mul-lt-mul-of-pos-right}
 use native.Mathlib.Omega.{arith}
-use borrow.Author.Tests.{le-ltb, ne-eqb}
+use borrow.Author.Tests.{lt-ltb, le-ltb, ne-eqb}
 use lib.Dec.{T, ltb, lit≤, lit<}
 use lib.Pow.{pow-pos}
 use lib.IntN.{pos}
@@ -190,6 +190,67 @@ sub-near s L H M K D (fin s' m e) (fin t' n d) l p q h k =
     (diff-up s (m * up e * down d) (n * up d * down e) (down e * down d) L H M K D (mul-pos (down-pos e) (down-pos d)) l p q (wide-low (m * up e) (down e) L (down d) (h .1)) (wide (m * up e) (down e) H (down d) (h .2))
     (wide-low' (n * up d) (down d) M (down e) (k .1)) (wide' (n * up d) (down d) K (down e) (k .2)))
 
+-- x is finite and at least L units in size
+abbrev pub Down : ℕ → Float → Type 0
+Down L nan = ⊥
+Down L (inf s) = ⊥
+Down L (fin s m e) = L * down e ≤ m * up e * U
+
+pub at-down : (s : Bool) (L H : ℕ) (x : Float) → At s L H x → Down L x
+at-down s L H (fin t m e) h = h .1
+
+round-down : (s : Bool) (a c L H : ℕ) → 0 < c → H < 2 ^ 53 → L * c ≤ a * U → a * U ≤ H * c → Down L (round binary64 s a c)
+round-down s a c L H C l h k = at-down s L H (round binary64 s a c) (round-at s a c L H C l h k)
+
+-- the difference of two of one sign that are D apart: the first is the larger, or the second
+diff-above : (s : Bool) (a b c L H K D : ℕ) → 0 < c → H < 2 ^ 53 → K + D ≤ L → L * c ≤ a * U → a * U ≤ H * c → b * U ≤ K * c → Down D (sum binary64 s a (not s) b c)
+unfolding sum
+diff-above s a b c L H K D C l p h h' k =
+    let P : K * c + D * c ≤ L * c = le-trans (le-of-eq (sym (add-mul K D c))) (mul-le-mul-right c p) in
+    rw (le-ltb a b (omega arith)) (go s (omega arith))
+  where
+    go : (s : Bool) → D * c ≤ (a - b) * U → Down D (cond (Bool·beq s (not s)) (round binary64 s (a + b) c) (cond false (round binary64 (not s) (b - a) c) (round binary64 (s && ltb b a) (a - b) c)))
+    go true g = round-down (true && ltb b a) (a - b) c D H C l g (omega arith)
+    go false g = round-down (false && ltb b a) (a - b) c D H C l g (omega arith)
+
+diff-below : (s : Bool) (a b c H M K D : ℕ) → 0 < c → 0 < D → K < 2 ^ 53 → H + D ≤ M → a * U ≤ H * c → M * c ≤ b * U → b * U ≤ K * c → Down D (sum binary64 s a (not s) b c)
+unfolding sum
+diff-below s a b c H M K D C d l p h k k' =
+    let P : H * c + D * c ≤ M * c = le-trans (le-of-eq (sym (add-mul H D c))) (mul-le-mul-right c p) in
+    let z : 0 < D * c = mul-pos d C in
+    rw (lt-ltb a b (omega arith)) (go s (omega arith))
+  where
+    go : (s : Bool) → D * c ≤ (b - a) * U → Down D (cond (Bool·beq s (not s)) (round binary64 s (a + b) c) (cond true (round binary64 (not s) (b - a) c) (round binary64 (s && ltb b a) (a - b) c)))
+    go true g = round-down false (b - a) c D K C l g (omega arith)
+    go false g = round-down true (b - a) c D K C l g (omega arith)
+
+pub sub-above : (s : Bool) (L H M K D : ℕ) (x y : Float) → H < 2 ^ 53 → K + D ≤ L → At s L H x → At s M K y → Down D (sub binary64 x y)
+unfolding sub add neg
+sub-above s L H M K D (fin s' m e) (fin t' n d) l p h k =
+    rw (h .0, k .0)
+    (diff-above s (m * up e * down d) (n * up d * down e) (down e * down d) L H K D (mul-pos (down-pos e) (down-pos d)) l p (wide-low (m * up e) (down e) L (down d) (h .1)) (wide (m * up e) (down e) H (down d) (h .2))
+    (wide' (n * up d) (down d) K (down e) (k .2)))
+
+pub sub-below : (s : Bool) (L H M K D : ℕ) (x y : Float) → 0 < D → K < 2 ^ 53 → H + D ≤ M → At s L H x → At s M K y → Down D (sub binary64 x y)
+unfolding sub add neg
+sub-below s L H M K D (fin s' m e) (fin t' n d) z l p h k =
+    rw (h .0, k .0)
+    (diff-below s (m * up e * down d) (n * up d * down e) (down e * down d) H M K D (mul-pos (down-pos e) (down-pos d)) z l p (wide (m * up e) (down e) H (down d) (h .2))
+    (wide-low' (n * up d) (down d) M (down e) (k .1)) (wide' (n * up d) (down d) K (down e) (k .2)))
+
+neg-sign : (s : Bool) (L H : ℕ) (x : Float) → At s L H x → At (not s) L H (neg x)
+unfolding neg
+neg-sign s L H (fin t m e) h = (ap not (h .0), h .1, h .2)
+
+-- of two signs
+pub sub-apart : (s : Bool) (L H M K : ℕ) (x y : Float) → H + K < 2 ^ 53 → At s L H x → At (not s) M K y → Down (L + M) (sub binary64 x y)
+unfolding sub
+sub-apart s L H M K x y l h k = at-down s (L + M) (H + K) (add binary64 x (neg y)) (add-at s L H M K x (neg y) l h (back s (neg-sign (not s) M K y k)))
+  where
+    back : (s : Bool) → At (not (not s)) M K (neg y) → At s M K (neg y)
+    back true g = g
+    back false g = g
+
 -- ---- quotients
 div-bound : (X E H Y D L B : ℕ) → H * U ≤ B * L → X * U ≤ H * E → L * D ≤ Y * U → X * D * U ≤ B * (Y * E)
 div-bound X E H Y D L B q h k =
@@ -212,7 +273,7 @@ div-up t H L M B (fin s m e) (fin t' n d) p q l h k =
     first : (n u : ℕ) → L * down d ≤ n * u * U → 0 < n * u
     first n u g = let z = mul-pos p (down-pos d) in omega arith
 
--- ---- 2 - x and 1 + x, for an x that is smaller
+-- ---- 2 - x and 1 + x, for an x that is smaller; 1 + x is an eighth at least
 pub two-minus : (H : ℕ) (x : Float) → H ≤ U → Up H x → At false U (3 * U) (sub binary64 (ofBits binary64 0x4000000000000000) x)
 unfolding sub add neg sum ofBits
 two-minus H (fin true n d) l h =
@@ -224,9 +285,16 @@ two-minus H (fin false n d) l h =
     let p = down-pos d in
     rw (le-ltb (2 * down d) (n * up d * 1) (omega arith)) (round-at false (2 * down d - n * up d * 1) (1 * down d) U (3 * U) (omega arith) (lit< tt) (omega arith) (omega arith))
 
-pub one-plus : (x : Float) → Up U x → Plus (add binary64 (ofBits binary64 0x3ff0000000000000) x)
+pub one-plus : (H : ℕ) (x : Float) → H + 134217728 ≤ U → Up H x → At false 134217728 (2 * U) (add binary64 (ofBits binary64 0x3ff0000000000000) x)
 unfolding add sum ofBits
-one-plus (fin true n d) h =
+one-plus H (fin true n d) l h =
+    let g : (H + 134217728) * down d ≤ U * down d = mul-le-mul-right (down d) l in
+    let k = add-mul H 134217728 (down d) in
     let p = down-pos d in
-    rw (le-ltb (1 * down d) (n * up d * 1) (omega arith)) (round-plus binary64 (1 * down d - n * up d * 1) (1 * down d))
-one-plus (fin false n d) h = round-plus binary64 (1 * down d + n * up d * 1) (1 * down d)
+    rw (le-ltb (1 * down d) (n * up d * 1) (omega arith))
+    (round-at false (1 * down d - n * up d * 1) (1 * down d) 134217728 (2 * U) (omega arith) (lit< tt) (omega arith) (omega arith))
+one-plus H (fin false n d) l h =
+    let g : (H + 134217728) * down d ≤ U * down d = mul-le-mul-right (down d) l in
+    let k = add-mul H 134217728 (down d) in
+    let p = down-pos d in
+    round-at false (1 * down d + n * up d * 1) (1 * down d) 134217728 (2 * U) (omega arith) (lit< tt) (omega arith) (omega arith)

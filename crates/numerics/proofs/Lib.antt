@@ -5,5 +5,7 @@ mod Splits
 pub mod Mantissa
 mod Patterns
 mod Grid
+mod Scales
 pub mod Signs
+mod Guess
 mod Vectors

@@ -18,7 +18,7 @@ v-within (inf false) a b c = absurd (true≢false b)
 v-within (fin true m e) a b c = let h = ltb-false (0x174910d52d3051 * down e) (m * up e * 8796093022208) c in omega arith
 v-within (fin false m e) a b c = let h = ltb-false (0x162e42fefa39ef * down e) (m * up e * 8796093022208) b in omega arith
 
-C-within : Within 2 C
+pub C-within : Within 2 C
 unfolding ofBits
 C-within = lit≤ tt
 

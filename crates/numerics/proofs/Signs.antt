@@ -59,12 +59,15 @@ unfolding ofBits neg
 half-at-neg = (refl, lit≤ tt, lit≤ tt)
 
 -- ---- from hi and lo on: with |hi| at most a half and |lo| at most 1494 units
-rest-plus : (hi lo : Float) → Up 536870912 hi → Up 1494 lo
-    → (let r = hi ⊖ lo in
+abbrev pub digits : Float → Float → Float
+digits hi lo =
+    let r = hi ⊖ lo in
     let t = r ⊗ r in
     let c = r ⊖ t ⊗ (# 0x3fc555555555553e ⊕ t ⊗ (# 0xbf66c16c16bebd93 ⊕ t ⊗ (# 0x3f11566aaf25de2c ⊕ t ⊗ (# 0xbebbbd41c5d26bf1 ⊕ t ⊗ # 0x3e66376972bea4d0)))) in
-    Plus (1f ⊕ (r ⊗ c ⊘ (2f ⊖ c) ⊖ lo ⊕ hi)))
-rest-plus hi lo h l =
+    1f ⊕ (r ⊗ c ⊘ (2f ⊖ c) ⊖ lo ⊕ hi)
+
+digits-at : (hi lo : Float) → Up 536870912 hi → Up 1494 lo → At false 134217728 (2 * U) (digits hi lo)
+digits-at hi lo h l =
     let r = hi ⊖ lo in
     let r-up : Up 536872406 r = sub-up 536870912 1494 hi lo (lit< tt) h l in
     let t = r ⊗ r in
@@ -90,14 +93,14 @@ rest-plus hi lo h l =
     let w1-up : Up 290902020 (r ⊗ c ⊘ (2f ⊖ c) ⊖ lo) = sub-up 290900526 1494 (r ⊗ c ⊘ (2f ⊖ c)) lo (lit< tt) q-up l in
     let w = r ⊗ c ⊘ (2f ⊖ c) ⊖ lo ⊕ hi in
     let w-up : Up 827772932 w = add-up 290902020 536870912 (r ⊗ c ⊘ (2f ⊖ c) ⊖ lo) hi (lit< tt) w1-up h in
-    one-plus w (up-more 827772932 U w (lit≤ tt) w-up)
+    one-plus 827772932 w (lit≤ tt) w-up
 
 -- ---- v, in units: from n to n + 1
 module _ (m : ℕ) (e : ℤ) where
-  units-of : ℕ
+  pub units-of : ℕ
   units-of = m * up e * U / down e
 
-  v-at : (s : Bool) → At s units-of (units-of + 1) (fin s m e)
+  pub v-at : (s : Bool) → At s units-of (units-of + 1) (fin s m e)
   unfolding units-of
   v-at s =
       let X = m * up e * U in
@@ -106,19 +109,19 @@ module _ (m : ℕ) (e : ℤ) where
       let k : suc n * down e ≡ (n + 1) * down e = ap (λ (z : ℕ). z * down e) (omega arith) in
       (refl, div-mul-le-self X (down e), omega arith)
 
-  units-small : m * up e ≤ 746 * down e → units-of < 801011400705
+  pub units-small : m * up e ≤ 746 * down e → units-of < 801011400705
   unfolding units-of
   units-small h =
       div-lt-iff-lt-mul (down-pos e) .1 (let p = down-pos e in omega arith)
 
 -- ---- the whole part of a float from L to H units
-record Cut (s : Bool) (L H : ℕ) (x : Float) : Type 0 where
-  K : ℕ
-  is : toSigned 63 x ≡ cond s (negℤ (pos K)) (pos K)
-  low : L < (K + 1) * U
-  high : K * U ≤ H
+pub record Cut (s : Bool) (L H : ℕ) (x : Float) : Type 0 where
+  pub K : ℕ
+  pub is : toSigned 63 x ≡ cond s (negℤ (pos K)) (pos K)
+  pub low : L < (K + 1) * U
+  pub high : K * U ≤ H
 
-cut : (s : Bool) (L H : ℕ) (x : Float) → H < 2 ^ 53 → At s L H x → Cut s L H x
+pub cut : (s : Bool) (L H : ℕ) (x : Float) → H < 2 ^ 53 → At s L H x → Cut s L H x
 unfolding toSigned
 cut s L H (fin t m e) l h =
     let X = m * up e in
@@ -137,13 +140,13 @@ same-sign : (s : Bool) → unlike false s ≡ s
 same-sign true = refl
 same-sign false = refl
 
-abbrev LP : ℕ → ℕ
+abbrev pub LP : ℕ → ℕ
 LP n = 1549082004 * n / U
 
-abbrev HP : ℕ → ℕ
+abbrev pub HP : ℕ → ℕ
 HP n = 1549082005 * (n + 1) / U + 1
 
-product-at : (s : Bool) (n : ℕ) (v : Float) → n < 801011400705 → At s n (n + 1) v → At s (LP n) (HP n) (C ⊗ v)
+pub product-at : (s : Bool) (n : ℕ) (v : Float) → n < 801011400705 → At s n (n + 1) v → At s (LP n) (HP n) (C ⊗ v)
 product-at s n v l h = rw same-sign at (mul-at false s 1549082004 1549082005 n (n + 1) (LP n) (HP n) C v (omega arith) (omega arith) (omega arith) C-at h)
 
 below : (m : ℕ) (e : ℤ) → lt (fin true (suc m) e) 0f ≡ true
@@ -154,17 +157,13 @@ above : (m : ℕ) (e : ℤ) → lt (fin false (suc m) e) 0f ≡ false
 unfolding lt ofBits
 above m e = le-ltb (suc m * up e * 1) (0 * down e) (omega arith)
 
-shift-at : (s : Bool) (n m : ℕ) (e : ℤ) → n < 801011400705 → At s n (n + 1) (fin s (suc m) e) → At s (LP n + 536870912) (HP n + 536870912) (expShift (fin s (suc m) e))
+pub shift-at : (s : Bool) (L H m : ℕ) (e : ℤ) → H + 536870912 < 2 ^ 53 → At s L H (C ⊗ fin s (suc m) e) → At s (L + 536870912) (H + 536870912) (expShift (fin s (suc m) e))
 unfolding expShift
-shift-at true n m e l h =
-    let v = fin true (suc m) e in
-    rw (below m e) (unfold sub in add-at true (LP n) (HP n) 536870912 536870912 (C ⊗ v) (neg ½) (omega arith) (product-at true n v l h) half-at-neg)
-shift-at false n m e l h =
-    let v = fin false (suc m) e in
-    rw (above m e) (add-at false (LP n) (HP n) 536870912 536870912 (C ⊗ v) ½ (omega arith) (product-at false n v l h) half-at)
+shift-at true L H m e l h = rw (below m e) (unfold sub in add-at true L H 536870912 536870912 (C ⊗ fin true (suc m) e) (neg ½) l h half-at-neg)
+shift-at false L H m e l h = rw (above m e) (add-at false L H 536870912 536870912 (C ⊗ fin false (suc m) e) ½ l h half-at)
 
 -- ---- k as a float, and hi and lo
-k-at : (s : Bool) (K : ℕ) → K < 4000 → At s (suc K * U) (suc K * U) (whole (cond s (negℤ (pos (suc K))) (pos (suc K))))
+pub k-at : (s : Bool) (K : ℕ) → K < 4000 → At s (suc K * U) (suc K * U) (whole (cond s (negℤ (pos (suc K))) (pos (suc K))))
 unfolding ofInt
 k-at true K l = round-at true (suc K) 1 (suc K * U) (suc K * U) (lit< tt) (omega arith) (omega arith) (omega arith)
 k-at false K l = round-at false (suc K) 1 (suc K * U) (suc K * U) (lit< tt) (omega arith) (omega arith) (omega arith)
@@ -211,26 +210,30 @@ mul-plus (inf true) a p = absurd (true≢false p)
 mul-plus (fin false m e) a p = round-plus binary64 (m * up e * (1 * up a)) (down e * down a)
 mul-plus (fin true m e) a p = absurd (true≢false p)
 
-at-k : (v : Float) (k : ℤ) → Up 536870912 (v ⊖ whole k ⊗ A) → Up 1494 (whole k ⊗ B) → Plus (expFrom v k)
-unfolding expFrom
-at-k v k h l =
-    let hi = v ⊖ whole k ⊗ A in
-    let lo = whole k ⊗ B in
-    let r = hi ⊖ lo in
-    let t = r ⊗ r in
-    let c = r ⊖ t ⊗ (# 0x3fc555555555553e ⊕ t ⊗ (# 0xbf66c16c16bebd93 ⊕ t ⊗ (# 0x3f11566aaf25de2c ⊕ t ⊗ (# 0xbebbbd41c5d26bf1 ⊕ t ⊗ # 0x3e66376972bea4d0)))) in
-    let y = 1f ⊕ (r ⊗ c ⊘ (2f ⊖ c) ⊖ lo ⊕ hi) in
-    let a = quotZ k (pos 2) in
-    mul-plus (y ⊗ pow2 a) (k -ℤ a) (mul-plus y a (rest-plus hi lo h l))
+at-plus : (L H : ℕ) (x : Float) → At false L H x → Plus x
+at-plus L H (fin s m e) h = h .0
 
-from-plus : (s : Bool) (m : ℕ) (e : ℤ) → suc m * up e ≤ 746 * down e → Plus (expFrom (fin s (suc m) e) (toSigned 63 (expShift (fin s (suc m) e))))
-from-plus s m e w =
+at-k : (v : Float) (k : ℤ) → At false 134217728 (2 * U) (digits (v ⊖ whole k ⊗ A) (whole k ⊗ B)) → Plus (expFrom v k)
+unfolding expFrom
+at-k v k h =
+    let y = digits (v ⊖ whole k ⊗ A) (whole k ⊗ B) in
+    let a = quotZ k (pos 2) in
+    mul-plus (y ⊗ pow2 a) (k -ℤ a) (mul-plus y a (at-plus 134217728 (2 * U) y h))
+
+-- with the definition's k
+abbrev pub digitsOf : Float → Float
+digitsOf v = let f = whole (toSigned 63 (expShift v)) in digits (v ⊖ f ⊗ A) (f ⊗ B)
+
+from-at : (s : Bool) (m : ℕ) (e : ℤ) → suc m * up e ≤ 746 * down e → At false 134217728 (2 * U) (digitsOf (fin s (suc m) e))
+from-at s m e w =
     let v = fin s (suc m) e in
     let n = units-of (suc m) e in
     let l = units-small (suc m) e w in
     let h = v-at (suc m) e s in
-    let c = cut s (LP n + 536870912) (HP n + 536870912) (expShift v) (omega arith) (shift-at s n m e l h) in
-    subst (λ (k : ℤ). Plus (expFrom v k)) (sym (c .is)) (at-k v (cond s (negℤ (pos (c .K))) (pos (c .K))) (hi-up s n (c .K) v l (c .low) (c .high) h) (lo-up s (c .K) (k-small n (c .K) l (c .high))))
+    let c = cut s (LP n + 536870912) (HP n + 536870912) (expShift v) (omega arith) (shift-at s (LP n) (HP n) m e (omega arith) (product-at s n v l h)) in
+    let k = cond s (negℤ (pos (c .K))) (pos (c .K)) in
+    subst (λ (k : ℤ). At false 134217728 (2 * U) (digits (v ⊖ whole k ⊗ A) (whole k ⊗ B))) (sym (c .is))
+    (digits-at (v ⊖ whole k ⊗ A) (whole k ⊗ B) (hi-up s n (c .K) v l (c .low) (c .high) h) (lo-up s (c .K) (k-small n (c .K) l (c .high))))
 
 -- a NaN, or of the sign +: so never -0, and never below zero
 abbrev pub NoMinus : Float → Type 0
@@ -242,7 +245,7 @@ weaker : (x : Float) → Plus x → NoMinus x
 weaker (inf s) p = p
 weaker (fin s m e) p = p
 
-plain : (e : ℤ) → up e * down e ≡ 1 → e ≡ pos 0
+pub plain : (e : ℤ) → up e * down e ≡ 1 → e ≡ pos 0
 plain (pos zero) h = refl
 plain (pos (suc a)) h = let p = pow-pos a in let q = pow-suc 2 a in absurd (none (2 ^ suc a) (2 ^ a) q p h)
   where
@@ -253,14 +256,14 @@ plain (negsuc a) h = absurd (none (2 ^ suc a) (2 ^ a) (pow-suc 2 a) (pow-pos a) 
     none : (x y : ℕ) → x ≡ y * 2 → 0 < y → 1 * x ≡ 1 → ⊥
     none x y a b c = omega arith
 
-zero-plus : (s : Bool) → Plus (expFrom (fin s 0 (pos 0)) (toSigned 63 (expShift (fin s 0 (pos 0)))))
-unfolding expFrom expShift ofBits lt add sub mul div ofInt toSigned
-zero-plus true = refl
-zero-plus false = refl
+zero-at : (s : Bool) → At false 134217728 (2 * U) (digitsOf (fin s 0 (pos 0)))
+unfolding expShift ofBits lt add sub mul div ofInt toSigned
+zero-at true = (refl, lit≤ tt, lit≤ tt)
+zero-at false = (refl, lit≤ tt, lit≤ tt)
 
-inside : (v : Float) → T (fits binary64 v) → Within 746 v → Plus (expFrom v (toSigned 63 (expShift v)))
-inside (fin s zero e) f w = subst (λ (x : ℤ). Plus (expFrom (fin s 0 x) (toSigned 63 (expShift (fin s 0 x))))) (sym (plain e (eqb→eq (up e * down e) 1 (unfold fits in f)))) (zero-plus s)
-inside (fin s (suc m) e) f w = from-plus s m e w
+pub inside-at : (v : Float) → T (fits binary64 v) → Within 746 v → At false 134217728 (2 * U) (digitsOf v)
+inside-at (fin s zero e) f w = subst (λ (x : ℤ). At false 134217728 (2 * U) (digitsOf (fin s 0 x))) (sym (plain e (eqb→eq (up e * down e) 1 (unfold fits in f)))) (zero-at s)
+inside-at (fin s (suc m) e) f w = from-at s m e w
 
 inf-plus : NoMinus (# 0x7ff0000000000000)
 unfolding ofBits
@@ -279,4 +282,4 @@ exp-no-minus v f = go (isNan v) refl (lt (# 0x40862e42fefa39ef) v) refl (lt v (#
     go true p b q c r = tt
     go false p true q c r = inf-plus
     go false p false q true r = zero-is-plus
-    go false p false q false r = weaker (expFrom v (toSigned 63 (expShift v))) (inside v f (v-within v p q r))
+    go false p false q false r = weaker (expFrom v (toSigned 63 (expShift v))) (at-k v (toSigned 63 (expShift v)) (inside-at v f (v-within v p q r)))

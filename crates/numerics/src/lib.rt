@@ -1,12 +1,14 @@
 // ln, exp and powf, each equal to its definition in specs/Numerics.antt.
 ghost use mathlib.Core.Path.{_≡_};
-ghost use mathlib.Core.Bool.{false};
+ghost use mathlib.Core.Bool.{true, false, cond};
 ghost use Prim.Native.Nat.{_<_, _≤_, _*_, _^_};
 ghost use lib.Dec.{T};
 ghost use lib.Ieee.Positive.{positive};
-ghost use lib.Signed.{mag};
-ghost use lib.Ieee.{odd};
-ghost use Rattle.numerics.specs.Numerics.{lnOf, lnFrom, lnSplit, mantissa, exponent, expOf, expFrom, expShift, powfOf, pow2};
+ghost use lib.IntN.{ℤ, pos, _-ℤ_};
+ghost use lib.Signed.{mag, quotZ};
+ghost use lib.Ieee.{odd, toSigned, minus, le, neg};
+ghost use Rattle.floats.specs.Arithmetic.{_⊗_, #, 0f};
+ghost use Rattle.numerics.specs.Numerics.{lnOf, lnFrom, lnSplit, mantissa, exponent, expOf, expFrom, expShift, powfOf, pow2, whole};
 
 // 2 ^ a, made of its exponent's field.
 fn power(a: i64) -> f64
@@ -27,11 +29,11 @@ fn exp_shift(v: f64) -> f64
     }
 }
 
-fn exp_from(v: f64, k: i64) -> f64
-    requires { ⌜ mag k < 2000 ⌝ }
-    ensures { λ r. ⌜ r ≡ expFrom v k ⌝ }
+// e^(v - k ln 2), for k as a float. Where k is the definition's, one product with 2^k is as good as its two.
+fn exp_digits(v: f64, f: f64) -> f64
+    ensures { λ y. ⌜ ((k : ℤ) → f ≡ whole k → y ⊗ pow2 (quotZ k (pos 2)) ⊗ pow2 (k -ℤ quotZ k (pos 2)) ≡ expFrom v k) ⌝ }
+    ensures { λ y. ⌜ (T (le (neg (# 0x4085e00000000000)) v) → T (le v (# 0x4085e00000000000)) → f ≡ whole (toSigned 63 (expShift v)) → y ⊗ pow2 (toSigned 63 (expShift v)) ≡ expOf v) ⌝ }
 {
-    let f = k as f64;
     let hi = v - f * 0.6931471803691238;
     let lo = f * 1.9082149292705877e-10;
     let r = hi - lo;
@@ -44,12 +46,18 @@ fn exp_from(v: f64, k: i64) -> f64
                         + t
                             * (6.613756321437934e-05
                                 + t * (-1.6533902205465252e-06 + t * 4.1381367970572385e-08))));
-    let y = 1.0 + (r * c / (2.0 - c) - lo + hi);
-    let a = k / 2;
-    y * power(a) * power(k - a)
+    1.0 + (r * c / (2.0 - c) - lo + hi)
 }
 
-pub fn exp(v: f64) -> f64
+fn exp_from(v: f64, k: i64) -> f64
+    requires { ⌜ mag k < 2000 ⌝ }
+    ensures { λ r. ⌜ r ≡ expFrom v k ⌝ }
+{
+    let a = k / 2;
+    exp_digits(v, k as f64) * power(a) * power(k - a)
+}
+
+fn exp_far(v: f64) -> f64
     ensures { λ r. ⌜ r ≡ expOf v ⌝ }
 {
     if v != v {
@@ -62,6 +70,65 @@ pub fn exp(v: f64) -> f64
         return 0.0;
     }
     exp_from(v, std::num::truncating_f64_to_i64(exp_shift(v)))
+}
+
+// exp(v), where `ok`: v is near 0, and the whole number next to C * v is the definition's k.
+struct Near {
+    y: f64,
+    ok: bool,
+}
+
+fn kept(near: bool, v: f64) -> f64
+    ensures { λ r. ⌜ r ≡ cond near v 0f ⌝ }
+{
+    if near { v } else { 0.0 }
+}
+
+// u - 1023 as a float, from the pattern of 2^52 + u.
+fn count(u: u64) -> f64
+    requires { ⌜ u < 2048 ⌝ }
+    ensures { λ r. ⌜ r ≡ whole (minus u 1023) ⌝ }
+{
+    f64::from_bits(u + 4841369599423283200) - 4503599627371519.0
+}
+
+// 1.5 * 2^52 + 1023 + C * v, rounded, has k + 1023 for its last digits: the exponent's field of 2^k.
+fn exp_near(v: f64) -> Near
+    ensures { λ r. ⌜ (r .ok ≡ true → r .y ≡ expOf v) ⌝ }
+{
+    let near = (-700.0 <= v) & (v <= 700.0);
+    let w = kept(near, v);
+    let p = 1.4426950408889634 * w;
+    let u = f64::to_bits(p + 6755399441056767.0) % 2048;
+    let f = count(u);
+    let d = p - f;
+    let y = exp_digits(w, f) * f64::from_bits(u * 4503599627370496);
+    Near {
+        y: y,
+        ok: near & (-0.4999990463256836 < d) & (d < 0.4999990463256836),
+    }
+}
+
+pub fn exp(v: f64) -> f64
+    ensures { λ r. ⌜ r ≡ expOf v ⌝ }
+{
+    let n = exp_near(v);
+    if n.ok { n.y } else { exp_far(v) }
+}
+
+pub struct Two(pub f64, pub f64);
+
+// exp of each of two: their steps run side by side.
+pub fn exp_two(a: f64, b: f64) -> Two
+    ensures { λ r. ⌜ (r .0 ≡ expOf a) × (r .1 ≡ expOf b) ⌝ }
+{
+    let m = exp_near(a);
+    let n = exp_near(b);
+    if m.ok & n.ok {
+        Two(m.y, n.y)
+    } else {
+        Two(exp_far(a), exp_far(b))
+    }
 }
 
 // q digits, shifted up by j so that the leading one stands at 2^52.
