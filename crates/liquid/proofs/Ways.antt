@@ -1,5 +1,6 @@
--- A turn of the loop over the terms, its end, and the ways out of `vapor_pressure` and `tested`. Assumes nothing.
-use Prim.Native.Nat.{ℕ, _+_}
+-- A term more, two terms more, the last of them, and the ways out of `vapor_pressure` and `tested`. Assumes nothing.
+use Prim.Native.Nat.{ℕ, _+_, _*_}
+use native.Mathlib.Omega.{arith}
 use mathlib.Core.Path.{_≡_, refl, ap, _∙_}
 use mathlib.Core.Bool.{Bool, true, false, not, _&&_}
 use mathlib.Core.List.{List}
@@ -26,7 +27,7 @@ module _ (n e : List Float) (tr θ : Float) where
   terms-start = refl
 
   -- the code's l is ln θ, and p, q, r are θ^t_k, θ^(t_k - 1), θ^(t_k - 2)
-  pub terms-turn : (k : ℕ) {l p q r s ds d2s : Float} → l ≡ lnOf θ → p ≡ expOf (at e k ⊗ l) → q ≡ expOf ((at e k ⊖ 1f) ⊗ l) → r ≡ expOf ((at e k ⊖ 2f) ⊗ l)
+  terms-turn : (k : ℕ) {l p q r s ds d2s : Float} → l ≡ lnOf θ → p ≡ expOf (at e k ⊗ l) → q ≡ expOf ((at e k ⊖ 1f) ⊗ l) → r ≡ expOf ((at e k ⊖ 2f) ⊗ l)
       → sums s ds d2s ≡ sumsOf n e tr θ k
       → sums (s ⊕ at n k ⊗ p) (ds ⊕ neg (at n k) ⊗ at e k ⊗ q ⊘ tr) (d2s ⊕ at n k ⊗ at e k ⊗ (at e k ⊖ 1f) ⊗ r ⊘ (tr ⊗ tr)) ≡ sumsOf n e tr θ (k + 1)
   unfolding sumsOf term slopeTerm curvatureTerm
@@ -39,6 +40,22 @@ module _ (n e : List Float) (tr θ : Float) where
         ← sum-turn 0f (λ k. slopeTerm tr θ (at n k) (at e k)) k refl b (ap (λ (w : Sums). w .ds) h),
         ← sum-turn 0f (λ k. curvatureTerm tr θ (at n k) (at e k)) k refl c (ap (λ (w : Sums). w .d2s) h),
       )
+
+  -- w is z with the term k, whose powers are p, q and r
+  abbrev With : ℕ → Float → Float → Float → Sums → Sums → Type 0
+  With k p q r z w =
+      (w .s ≡ z .s ⊕ at n k ⊗ p) × (w .ds ≡ z .ds ⊕ neg (at n k) ⊗ at e k ⊗ q ⊘ tr) × (w .d2s ≡ z .d2s ⊕ at n k ⊗ at e k ⊗ (at e k ⊖ 1f) ⊗ r ⊘ (tr ⊗ tr))
+
+  pub term-next : (k : ℕ) {l p q r : Float} {z w : Sums} → l ≡ lnOf θ → p ≡ expOf (at e k ⊗ l) → q ≡ expOf ((at e k ⊖ 1f) ⊗ l) → r ≡ expOf ((at e k ⊖ 2f) ⊗ l)
+      → With k p q r z w → z ≡ sumsOf n e tr θ k → w ≡ sumsOf n e tr θ (k + 1)
+  term-next k {z} {w} el ep eq er h hz = rw (h .0, h .1, h .2) (terms-turn k el ep eq er hz)
+
+  pub pair-next : (i : ℕ) {l p p' q q' r r' : Float} {z y w : Sums} → l ≡ lnOf θ → (p ≡ expOf (at e (2 * i) ⊗ l)) × (p' ≡ expOf (at e (2 * i + 1) ⊗ l))
+      → (q ≡ expOf ((at e (2 * i) ⊖ 1f) ⊗ l)) × (q' ≡ expOf ((at e (2 * i + 1) ⊖ 1f) ⊗ l)) → (r ≡ expOf ((at e (2 * i) ⊖ 2f) ⊗ l)) × (r' ≡ expOf ((at e (2 * i + 1) ⊖ 2f) ⊗ l))
+      → With (2 * i) p q r z y → With (2 * i + 1) p' q' r' y w → z ≡ sumsOf n e tr θ (2 * i) → w ≡ sumsOf n e tr θ (2 * (i + 1))
+  pair-next i el ep eq er h h' hz =
+      let k : 2 * i + 1 + 1 ≡ 2 * (i + 1) = omega arith in
+      term-next (2 * i + 1) el (ep .1) (eq .1) (er .1) h' (term-next (2 * i) el (ep .0) (eq .0) (er .0) h hz) ∙ ap (sumsOf n e tr θ) k
 
   pub terms-done : (k count : ℕ) {w : Sums} → k ≡ count → w ≡ sumsOf n e tr θ k → w ≡ sumsOf n e tr θ count
   terms-done k count p h = h ∙ ap (sumsOf n e tr θ) p

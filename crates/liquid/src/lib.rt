@@ -1,9 +1,10 @@
 // Vapor pressure of a pure liquid (liquid.rs), from the solvent's record:
 // p = p_r exp((T_r/T) Σ n_k θ^t_k), θ = 1 − T/T_r.
 ghost use mathlib.Core.Path.{_≡_};
-ghost use Prim.Native.Nat.{_≤_};
-ghost use Rattle.floats.specs.Arithmetic.{_⊗_};
-ghost use Rattle.numerics.specs.Numerics.{expOf};
+ghost use Prim.Native.Nat.{_≤_, _*_};
+ghost use lib.Ieee.{neg};
+ghost use Rattle.floats.specs.Arithmetic.{_⊕_, _⊖_, _⊗_, _⊘_, 1f};
+ghost use Rattle.numerics.specs.Numerics.{lnOf};
 ghost use Rattle.liquid.specs.Vapor.{inRange, term, slopeTerm, curvatureTerm, sumsOf, vaporOf, vaporFrom, representable, vaporPressureOf, vaporAnswer, vapor};
 ghost use Rattle.floats.specs.Outcome.{no};
 use records::Ancillary;
@@ -33,33 +34,53 @@ pub fn in_range(low: f64, high: f64, t: f64) -> bool
     (low <= t) & (t <= high)
 }
 
-// θ^e is exp(e ln θ), so that ln θ is worked out once.
-fn power(ln_theta: f64, e: f64) -> f64
-    ensures { λ r. ⌜ r ≡ expOf (e ⊗ «ln_theta») ⌝ }
+// The sums with the term of n and e, whose powers are p = θ^e, q = θ^(e - 1) and r = θ^(e - 2).
+fn add_term(z: Sums, t_r: f64, n: f64, e: f64, p: f64, q: f64, r: f64) -> Sums
+    ensures { λ w. ⌜ (w .s ≡ z .s ⊕ n ⊗ p) × (w .ds ≡ z .ds ⊕ neg n ⊗ e ⊗ q ⊘ «t_r») × (w .d2s ≡ z .d2s ⊕ n ⊗ e ⊗ (e ⊖ 1f) ⊗ r ⊘ («t_r» ⊗ «t_r»)) ⌝ }
 {
-    numerics::exp(e * ln_theta)
+    Sums {
+        s: z.s + n * p,
+        ds: z.ds + -n * e * q / t_r,
+        d2s: z.d2s + n * e * (e - 1.0) * r / (t_r * t_r),
+    }
 }
 
+// Two terms to a step, so that their powers are worked out side by side.
+fn sum_pairs(n: &[f64; 8], e: &[f64; 8], t_r: f64, theta: f64, l: f64, pairs: usize) -> Sums
+    requires { ⌜ (pairs ≤ 4) × (l ≡ lnOf theta) ⌝ }
+    ensures { λ r. ⌜ r ≡ sumsOf (now (n .entry)) (now (e .entry)) «t_r» theta (2 * pairs) ⌝ }
+{
+    let mut z = Sums {
+        s: 0.0,
+        ds: 0.0,
+        d2s: 0.0,
+    };
+    for i in 0..pairs {
+        let a = e[2 * i];
+        let b = e[2 * i + 1];
+        let p = numerics::exp_two(a * l, b * l);
+        let q = numerics::exp_two((a - 1.0) * l, (b - 1.0) * l);
+        let r = numerics::exp_two((a - 2.0) * l, (b - 2.0) * l);
+        z = add_term(z, t_r, n[2 * i], a, p.0, q.0, r.0);
+        z = add_term(z, t_r, n[2 * i + 1], b, p.1, q.1, r.1);
+    }
+    z
+}
+
+// ln θ once, since θ^e is exp(e ln θ).
 fn sum_terms(n: &[f64; 8], e: &[f64; 8], t_r: f64, theta: f64, count: usize) -> Sums
     requires { ⌜ count ≤ 8 ⌝ }
     ensures { λ r. ⌜ r ≡ sumsOf (now (n .entry)) (now (e .entry)) «t_r» theta count ⌝ }
 {
     let l = numerics::ln(theta);
-    let mut s = 0.0;
-    let mut ds = 0.0;
-    let mut d2s = 0.0;
-    for k in 0..count {
-        let n_k = n[k];
-        let e_k = e[k];
-        s = s + n_k * power(l, e_k);
-        ds = ds + -n_k * e_k * power(l, e_k - 1.0) / t_r;
-        d2s = d2s + n_k * e_k * (e_k - 1.0) * power(l, e_k - 2.0) / (t_r * t_r);
+    let z = sum_pairs(n, e, t_r, theta, l, count / 2);
+    if count % 2 == 0 {
+        return z;
     }
-    Sums {
-        s: s,
-        ds: ds,
-        d2s: d2s,
-    }
+    let a = e[count - 1];
+    let p = numerics::exp_two(a * l, (a - 1.0) * l);
+    let r = numerics::exp((a - 2.0) * l);
+    add_term(z, t_r, n[count - 1], a, p.0, p.1, r)
 }
 
 fn refused(number: u64) -> VaporPressure

@@ -1,74 +1,73 @@
--- `liquid::sum_terms` meets its contract: the loop keeps the three sums so far. Assumes nothing.
-use mathlib.Core.Path.{_≡_}
-use Prim.Native.Nat.{_≤_, _-_}
+-- `liquid::sum_terms` meets its contract: the pairs, and the term that an odd count has besides. Assumes nothing.
+use Prim.Native.Nat.{_+_, _*_, _/_, _-_}
 use native.Mathlib.Omega.{arith}
+use Rattle.liquid.proofs.Ways.{terms-done, term-next}
 use borrow.Author.Needs.{needs}
-use Rattle.liquid.specs.Vapor.{sumsOf}
-use Rattle.liquid.proofs.Ways.{sums, terms-start, terms-turn, terms-done}
 use Rattle.liquid.proofs.sum_terms.Statement.{statement}
 use Rattle.liquid.proofs.sum_terms.Tie as tie
 
-abbrev Inv-loop : tie.InvT-loop
-Inv-loop n e t-r theta count l s₀ ds₀ d2s₀ k₀ s ds d2s k = (k ≤ count) × (sums s ds d2s ≡ sumsOf n e t-r theta k)
-
-abbrev μ-loop : tie.MeasureT-loop
-μ-loop n e t-r theta count l s₀ ds₀ d2s₀ k₀ s ds d2s k = count - k
-
-ln-requires : tie.Need-ln-requires Inv-loop μ-loop
+ln-requires : tie.Need-ln-requires
 ln-requires c κs = search needs
 
-loop-holds : tie.Need-loop-holds Inv-loop μ-loop
-loop-holds c = (omega arith, terms-start _ _ _ _)
+sum-pairs-requires : tie.Need-sum-pairs-requires
+sum-pairs-requires c κs = search needs
 
-mul-n-k : tie.Need-mul-n-k Inv-loop μ-loop
-mul-n-k c = omega arith
+returns : tie.Need-returns
+returns c =
+    let s = c .before .before .before in
+    terms-done _ _ _ _ (2 * (s .args .count / 2)) (s .args .count) (omega arith) (c .before .sum-pairs .ensures)
 
-element-copy-out-n-k : tie.Need-element-copy-out-n-k Inv-loop μ-loop
-element-copy-out-n-k c = omega arith
+sub-a : tie.Need-sub-a
+sub-a c = search needs
 
-mul-e-k : tie.Need-mul-e-k Inv-loop μ-loop
-mul-e-k c = omega arith
+mul-a : tie.Need-mul-a
+mul-a c = search needs
 
-element-copy-out-e-k : tie.Need-element-copy-out-e-k Inv-loop μ-loop
-element-copy-out-e-k c = omega arith
+element-copy-out-a : tie.Need-element-copy-out-a
+element-copy-out-a c = search needs
 
-power-requires : tie.Need-power-requires Inv-loop μ-loop
-power-requires c κs = search needs
+exp-two-requires : tie.Need-exp-two-requires
+exp-two-requires c κs = search needs
 
-power-requires-2 : tie.Need-power-requires-2 Inv-loop μ-loop
-power-requires-2 c κs = omega arith
+exp-requires : tie.Need-exp-requires
+exp-requires c κs = search needs
 
-power-requires-3 : tie.Need-power-requires-3 Inv-loop μ-loop
-power-requires-3 c κs = omega arith
+sub-add-term : tie.Need-sub-add-term
+sub-add-term c = search needs
 
-add-k : tie.Need-add-k Inv-loop μ-loop
-add-k c = omega arith
+mul-add-term : tie.Need-mul-add-term
+mul-add-term c = search needs
 
-loop-less : tie.Need-loop-less Inv-loop μ-loop
-loop-less c = omega arith
+element-copy-out-add-term : tie.Need-element-copy-out-add-term
+element-copy-out-add-term c = search needs
 
-loop-again : tie.Need-loop-again Inv-loop μ-loop
-loop-again c = (omega arith, search terms-turn)
+add-term-requires : tie.Need-add-term-requires
+add-term-requires c κs = search needs
 
-returns : tie.Need-returns Inv-loop μ-loop
-returns c = terms-done _ _ _ _ _ _ (omega arith) (c .before .loop .inv .1)
+returns-2 : tie.Need-returns-2
+returns-2 c =
+    let r = c .before .before in
+    let p = r .before .before .before .before in
+    let s = p .before .before in
+    let k = s .args .count - 1 in
+    terms-done _ _ _ _ (k + 1) (s .args .count) (omega arith)
+    (term-next _ _ _ _ k (p .before .ln .ensures) (r .before .exp-two .ensures .0) (r .before .exp-two .ensures .1) (r .exp .ensures) (c .add-term .ensures)
+    (terms-done _ _ _ _ (2 * (s .args .count / 2)) k (omega arith) (p .sum-pairs .ensures)))
 
 pub sum-terms-spec : {M : Type 1} → statement M
 sum-terms-spec =
     tie.close
     (tie.spec
-    Inv-loop
-    μ-loop
     ln-requires
-    loop-holds
-    mul-n-k
-    element-copy-out-n-k
-    mul-e-k
-    element-copy-out-e-k
-    power-requires
-    power-requires-2
-    power-requires-3
-    add-k
-    loop-less
-    loop-again
-    returns)
+    sum-pairs-requires
+    returns
+    sub-a
+    mul-a
+    element-copy-out-a
+    exp-two-requires
+    exp-requires
+    sub-add-term
+    mul-add-term
+    element-copy-out-add-term
+    add-term-requires
+    returns-2)
