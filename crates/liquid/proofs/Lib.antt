@@ -1,2 +1,2 @@
 -- Laws of the vapor pressure. Assumes nothing.
-mod Ways
+pub mod Ways

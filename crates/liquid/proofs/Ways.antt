@@ -4,19 +4,18 @@ use native.Mathlib.Omega.{arith}
 use mathlib.Core.Path.{_≡_, refl, ap, _∙_}
 use mathlib.Core.Bool.{Bool, true, false, not, _&&_}
 use mathlib.Core.List.{List}
-use borrow.Author.Tests.{not-true, not-false}
 use lib.Ieee.{Float, neg, le}
 use Rattle.floats.specs.Arithmetic.{_⊕_, _⊖_, _⊗_, _⊘_, 0f, 1f, 2f}
 use Rattle.floats.specs.Small.{isFinite}
 use Rattle.floats.specs.Fold.{foldTo}
 use Rattle.floats.specs.Vector.{at, places}
-use Rattle.floats.specs.Outcome.{ok, no, need}
+use Rattle.floats.specs.Outcome.{Out, ok, no, need}
 use Rattle.floats.proofs.Folds.{sum-turn, was-no, was-yes}
 use Rattle.numerics.specs.Numerics.{expOf, lnOf}
 use Rattle.records.specs.declared.Ancillary.{Ancillary}
 use Rattle.liquid.specs.declared.Sums.{Sums}
 use Rattle.liquid.specs.declared.VaporPressure.{VaporPressure}
-use Rattle.liquid.specs.Vapor.{vapor, inRange, term, slopeTerm, curvatureTerm, sumsOf, vaporFrom, vaporOf, representable, vaporPressureOf, vaporAnswer}
+use Rattle.liquid.specs.Vapor.{Vapor, vapor, inRange, term, slopeTerm, curvatureTerm, sumsOf, vaporFrom, vaporOf, representable, vaporPressureOf, vaporAnswer}
 
 abbrev pub sums : Float → Float → Float → Sums
 sums s ds d2s = record { s = s; ds = ds; d2s = d2s }
@@ -66,22 +65,38 @@ module _ (a : Ancillary) (t : Float) {v : Float} {b : Bool} {x : VaporPressure} 
   unfolding vaporPressureOf need
   range-no e p q h = rw (← e, was-no q p) h
 
-  pub range-yes : {m : ℕ} {s : Sums} → v ≡ t → b ≡ inRange (a .low) (a .high) v → not b ≡ false → m ≡ places (a .count)
-      → s ≡ sumsOf (a .n) (a .t) (a .«t_r») (1f ⊖ v ⊘ a .«t_r») m
-      → x ≡ vaporAnswer (representable (vaporFrom (a .«t_r») (a .«reducing_value») v s)) → x ≡ vaporAnswer (vaporPressureOf a t)
-  unfolding vaporPressureOf vaporOf need
-  range-yes e p q em es h = rw (← e, was-yes q p, ← em, ← es) h
+  pub range-yes : {p l d c : Float} → v ≡ t → b ≡ inRange (a .low) (a .high) v → not b ≡ false → p ≡ expOf l
+      → (l ≡ vaporOf a v .lnPressure) × (d ≡ vaporOf a v .slope) × (c ≡ vaporOf a v .curvature)
+      → x ≡ vaporAnswer (representable (vapor p l d c)) → x ≡ vaporAnswer (vaporPressureOf a t)
+  unfolding vaporPressureOf vaporOf vaporFrom need
+  range-yes e r q ep h hx = rw (← e, was-yes q r) (rw (ep, h .0, h .1, h .2) at hx)
 
--- the tests of the four numbers
-module _ (p l d d2 : Float) {a b c e : Bool} (ea : a ≡ isFinite p) (eb : b ≡ isFinite l) (ec : c ≡ isFinite d) (ee : e ≡ isFinite d2) where
-  pub numbers-no : {x : VaporPressure} → not (a && b && c && e) ≡ true → x ≡ vaporAnswer (no 25) → x ≡ vaporAnswer (representable (vapor p l d d2))
-  unfolding representable need
-  numbers-no q h = rw (← ea, ← eb, ← ec, ← ee, not-true (a && b && c && e) q) h
+-- ln p and its derivatives, from the sums
+pub logarithm-is : (a : Ancillary) (t : Float) {m : ℕ} {S : Sums} {l d c : Float} → m ≡ places (a .count) → S ≡ sumsOf (a .n) (a .t) (a .«t_r») (1f ⊖ t ⊘ a .«t_r») m
+    → (let v = vaporFrom (a .«t_r») (a .«reducing_value») t S in (l ≡ v .lnPressure) × (d ≡ v .slope) × (c ≡ v .curvature))
+    → (l ≡ vaporOf a t .lnPressure) × (d ≡ vaporOf a t .slope) × (c ≡ vaporOf a t .curvature)
+unfolding vaporOf
+logarithm-is a t em es h = rw (← em, ← es) h
 
-  pub pressure-no : {x : VaporPressure} → not (a && b && c && e) ≡ false → le p 0f ≡ true → x ≡ vaporAnswer (no 25) → x ≡ vaporAnswer (representable (vapor p l d d2))
-  unfolding representable need
-  pressure-no q z h = rw (← ea, ← eb, ← ec, ← ee, not-false (a && b && c && e) q, z) h
+-- ---- the tests of the four numbers
+abbrev pub soundOf : Vapor → Bool
+soundOf v = isFinite (v .pressure) && isFinite (v .lnPressure) && isFinite (v .slope) && isFinite (v .curvature) && not (le (v .pressure) 0f)
 
-  pub numbers-yes : not (a && b && c && e) ≡ false → le p 0f ≡ false → vaporAnswer (ok (vapor p l d d2)) ≡ vaporAnswer (representable (vapor p l d d2))
-  unfolding representable need
-  numbers-yes q z = rw (← ea, ← eb, ← ec, ← ee, not-false (a && b && c && e) q, z)
+-- two needs with one number are one
+both-needed : {A : Type 0} (a b : Bool) (r : ℕ) (o : Out A) → need a r (need b r o) ≡ need (a && b) r o
+unfolding need
+both-needed true b r o = refl
+both-needed false b r o = refl
+
+pub sound-is : (v : Vapor) → representable v ≡ need (soundOf v) 25 (ok v)
+unfolding representable
+sound-is v = both-needed (isFinite (v .pressure) && isFinite (v .lnPressure) && isFinite (v .slope) && isFinite (v .curvature)) (not (le (v .pressure) 0f)) 25 (ok v)
+
+module _ (p l d d2 : Float) {b : Bool} {x : VaporPressure} (e : b ≡ soundOf (vapor p l d d2)) where
+  pub numbers-no : not b ≡ true → x ≡ vaporAnswer (no 25) → x ≡ vaporAnswer (representable (vapor p l d d2))
+  unfolding need
+  numbers-no q h = rw (sound-is (vapor p l d d2), was-no q e) h
+
+  pub numbers-yes : not b ≡ false → x ≡ vaporAnswer (ok (vapor p l d d2)) → x ≡ vaporAnswer (representable (vapor p l d d2))
+  unfolding need
+  numbers-yes q h = rw (sound-is (vapor p l d d2), was-yes q e) h

@@ -2,8 +2,10 @@
 // p = p_r exp((T_r/T) Σ n_k θ^t_k), θ = 1 − T/T_r.
 ghost use mathlib.Core.Path.{_≡_};
 ghost use Prim.Native.Nat.{_≤_, _*_};
-ghost use lib.Ieee.{neg};
-ghost use Rattle.floats.specs.Arithmetic.{_⊕_, _⊖_, _⊗_, _⊘_, 1f};
+ghost use mathlib.Core.Bool.{not, _&&_};
+ghost use lib.Ieee.{neg, le};
+ghost use Rattle.floats.specs.Arithmetic.{_⊕_, _⊖_, _⊗_, _⊘_, 0f, 1f};
+ghost use Rattle.floats.specs.Small.{isFinite};
 ghost use Rattle.numerics.specs.Numerics.{lnOf};
 ghost use Rattle.liquid.specs.Vapor.{inRange, term, slopeTerm, curvatureTerm, sumsOf, vaporOf, vaporFrom, representable, vaporPressureOf, vaporAnswer, vapor};
 ghost use Rattle.floats.specs.Outcome.{no};
@@ -18,6 +20,13 @@ pub struct VaporPressure {
     pub ln_pressure: f64,
     pub d_ln_pressure_dt: f64,
     pub d2_ln_pressure_dt2: f64,
+}
+
+// ln p, p in Pa, with its derivatives by T in 1/K and 1/K².
+pub struct Logarithm {
+    pub value: f64,
+    pub slope: f64,
+    pub curvature: f64,
 }
 
 // S = Σ n_k θ^t_k and its first two derivatives by T.
@@ -95,18 +104,21 @@ fn refused(number: u64) -> VaporPressure
     }
 }
 
-// All four finite and the pressure positive, else 25.
+// All four finite and the pressure positive.
+pub fn is_representable(pressure: f64, ln_p: f64, d1: f64, d2: f64) -> bool
+    ensures { λ r. ⌜ r ≡ (isFinite pressure && isFinite «ln_p» && isFinite d1 && isFinite d2 && not (le pressure 0f)) ⌝ }
+{
+    floats::is_finite(pressure)
+        & floats::is_finite(ln_p)
+        & floats::is_finite(d1)
+        & floats::is_finite(d2)
+        & !(pressure <= 0.0)
+}
+
 fn tested(pressure: f64, ln_p: f64, d1: f64, d2: f64) -> VaporPressure
     ensures { λ r. ⌜ r ≡ vaporAnswer (representable (vapor pressure «ln_p» d1 d2)) ⌝ }
 {
-    let finite = floats::is_finite(pressure)
-        & floats::is_finite(ln_p)
-        & floats::is_finite(d1)
-        & floats::is_finite(d2);
-    if !finite {
-        return refused(25);
-    }
-    if pressure <= 0.0 {
+    if !is_representable(pressure, ln_p, d1, d2) {
         return refused(25);
     }
     VaporPressure {
@@ -118,21 +130,31 @@ fn tested(pressure: f64, ln_p: f64, d1: f64, d2: f64) -> VaporPressure
     }
 }
 
-fn from_sums(t_r: f64, reducing_value: f64, t: f64, sums: Sums) -> VaporPressure
-    ensures { λ r. ⌜ r ≡ vaporAnswer (representable (vaporFrom «t_r» «reducing_value» t sums)) ⌝ }
+// ln p from S, and its two derivatives by T.
+fn from_sums(t_r: f64, reducing_value: f64, t: f64, sums: Sums) -> Logarithm
+    ensures { λ r. ⌜ (r .value ≡ (vaporFrom «t_r» «reducing_value» t sums) .lnPressure) × (r .slope ≡ (vaporFrom «t_r» «reducing_value» t sums) .slope) × (r .curvature ≡ (vaporFrom «t_r» «reducing_value» t sums) .curvature) ⌝ }
 {
     let s = sums.s;
     let ds = sums.ds;
     let q = t_r / t;
     let dq = -t_r / (t * t);
     let d2q = 2.0 * t_r / (t * t * t);
-    let ln_p = numerics::ln(reducing_value) + q * s;
-    tested(
-        numerics::exp(ln_p),
-        ln_p,
-        dq * s + q * ds,
-        d2q * s + 2.0 * dq * ds + q * sums.d2s,
-    )
+    Logarithm {
+        value: numerics::ln(reducing_value) + q * s,
+        slope: dq * s + q * ds,
+        curvature: d2q * s + 2.0 * dq * ds + q * sums.d2s,
+    }
+}
+
+// ln p at T, in the correlation's range or not: p is its exponential.
+pub fn ln_pressure(a: Ancillary, t: f64) -> Logarithm
+    ensures { λ r. ⌜ (r .value ≡ (vaporOf a t) .lnPressure) × (r .slope ≡ (vaporOf a t) .slope) × (r .curvature ≡ (vaporOf a t) .curvature) ⌝ }
+{
+    let t_r = a.t_r;
+    let n = a.n;
+    let e = a.t;
+    let s = sum_terms(&n, &e, t_r, 1.0 - t / t_r, floats::places(a.count));
+    from_sums(t_r, a.reducing_value, t, s)
 }
 
 // Outside the correlation's range: 22; not representable: 25.
@@ -143,9 +165,6 @@ pub fn vapor_pressure(a: Ancillary, t: Temperature) -> VaporPressure
     if !in_range(a.low, a.high, v) {
         return refused(22);
     }
-    let t_r = a.t_r;
-    let n = a.n;
-    let e = a.t;
-    let s = sum_terms(&n, &e, t_r, 1.0 - v / t_r, floats::places(a.count));
-    from_sums(t_r, a.reducing_value, v, s)
+    let l = ln_pressure(a, v);
+    tested(numerics::exp(l.value), l.value, l.slope, l.curvature)
 }

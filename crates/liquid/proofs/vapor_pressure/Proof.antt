@@ -1,6 +1,6 @@
 -- `liquid::vapor_pressure` meets its contract. Assumes nothing.
-use borrow.Author.Needs.{needs}
 use Rattle.liquid.proofs.Ways.{range-no, range-yes}
+use borrow.Author.Needs.{needs}
 use Rattle.liquid.proofs.vapor_pressure.Statement.{statement}
 use Rattle.liquid.proofs.vapor_pressure.Tie as tie
 
@@ -16,17 +16,20 @@ refused-requires c κs = search needs
 returns : tie.Need-returns
 returns c = search range-no
 
-places-requires : tie.Need-places-requires
-places-requires c κs = search needs
+ln-pressure-requires : tie.Need-ln-pressure-requires
+ln-pressure-requires c κs = search needs
 
-sum-terms-requires : tie.Need-sum-terms-requires
-sum-terms-requires c κs = search needs
+exp-requires : tie.Need-exp-requires
+exp-requires c κs = search needs
 
-from-sums-requires : tie.Need-from-sums-requires
-from-sums-requires c κs = search needs
+tested-requires : tie.Need-tested-requires
+tested-requires c κs = search needs
 
 returns-2 : tie.Need-returns-2
-returns-2 c = search range-yes
+returns-2 c =
+    let e = c .before .before .before in
+    let s = e .before .before .before in
+    range-yes (s .args .a) (s .args .t .0) (e .before .before .value .ensures) (e .before .in-range .ensures) (e .if1 .left) (c .before .exp .ensures) (c .before .before .ln-pressure .ensures) (c .tested .ensures)
 
 pub vapor-pressure-spec : {M : Type 1} → statement M
 vapor-pressure-spec =
@@ -36,7 +39,7 @@ vapor-pressure-spec =
     in-range-requires
     refused-requires
     returns
-    places-requires
-    sum-terms-requires
-    from-sums-requires
+    ln-pressure-requires
+    exp-requires
+    tested-requires
     returns-2)

@@ -1,7 +1,8 @@
 -- `thermo_models::pure_liquids` meets its contract: the domain's test, then the liquids. Assumes nothing.
+use native.Mathlib.Omega.{arith}
 use borrow.Author.Needs.{needs}
 use Rattle.floats.proofs.Folds.{was-no, was-yes}
-use Rattle.thermo_models.proofs.Pures.{pures-outside, pures-inside}
+use Rattle.thermo_models.proofs.Pures.{covers, pures-outside, pures-inside}
 use Rattle.thermo_models.proofs.pure_liquids.Statement.{statement}
 use Rattle.thermo_models.proofs.pure_liquids.Tie as tie
 
@@ -15,7 +16,9 @@ places-requires : tie.Need-places-requires
 places-requires c κs = search needs
 
 fill-pures-requires : tie.Need-fill-pures-requires
-fill-pures-requires c κs = search needs
+fill-pures-requires c κs =
+    let p = c .before .before in
+    (omega arith, rw (← p .places .ensures) at (covers _ _ _ (was-yes (p .before .if1 .left) (p .before .before .check-temperature .ensures))))
 
 returns-2 : tie.Need-returns-2
 returns-2 c = let p = c .before .before .before in
