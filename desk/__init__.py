@@ -17,7 +17,7 @@ from typing import Union
 
 from . import answer, refusals
 from .answer import Blocks
-from .book import Book, Correlation, Interval, Pair, Solvent, encode
+from .book import Book, Correlation, Interval, Model, Pair, Solvent, WilsonPair, encode
 from .core import Core
 from .errors import DeskError
 from .library import Library, find
@@ -36,8 +36,8 @@ def open_core(book: bytes) -> Union[Library, Core]:
 
 
 __all__ = [
-    "Blocks", "Book", "Core", "Correlation", "DeskError", "Interval", "Library", "Options", "Pair", "Question",
-    "Solvent", "Task", "BUBBLE_PRESSURE", "BUBBLE_TEMPERATURE", "DEW_PRESSURE", "DEW_TEMPERATURE", "EXCESS", "FLASH",
-    "RACHFORD_RICE", "RACHFORD_RICE_NEGATIVE", "STABILITY", "TASKS", "answer", "encode", "find", "open_book",
-    "open_core", "open_yard", "refusals",
+    "Blocks", "Book", "Core", "Correlation", "DeskError", "Interval", "Library", "Model", "Options", "Pair", "Question",
+    "Solvent", "Task", "WilsonPair", "BUBBLE_PRESSURE", "BUBBLE_TEMPERATURE", "DEW_PRESSURE", "DEW_TEMPERATURE",
+    "EXCESS", "FLASH", "RACHFORD_RICE", "RACHFORD_RICE_NEGATIVE", "STABILITY", "TASKS", "answer", "encode", "find",
+    "open_book", "open_core", "open_yard", "refusals",
 ]  # fmt: skip

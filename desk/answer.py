@@ -4,7 +4,7 @@ from dataclasses import dataclass
 from typing import List, Tuple
 
 from .blocks import BLOCK, Rule, Words, check_right, float_of, split
-from .book import MOST_SOLVENTS
+from .book import MOST_SOLVENTS, Model
 from .errors import DeskError
 from .tasks import Task
 
@@ -25,6 +25,13 @@ NOTE_WORDS = (
         "the liquid passed the trials from each near-pure start; that is evidence, not proof, that it doesn't split",
     ),
 )
+WILSON_WORDS = {  # of notes that say something else there
+    "A7-GAMMA-PHI": "Wilson liquid with an ideal-gas vapor",
+    "A7-LIQUID-TPD-FINITE-TRIALS": (
+        "the liquid passed the trials from each near-pure start, as every liquid does by Wilson's equation; they can't "
+        "tell whether a real one splits"
+    ),
+}
 
 
 @dataclass(frozen=True)
@@ -45,8 +52,11 @@ class Blocks:
     def real(self, at: int) -> float:
         return float_of(self.head[at])
 
-    def notes(self) -> List[Tuple[str, str]]:
-        return [note for bit, note in enumerate(NOTE_WORDS) if self.head[NOTES] >> bit & 1]
+    def notes(self, model: Model = Model.NRTL) -> List[Tuple[str, str]]:
+        """Names and words."""
+        others = WILSON_WORDS if model is Model.WILSON else {}
+        found = [note for bit, note in enumerate(NOTE_WORDS) if self.head[NOTES] >> bit & 1]
+        return [(name, others.get(name, words)) for name, words in found]
 
 
 def phases(task: Task, blocks: Blocks) -> Tuple[bool, bool]:

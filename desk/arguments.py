@@ -325,7 +325,7 @@ def _add_book(commands) -> None:
         "--book-version",
         choices=("1", "2", "3"),
         help="for a desk that knows no later one: 1 has no molar masses, 2 has them, 3 finds exchanged words too "
-        "(default: 3 where the text has every molar mass, else 1)",
+        "(default: 3 where the text has every molar mass, else 1; a Wilson book is of 2 or 3)",
     )
 
 
@@ -348,11 +348,11 @@ def _add_check_yard(commands) -> None:
         "hold a yard's boiling points and azeotropes against the published ones in its text (status 1 if one is too "
         "far off)",
         "./sheet check-yard",
-        "./sheet check-yard --markdown",
+        "./sheet check-yard --book yard/alcohols.txt --markdown",
     )
     command.add_argument("--book", default=str(YARD), metavar="FILE", help="a yard text (default: yard/yard.txt)")
     _add_program(command)
-    command.add_argument("--markdown", action="store_true", help="the tables of docs/YARD.md")
+    command.add_argument("--markdown", action="store_true", help="the tables of docs/YARD.md and docs/ALCOHOLS.md")
 
 
 def _add_refusals(commands) -> None:

@@ -1,7 +1,8 @@
 """The book: records of solvents and pairs, their blocks, and reading them back (docs/FORMAT.md, "The book")."""
 
 from dataclasses import dataclass
-from typing import List, Optional, Tuple
+from enum import Enum
+from typing import List, Optional, Tuple, Union
 
 from .blocks import BLOCK, CHECK, Words, bits_of, float_of, floats_at, joined, put_floats, split
 from .errors import DeskError
@@ -11,13 +12,26 @@ MOST_TERMS = 8
 VERSION, MASS_VERSION, RUNNING_VERSION = 1, 2, 3  # without molar masses, with them, and with running sums as checks
 VERSIONS = (VERSION, MASS_VERSION, RUNNING_VERSION)
 KIND_HEAD, KIND_SOLVENT, KIND_PAIR = 1, 2, 3
+MODEL = 3  # of block 0
 
 # first word of a solvent's two records, and the places in a record
 VAPOR_PRESSURE, DENSITY = 3, 24
 COUNT, COEFFICIENTS, EXPONENTS = 4, 5, 13
 MOLAR_MASS = 45  # of a solvent, from MASS_VERSION on
-# places in a pair block
+# places in a pair block, and in one of a Wilson book
 TAU_IJ, TAU_JI, ALPHA_IJ, ALPHA_JI, FLAG, BOUNDS, INFERRED = 3, 7, 11, 13, 15, 16, 18
+A_IJ, B_IJ, A_JI, B_JI = 3, 4, 5, 6
+
+
+class Model(Enum):
+    """By which equation the liquid's activity coefficients come about; the number is word 3 of block 0."""
+
+    NRTL = 0
+    WILSON = 1
+
+    @property
+    def title(self) -> str:
+        return {Model.NRTL: "NRTL", Model.WILSON: "Wilson"}[self]
 
 
 @dataclass(frozen=True)
@@ -62,11 +76,41 @@ class Pair:
         """The same pair seen from the other solvent."""
         return Pair(self.tau_ji, self.tau_ij, self.alpha, self.interval)
 
+    @property
+    def ideal(self) -> bool:
+        return not any(self.tau_ij) and not any(self.tau_ji)
+
+
+@dataclass(frozen=True)
+class WilsonPair:
+    """ln Λ = a + b/T both ways (T in K)."""
+
+    ij: Tuple[float, float]
+    ji: Tuple[float, float]
+    interval: Optional[Interval] = None
+
+    def turned(self) -> "WilsonPair":
+        """The same pair seen from the other solvent."""
+        return WilsonPair(self.ji, self.ij, self.interval)
+
+    @property
+    def ideal(self) -> bool:
+        return not any(self.ij) and not any(self.ji)
+
+
+AnyPair = Union[Pair, WilsonPair]
+PAIRS = {Model.NRTL: Pair, Model.WILSON: WilsonPair}
+
 
 @dataclass(frozen=True)
 class Book:
     solvents: Tuple[Solvent, ...]
-    pairs: Tuple[Pair, ...]  # in the order of due_pairs
+    pairs: Tuple[AnyPair, ...]  # all of the model, in the order of due_pairs
+    model: Model = Model.NRTL
+
+    def __post_init__(self) -> None:
+        if not all(isinstance(pair, PAIRS[self.model]) for pair in self.pairs):
+            raise DeskError(f"a pair is not one of a {self.model.title} book")
 
     @property
     def version(self) -> int:
@@ -86,7 +130,9 @@ def block_count(n: int) -> int:
 def encode(book: Book, version: Optional[int] = None) -> bytes:
     """In the book's own version, or in an earlier one for who reads no later."""
     n, version = len(book.solvents), version or book.version
-    head = [KIND_HEAD, version, n]
+    if book.model is Model.WILSON and version == VERSION:
+        raise DeskError("a Wilson book is of version 2 or 3, with the molar mass of every solvent")
+    head = [KIND_HEAD, version, n, book.model.value]
     solvents = [_solvent_words(i, solvent, version) for i, solvent in enumerate(book.solvents)]
     pairs = [_pair_words(i, j, pair) for (i, j), pair in zip(due_pairs(n), book.pairs)]
     return joined([head] + solvents + pairs)
@@ -104,15 +150,22 @@ def _solvent_words(index: int, solvent: Solvent, version: int) -> Words:
     return words
 
 
-def _pair_words(i: int, j: int, pair: Pair) -> Words:
+def _pair_words(i: int, j: int, pair: AnyPair) -> Words:
     words = [KIND_PAIR, i, j] + [0] * (CHECK - 3)
-    for at, values in ((TAU_IJ, pair.tau_ij), (TAU_JI, pair.tau_ji), (ALPHA_IJ, pair.alpha), (ALPHA_JI, pair.alpha)):
+    for at, values in _parameters(pair):
         put_floats(words, at, values)
     if pair.interval:
         words[FLAG] = 1
         put_floats(words, BOUNDS, (pair.interval.low, pair.interval.high))
         words[INFERRED] = int(pair.interval.inferred)
     return words
+
+
+def _parameters(pair: AnyPair) -> List[Tuple[int, Tuple[float, ...]]]:
+    """Places and floats."""
+    if isinstance(pair, WilsonPair):
+        return [(A_IJ, pair.ij), (A_JI, pair.ji)]
+    return [(TAU_IJ, pair.tau_ij), (TAU_JI, pair.tau_ji), (ALPHA_IJ, pair.alpha), (ALPHA_JI, pair.alpha)]
 
 
 def solvent_count(content: bytes) -> int:
@@ -135,6 +188,18 @@ def version_of(content: bytes) -> int:
     return split(content)[0][1]
 
 
+def model_of(content: bytes) -> Optional[Model]:
+    """None of a model that there isn't, or not in the book's version: the core refuses it with 37."""
+    version, word = version_of(content), model_word(content)
+    known = {model.value: model for model in Model if version != VERSION or model is Model.NRTL}
+    return known.get(word)
+
+
+def model_word(content: bytes) -> int:
+    solvent_count(content)
+    return split(content)[0][MODEL]
+
+
 def cas_numbers(content: bytes) -> List[int]:
     n = solvent_count(content)
     return [words[2] for words in split(content)[1 : 1 + n]]
@@ -153,7 +218,13 @@ def decode(content: bytes) -> Book:
     n = solvent_count(content)
     blocks = split(content)
     masses = molar_masses(content) or (None,) * n
-    return Book(tuple(map(_solvent, blocks[1 : 1 + n], masses)), tuple(map(_pair, blocks[1 + n :])))
+    model = model_of(content)
+    if model is None:
+        raise DeskError(
+            f"its first block gives model {model_word(content)}; there are 0, NRTL, and 1, Wilson, from version 2 on"
+        )
+    pair = {Model.NRTL: _pair, Model.WILSON: _wilson_pair}[model]
+    return Book(tuple(map(_solvent, blocks[1 : 1 + n], masses)), tuple(map(pair, blocks[1 + n :])), model)
 
 
 def common_range(book: Book) -> Tuple[float, float]:
@@ -176,6 +247,13 @@ def _correlation(words: Words, at: int) -> Correlation:
 
 
 def _pair(words: Words) -> Pair:
-    interval = Interval(*floats_at(words, BOUNDS, 2), words[INFERRED] == 1) if words[FLAG] == 1 else None
     tau_ij, tau_ji = (tuple(floats_at(words, at, 4)) for at in (TAU_IJ, TAU_JI))
-    return Pair(tau_ij, tau_ji, tuple(floats_at(words, ALPHA_IJ, 2)), interval)
+    return Pair(tau_ij, tau_ji, tuple(floats_at(words, ALPHA_IJ, 2)), _interval(words))
+
+
+def _wilson_pair(words: Words) -> WilsonPair:
+    return WilsonPair(tuple(floats_at(words, A_IJ, 2)), tuple(floats_at(words, A_JI, 2)), _interval(words))
+
+
+def _interval(words: Words) -> Optional[Interval]:
+    return Interval(*floats_at(words, BOUNDS, 2), words[INFERRED] == 1) if words[FLAG] == 1 else None

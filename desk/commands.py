@@ -11,7 +11,7 @@ from . import (
 )
 from . import tasks, text, units, yardcheck
 from .arguments import commands_of, options_of, parser
-from .book import VERSION, encode
+from .book import VERSION, Model, encode
 from .errors import DeskError, quoted, suggestion
 from .feed import Feed
 from .judgement import judged
@@ -145,7 +145,7 @@ def draw(arguments: argparse.Namespace) -> int:
     picture.write(arguments.output, drawn)
     to_output = arguments.output == picture.STANDARD_OUTPUT
     name = "diagram" if to_output else arguments.output
-    said = [f"{name}: {arguments.kind} of {' and '.join(setting.names)} at {diagram.held(setting)}"]
+    said = [f"{name}: {arguments.kind} of {diagram.caption(setting)}"]
     said += [f"  {line}" for line in diagram.findings(arguments.kind, setting, found, unit)]
     print("\n".join(said), file=sys.stderr if to_output else sys.stdout)
     return 0
@@ -199,8 +199,8 @@ def make_book(arguments: argparse.Namespace) -> int:
     version = _book_version(arguments.book_version, yard)
     book = encode(yard.book, version)
     said = (
-        f"{text.counted(len(yard.names), 'solvent')}, {text.counted(len(yard.book.pairs), 'pair')}, {len(book)} bytes, "
-        f"version {version}"
+        f"{text.counted(len(yard.names), 'solvent')}, {text.counted(len(yard.book.pairs), 'pair')}, "
+        f"{yard.book.model.title}, {len(book)} bytes, version {version}"
     )
     if yard.lacking and len(yard.lacking) < len(yard.names):
         said += f" (no molar mass of {', '.join(yard.lacking)})"
@@ -220,6 +220,8 @@ def _book_version(asked: Optional[str], yard: Yard) -> int:
             f"--book-version: version {asked} needs the molar mass of every solvent, and the text lacks that of "
             + ", ".join(yard.lacking)
         )
+    if asked == str(VERSION) and yard.book.model is not Model.NRTL:
+        raise DeskError(f"--book-version: version 1 has NRTL alone, and the text's model is {yard.book.model.title}")
     return int(asked) if asked else yard.book.version
 
 

@@ -27,7 +27,7 @@ class Core:
         if not os.access(program, os.X_OK) or program.is_dir():
             raise DeskError(f"the program {program} is not there; ./sheet demo builds it (rt check still)")
         self.program = program.resolve()
-        self.rule = rule_of(book)
+        self.book, self.rule = book, rule_of(book)
         self._folder = tempfile.TemporaryDirectory(prefix="sheet-")
         self._answers: Dict[bytes, answer.Blocks] = {}
         (Path(self._folder.name) / BOOK_NAME).write_bytes(book)

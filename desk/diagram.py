@@ -6,8 +6,8 @@ from functools import cached_property
 from typing import Callable, Iterable, List, NamedTuple, Optional, Tuple
 
 from . import text, units
-from .book import Pair
-from .ranges import is_ideal, is_outside, pairs_of
+from .book import AnyPair
+from .ranges import is_outside, pairs_of
 from .refusals import line as refusal_line
 from .svg import Svg
 from .sweep import Curves, Point, Setting, ThreePhases
@@ -188,6 +188,10 @@ def held(setting: Setting, shown: Units = Units()) -> str:
     return shown.kelvin(setting.temperature) if setting.temperature is not None else shown.pascals(setting.pressure)
 
 
+def caption(setting: Setting) -> str:
+    return f"{' and '.join(setting.names)} at {held(setting)}, {setting.book.model_words}"
+
+
 @dataclass(frozen=True)
 class Drawing:
     """What the three kinds of diagram have in common."""
@@ -197,7 +201,7 @@ class Drawing:
     units: Units
 
     @cached_property
-    def pair(self) -> Optional[Pair]:
+    def pair(self) -> Optional[AnyPair]:
         book = self.setting.book
         pairs = pairs_of(book.content, book.names, self.setting.fractions(0.5))
         return pairs[0][1] if pairs else None
@@ -225,6 +229,8 @@ class Drawing:
         )
 
     def _layers(self) -> Iterable[Entry]:
+        if not self.setting.book.shows_layers((self.setting.first, self.setting.second)):
+            yield Entry("one liquid is assumed: Wilson's equation can't show two layers")
         for three in self.curves.three_phases:
             yield Entry(self.three_words(three), "thick", THREE_COLOR)
         if self.curves.three_phases:
@@ -252,7 +258,7 @@ class Drawing:
         drawn = any(self.outside(point) for piece in self.curves.bubble + self.curves.dew for point in piece)
         fitted = self.units.interval(interval.low, interval.high) if interval else ""
         notes = (
-            ["interval inferred"] * bool(interval and interval.inferred) + ["estimated as ideal"] * is_ideal(self.pair)
+            ["interval inferred"] * bool(interval and interval.inferred) + ["estimated as ideal"] * self.pair.ideal
         )
         if drawn:
             notes = [f"{' and '.join(self.setting.names)} were fitted for {fitted}", *notes]
@@ -301,7 +307,7 @@ def saturation(kind: str, setting: Setting, curves: Curves, unit: str) -> str:
         Entry("dew point (vapor y)", "line", DEW_COLOR),
         *drawing.legend(),
     ]
-    title = f"{KINDS[kind]} of {first} and {second} at {held(setting)}"
+    title = f"{KINDS[kind]} of {caption(setting)}"
     canvas = Canvas(title, UNIT_AXIS, f"mole fraction of {first}", upward, quantity, legend)
     for three in curves.three_phases:
         canvas.box(three.low, three.high, value(three), upward.low if kind == "txy" else upward.high)
@@ -333,7 +339,7 @@ def composition(setting: Setting, curves: Curves) -> str:
     """x-y with its diagonal."""
     drawing = Drawing(setting, curves, Units())
     first, second = setting.names
-    title = f"x-y of {first} and {second} at {held(setting)}"
+    title = f"x-y of {caption(setting)}"
     legend = [
         Entry("vapor over the boiling liquid", "line", BUBBLE_COLOR),
         Entry("y = x", "dots", GUIDE_COLOR),

@@ -4,15 +4,15 @@ import math
 from typing import Iterable, Iterator, List, Tuple
 
 from . import refusals, tasks, text
-from .book import decode
+from .book import decode, model_word, version_of
 from .errors import DeskError
 from .feed import Feed, normalized
 from .question import Options
 from .sheet import NamedBook, Sheet, drum_words
 
 FRACTIONS_DO_NOT_SUM, SUM_TOLERANCE = 18, 1e-10
-OUT_OF_DOMAIN = 22
-NOT_NORMALIZABLE, MOLAR_MASS = 34, 35
+OUT_OF_DOMAIN, NOT_CONVERGED = 22, 27
+NOT_NORMALIZABLE, MOLAR_MASS, MODEL = 34, 35, 37
 
 
 def detail(sheet: Sheet) -> str:
@@ -30,6 +30,9 @@ def detail(sheet: Sheet) -> str:
         return f": the dew point's liquid{split}"
     if number == MOLAR_MASS:
         return _listed(f"{name} {mass:g} kg/mol" for name, mass in _masses(sheet.book) if not 0 < mass < math.inf)
+    if number == MODEL:
+        content = sheet.book.content
+        return f": word 3 of its first block is {model_word(content)}, in version {version_of(content)}"
     return ""
 
 
@@ -68,6 +71,8 @@ def advice(sheet: Sheet) -> List[str]:
         pasted = to_paste(sheet.book, sheet.feed)
         look = f"What to do: look at {_option(sheet.feed)}."
         return ["What to do: add --normalize, or paste", pasted] if pasted else [look]
+    if number == NOT_CONVERGED and not sheet.book.shows_layers(sheet.present()):
+        return ["What to do: raise --max-iterations, or --tolerance a little; look at the data of its pairs."]
     return [f"What to do: {refusals.advice(number, sheet.question.task.command)}."]
 
 

@@ -91,7 +91,7 @@ class Document:
             "book": book_document(sheet.book, self.details),
             "question": self._question(),
             "warning": {"kind": mark.kind, "line": mark.line, "advice": list(mark.advice)} if mark else None,
-            "one_liquid_layer": judgement.one_layer,
+            "one_liquid_layer": sheet.book.one_layer(judgement.one_layer, sheet.present()),
             "refusal": self._refusal(number) if number else None,
             "answer": None if number else self._answer(),
             "by_mass": self._by_mass() if sheet.by_mass else None,
@@ -153,9 +153,10 @@ class Document:
             )
             fields["trials"] = [self._trial(words) for words in blocks.trials]
         if command == "flash":
-            fields["bubble_of_a_stable_liquid"] = self.sheet.judgement.bubble_holds
-            fields["dew_of_a_stable_liquid"] = self.sheet.judgement.dew_holds
-            fields["notes"] = [{"name": name, "words": words} for name, words in blocks.notes()]
+            book, judgement, present = self.sheet.book, self.sheet.judgement, self.sheet.present()
+            fields["bubble_of_a_stable_liquid"] = book.one_layer(judgement.bubble_holds, present)
+            fields["dew_of_a_stable_liquid"] = book.one_layer(judgement.dew_holds, present)
+            fields["notes"] = [{"name": name, "words": words} for name, words in blocks.notes(self.sheet.book.model)]
         return fields
 
     def _phases(self) -> Dict[str, Any]:
@@ -223,7 +224,10 @@ def mass_document(
 def book_document(book: NamedBook, details: bool) -> Dict[str, Any]:
     """How many solvents it has; which ones with --details alone."""
     return {
-        "file": book.file, "sha256": book.checksum, "solvents": list(_solvents(book)) if details else len(book.names)
+        "file": book.file,
+        "sha256": book.checksum,
+        "model": book.model.title if book.model else None,
+        "solvents": list(_solvents(book)) if details else len(book.names),
     }
 
 

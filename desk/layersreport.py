@@ -8,10 +8,11 @@ from .feed import ByMass, Feed, by_mass
 from .layers import Boiling, Layers
 from .ranges import Ranges
 from .report import drum_rows, marked, mass_tables
-from .sheet import SHORT, NamedBook
+from .sheet import NamedBook, book_words
 from .version import VERSION
 
 COMPOSITIONS = 127  # of a pair that are tried
+ASK_ANOTHER = "Whether it splits is a question for a handbook, or for a book by NRTL."
 NO_FEED = dict.fromkeys(("feed", "fractions", "fractions_given", "kilograms"))
 Lines = List[str]
 Fractions = Tuple[float, ...]
@@ -81,11 +82,7 @@ def _head(sheet: LayersSheet, details: bool) -> Lines:
         return ", ".join(f"{sheet.book.names[i]} {written(values[i])}{unit}" for i in sheet.present)
 
     rows = [("Label", sheet.label)] if sheet.label else []
-    digest = sheet.book.checksum if details else sheet.book.checksum[:SHORT]
-    rows += [
-        ("Date", sheet.date),
-        ("Book", f"{sheet.book.file}, {text.counted(len(sheet.book.names), 'solvent')}, SHA-256 {digest}"),
-    ]
+    rows += [("Date", sheet.date), ("Book", book_words(sheet.book, details))]
     if sheet.is_pair:
         rows.append(("Pair", " and ".join(sheet.book.names[i] for i in sheet.present)))
     else:
@@ -100,15 +97,19 @@ def _head(sheet: LayersSheet, details: bool) -> Lines:
 
 
 def _one_layer(sheet: LayersSheet, details: bool) -> Lines:
+    verdict = f"  one liquid layer: {sheet.book.one_layer_words(sheet.present)}"
+    shows = sheet.book.shows_layers(sheet.present)
+    other = [] if shows else text.wrapped(ASK_ANOTHER)
     if sheet.is_pair:
-        return text.wrapped(f"one liquid layer: yes, at each of the {COMPOSITIONS} compositions tried")
+        tried = f", at each of the {COMPOSITIONS} compositions tried" if shows else ""
+        return [f"{verdict}{tried}"] + other
     rows = (
         [("it boils as one liquid at", text.temperature(sheet.one_layer_at, details))]
         if sheet.one_layer_at is not None
         else []
     )
     rows += _also_rows(sheet, details)
-    return ["  one liquid layer: yes"] + (text.fields(rows) if rows else [])
+    return [verdict] + (text.fields(rows) if rows else []) + other
 
 
 def _also_rows(sheet: LayersSheet, details: bool) -> List[Tuple[str, str]]:
@@ -190,7 +191,7 @@ def document(sheet: LayersSheet, details: bool = False) -> Dict[str, Any]:
             "temperature_K": numbers.number(sheet.kelvin),
             "pressure_Pa": numbers.number(sheet.pascals),
         },
-        "one_liquid_layer": None if sheet.reason else sheet.layers is None,
+        "one_liquid_layer": None if sheet.reason else sheet.book.one_layer(sheet.layers is None, sheet.present),
         "warning": {
             "kind": "not shown", "line": "NO LAYERS CAN BE SHOWN", "advice": [sheet.reason]
         } if sheet.reason else None,

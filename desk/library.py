@@ -16,7 +16,7 @@ FOLDER = ROOT / "target" / "staticlib"
 ANSWER_ROOM = 9 * BLOCK
 # as much as the program reads: one block more than any book has, one byte more than a question
 BOOK_MOST, QUESTION_MOST = 38 * BLOCK, BLOCK + 1
-WITHOUT_TASK = (*range(1, 13), 35, 38)  # refusals that are found before the task is known
+WITHOUT_TASK = (*range(1, 13), 35, 37, 38)  # refusals that are found before the task is known
 
 
 def folder() -> Path:
@@ -37,8 +37,8 @@ class Library:
         self.path = path or find()
         if self.path is None:
             raise DeskError(f"the library {folder() / NAME} is not there; scripts/shared-library builds it")
-        self._book = book[:BOOK_MOST]
-        self.rule = rule_of(self._book)
+        self.book = book[:BOOK_MOST]
+        self.rule = rule_of(self.book)
         self._call = _loaded(self.path)
 
     def __enter__(self) -> "Library":
@@ -57,7 +57,7 @@ class Library:
         """What the program `still` writes: the answer's blocks, or one block with the refusal's number."""
         asked = block[:QUESTION_MOST]
         room = ctypes.create_string_buffer(ANSWER_ROOM)
-        number = self._call(self._book, len(self._book), asked, len(asked), room, ANSWER_ROOM)
+        number = self._call(self.book, len(self.book), asked, len(asked), room, ANSWER_ROOM)
         if number:
             task = 0 if number in WITHOUT_TASK else words_of(asked)[answer.TASK]
             return sealed([answer.KIND_ANSWER, task, number], self.rule)

@@ -6,6 +6,7 @@ from typing import Dict, Iterable, List, Optional, Sequence, Tuple
 
 from . import answer, tasks
 from .blocks import float_of, floats_at
+from .book import Model, model_of
 from .core import Core
 from .question import Options, Question
 
@@ -53,7 +54,11 @@ class Liquids:
         return blocks
 
     def trials(self, fractions: Fractions, kelvin: float) -> Verdict:
-        """With the limits and the threshold of the core's defaults, whatever the sheet was asked with."""
+        """With the limits and the threshold of the core's defaults, whatever the sheet was asked with. By Wilson's
+        equation none is needed: the energy of mixing, Σ x_i ln(x_i/S_i), is convex whatever the parameters, since S_i
+        is linear in x."""
+        if model_of(self.core.book) is Model.WILSON:
+            return Verdict(ONE_LAYER)
         question = Question(tasks.STABILITY, fractions, kelvin)
         blocks = self.core.ask(question)
         if blocks.refusal == NOT_CONVERGED:

@@ -4,7 +4,7 @@ from dataclasses import dataclass
 from typing import List, Optional, Sequence, Tuple
 
 from . import answer, tasks, text
-from .book import Interval, Pair, decode, due_pairs
+from .book import AnyPair, Interval, decode, due_pairs
 from .core import Core
 from .errors import DeskError
 from .question import Options, Question
@@ -63,7 +63,7 @@ class Ranges:
         return f"OUT OF RANGE at {text.celsius(self.kelvin)}: {'; '.join(found)}" if found else ""
 
 
-def pairs_of(content: bytes, names: Sequence[str], fractions: Sequence[float]) -> List[Tuple[Tuple[str, str], Pair]]:
+def pairs_of(content: bytes, names: Sequence[str], fractions: Sequence[float]) -> List[Tuple[Tuple[str, str], AnyPair]]:
     """The pairs of solvents present; none of a book that can't be read, which the core refuses anyway."""
     try:
         pairs = decode(content).pairs
@@ -76,17 +76,13 @@ def pairs_of(content: bytes, names: Sequence[str], fractions: Sequence[float]) -
     ]
 
 
-def is_outside(pair: Pair, kelvin: float) -> bool:
+def is_outside(pair: AnyPair, kelvin: float) -> bool:
     return bool(pair.interval) and not pair.interval.low <= kelvin <= pair.interval.high
-
-
-def is_ideal(pair: Pair) -> bool:
-    return not any(pair.tau_ij) and not any(pair.tau_ji)
 
 
 def ranges_at(core: Core, book: NamedBook, fractions: Tuple[float, ...], kelvin: float) -> Ranges:
     remarks = [
-        PairRemark(names, pair.interval, is_outside(pair, kelvin), is_ideal(pair))
+        PairRemark(names, pair.interval, is_outside(pair, kelvin), pair.ideal)
         for names, pair in pairs_of(book.content, book.names, fractions)
     ]
     said = tuple(

@@ -109,6 +109,11 @@ REFUSALS: Dict[int, Refusal] = {
         "the fractions are neither of moles nor of mass, or they are of mass and the book has no molar masses",
         "add 'molar mass = ... g/mol' to every solvent of the yard text and make the book again, or ask by moles",
     ),
+    37: Refusal(
+        "the book's model is neither NRTL nor Wilson, or it is Wilson in a book of version 1, which has NRTL alone",
+        f"{MAKE_AGAIN}, from a text with 'model = wilson' and the molar mass of every solvent, or from one without a "
+        "model, which is NRTL",
+    ),
     38: Refusal(
         "the book's version is none of 1 to 3: it is not a book that this desk knows, or its first block is damaged",
         f"{MAKE_AGAIN}; a newer desk makes one for this one with --book-version 3",

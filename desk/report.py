@@ -6,7 +6,7 @@ from typing import Callable, Dict, List, Optional, Sequence, Tuple
 from . import answer, explain, ranges, refusals, text
 from .blocks import float_of, floats_at
 from .feed import RECKONED, ByMass, Feed, Fractions
-from .sheet import SHORT, Sheet
+from .sheet import Sheet, book_words
 from .tasks import BUBBLE_PRESSURE, BUBBLE_TEMPERATURE, DEW_PRESSURE, DEW_TEMPERATURE, FLASH, NEGATIVE_SPLIT, SPLIT
 
 ENERGY_NAMES = (
@@ -54,7 +54,7 @@ class Report:
     def head(self) -> Lines:
         sheet, question, task = self.sheet, self.sheet.question, self.sheet.question.task
         rows = [("Label", sheet.label)] if sheet.label else []
-        rows += [("Date", sheet.date), ("Book", book_words(sheet, self.details))]
+        rows += [("Date", sheet.date), ("Book", book_words(sheet.book, self.details))]
         rows += drum_rows(sheet.feed, sheet.by_mass, self._listed)
         if sheet.absent():
             rows.append(("Absent", ", ".join(sheet.book.names[i] for i in sheet.absent())))
@@ -162,7 +162,8 @@ class Report:
         return lines + mass_tables(sheet.by_mass, sheet.feed, columns, amounts, sheet.present(), names, self.details)
 
     def _one_layer(self) -> Lines:
-        words = {True: "yes", False: "NO, it splits in two", None: "not tested"}
+        yes = self.sheet.book.one_layer_words(self.sheet.present())
+        words = {True: yes, False: "NO, it splits in two", None: "not tested"}
         return [f"  one liquid layer: {words[self.sheet.judgement.one_layer]}"]
 
     def stability(self) -> Lines:
@@ -231,7 +232,7 @@ class Report:
 
     def _notes(self) -> Lines:
         lines = [""]
-        for name, words in self.sheet.blocks.notes():
+        for name, words in self.sheet.blocks.notes(self.sheet.book.model):
             lines += text.wrapped(f"{name}: {words}." if self.details else f"{words[0].upper()}{words[1:]}.")
         return lines
 
@@ -284,14 +285,6 @@ def marked(line: str) -> Lines:
     """Stars around a line that must not be overlooked."""
     parts = text.wrapped(line, text.WIDTH - 8, "")
     return [f"*** {part}{' ' * (text.WIDTH - 8 - text.width(part))} ***" for part in parts]
-
-
-def book_words(sheet: Sheet, details: bool) -> str:
-    digest = sheet.book.checksum
-    return (
-        f"{sheet.book.file}, {text.counted(len(sheet.book.names), 'solvent')}, SHA-256 "
-        f"{digest if details else digest[:SHORT]}"
-    )
 
 
 def _exp(value: float) -> float:

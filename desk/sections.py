@@ -1,4 +1,5 @@
-"""The lines of a yard text: headings in brackets, then 'key = value'. Everything after a number sign is a comment."""
+"""The lines of a yard text: the model, then headings in brackets, each followed by 'key = value'. Everything after a
+number sign is a comment."""
 
 import difflib
 from typing import List, Optional, Tuple
@@ -6,10 +7,12 @@ from typing import List, Optional, Tuple
 from .errors import DeskError, quoted, suggestion
 
 HEADINGS = {"solvent": 2, "pair": 3}  # words of a heading
+MODEL = "model"  # the one key before the first heading
 KEYS = tuple(f"{record} {key}" for record in ("vapor", "density") for key in ("t_r", "reducing", "range", "term"))
 KEYS += (
     "cas",
     "molar mass",
+    "molar volume",
     "source",
     "boiling point",
     "azeotrope",
@@ -19,7 +22,10 @@ KEYS += (
     "interval",
     "inferred",
     "tau",
+    "wilson",
 )
+WITH_NAMES = ("tau", "wilson")  # keys that two names follow
+Entry = Tuple[str, str, int]  # key, value and line
 
 
 class Section:
@@ -27,7 +33,7 @@ class Section:
 
     def __init__(self, words: List[str], line: int):
         self.kind, self.names, self.line = words[0], words[1:], line
-        self.entries: List[Tuple[str, str, int]] = []
+        self.entries: List[Entry] = []
 
     @property
     def title(self) -> str:
@@ -62,14 +68,15 @@ class Section:
     def finish(self) -> None:
         if self.entries:
             key, _, line = self.entries[0]
-            known = (
-                [name for name in KEYS if name.split()[0] != "tau"]
-                + [f"tau {a} {b}" for a in self.names for b in self.names if a != b]
-            )
-            raise DeskError(f"line {line}: [{self.title}] has no key '{key}'{suggestion(key, known)}")
+            known = [name for name in KEYS if name not in WITH_NAMES]
+            known += [f"{name} {a} {b}" for name in WITH_NAMES for a in self.names for b in self.names if a != b]
+            meant = "; it stands before the first heading" if key == MODEL else suggestion(key, known)
+            raise DeskError(f"line {line}: [{self.title}] has no key '{key}'{meant}")
 
 
-def sections_of(text: str) -> List[Section]:
+def sections_of(text: str) -> Tuple[List[Entry], List[Section]]:
+    """What stands before the first heading, and what follows."""
+    before: List[Entry] = []
     sections: List[Section] = []
     for line, raw in enumerate(text.splitlines(), 1):
         content = raw.split("#", 1)[0].strip()
@@ -78,10 +85,18 @@ def sections_of(text: str) -> List[Section]:
         if content.startswith("["):
             sections.append(_heading(content, line))
         elif not sections:
-            raise DeskError(f"line {line}: {quoted(content)} stands before the first heading, [solvent NAME]")
+            before.append(_before(content, line))
         else:
             sections[-1].entries.append(_entry(content, line))
-    return sections
+    return before, sections
+
+
+def _before(content: str, line: int) -> Entry:
+    if content.partition("=")[0].strip().lower() != MODEL:
+        raise DeskError(
+            f"line {line}: {quoted(content)} stands before the first heading, [solvent NAME]; only 'model = NAME' may"
+        )
+    return _entry(content, line)
 
 
 def _heading(content: str, line: int) -> Section:
@@ -92,7 +107,7 @@ def _heading(content: str, line: int) -> Section:
     raise DeskError(f"line {line}: {quoted(content)} is neither [solvent NAME] nor [pair NAME NAME]{meant}")
 
 
-def _entry(content: str, line: int) -> Tuple[str, str, int]:
+def _entry(content: str, line: int) -> Entry:
     key, equals, value = content.partition("=")
     if not equals or not key.strip() or not value.strip():
         raise DeskError(f"line {line}: {quoted(content)} is not 'key = value'")

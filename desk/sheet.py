@@ -8,9 +8,10 @@ from typing import TYPE_CHECKING, List, Optional, Sequence, Tuple
 
 from .answer import Blocks
 from .blocks import floats_at
-from .book import molar_masses
+from .book import Model, model_of, model_word, molar_masses
 from .feed import ByMass, Feed, Fractions, by_mass
 from .question import Question
+from .text import counted
 
 if TYPE_CHECKING:  # both need the names below
     from .judgement import Judgement
@@ -18,7 +19,7 @@ if TYPE_CHECKING:  # both need the names below
 
 DEFAULT_BOOK = "yard/yard.txt"  # from the root of the repository
 SHORT = 12  # hex digits of a checksum that are enough to tell two books apart
-UNCONVERTED = (*range(1, 19), 35, 36, 38)  # refusals that stand ahead of the conversion of a feed by mass
+UNCONVERTED = (*range(1, 19), 35, 36, 37, 38)  # refusals that stand ahead of the conversion of a feed by mass
 DATE_SETTING = "SOURCE_DATE_EPOCH"  # seconds since 1970; fixes the date (UTC), as reproducible builds have it
 
 
@@ -39,8 +40,35 @@ class NamedBook:
         return molar_masses(self.content)
 
     @property
+    def model(self) -> Optional[Model]:
+        """None of a book that the core refuses with 37."""
+        return model_of(self.content)
+
+    @property
+    def model_words(self) -> str:
+        return self.model.title if self.model else f"model {model_word(self.content)}"
+
+    def shows_layers(self, present: Sequence[int]) -> bool:
+        """Whether the book's model could show two layers of these solvents. Of one alone it needn't."""
+        return self.model is not Model.WILSON or len(present) < 2
+
+    def one_layer(self, passed: Optional[bool], present: Sequence[int]) -> Optional[bool]:
+        """What a liquid that passed its trials says of the drum: nothing where none can fail."""
+        return None if passed and not self.shows_layers(present) else passed
+
+    def one_layer_words(self, present: Sequence[int]) -> str:
+        """Of a liquid that passed its trials."""
+        return "yes" if self.shows_layers(present) else "assumed (Wilson's equation can't show two)"
+
+    @property
     def checksum(self) -> str:
         return checksum(self.content)
+
+
+def book_words(book: NamedBook, details: bool) -> str:
+    """For the head of a sheet."""
+    digest = book.checksum if details else book.checksum[:SHORT]
+    return f"{book.file}, {counted(len(book.names), 'solvent')}, {book.model_words}, SHA-256 {digest}"
 
 
 def checksum(content: bytes) -> str:

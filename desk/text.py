@@ -13,8 +13,8 @@ RULE = "-" * WIDTH
 
 
 def plain(value: float, all_digits: bool = False) -> str:
-    """A number as it was given, or one with a unit beside it."""
-    return repr(value + 0.0) if all_digits else f"{value:.6g}"
+    """A number as it was given, or one with a unit beside it; -0 without its sign."""
+    return repr(value + 0.0) if all_digits else f"{value + 0.0:.6g}"
 
 
 def exact(value: float) -> str:
@@ -27,7 +27,7 @@ def fraction(value: float, all_digits: bool = False) -> str:
     """Five decimals, or four significant digits where these would show too little."""
     if all_digits:
         return repr(value)
-    return f"{value:.5f}" if value == 0 or 1e-3 <= abs(value) < 1e4 else f"{value:#.4g}"
+    return f"{value + 0.0:.5f}" if value == 0 or 1e-3 <= abs(value) < 1e4 else f"{value:#.4g}"
 
 
 def small(value: float) -> str:

@@ -1,5 +1,5 @@
-"""Temperatures, pressures, weights and molar masses with their units, read as decimals and rounded once to a float; CAS
-numbers."""
+"""Temperatures, pressures, weights, molar masses and molar volumes with their units, read as decimals and rounded once
+to a float; CAS numbers."""
 
 import math
 import re
@@ -24,12 +24,20 @@ PRESSURE_UNITS: Dict[str, Fraction] = {
 MOLAR_MASS_UNITS: Dict[str, Fraction] = {
     "kg/mol": Fraction(1), "g/mol": Fraction(1, 1000), "kg/kmol": Fraction(1, 1000)
 }  # kg/mol
+MOLAR_VOLUME_UNITS: Dict[str, Fraction] = {
+    "m3/mol": Fraction(1),
+    "m3/kmol": Fraction(1, 1000),
+    "L/mol": Fraction(1, 1000),
+    "cm3/mol": Fraction(1, 10**6),
+    "mL/mol": Fraction(1, 10**6),
+}  # m3/mol
 WEIGHT_UNITS: Dict[str, Fraction] = {"kg": Fraction(1), "g": Fraction(1, 1000), "t": Fraction(1000)}  # kg
 KELVIN_UNITS = ("K",)
 CELSIUS_UNITS = ("C", "°C", "degC")
 TEMPERATURES = "K, C or °C"
-PRESSURES, MOLAR_MASSES, WEIGHTS = (
-    ", ".join(list(units)[:-1]) + f" or {list(units)[-1]}" for units in (PRESSURE_UNITS, MOLAR_MASS_UNITS, WEIGHT_UNITS)
+PRESSURES, MOLAR_MASSES, MOLAR_VOLUMES, WEIGHTS = (
+    ", ".join(list(units)[:-1]) + f" or {list(units)[-1]}"
+    for units in (PRESSURE_UNITS, MOLAR_MASS_UNITS, MOLAR_VOLUME_UNITS, WEIGHT_UNITS)
 )
 
 _NUMBER = r"[+-]?(?:\d+(?:\.\d*)?|\.\d+)(?:[eE][+-]?\d{1,4})?"
@@ -89,6 +97,17 @@ def molar_mass(text: str, what: str = "molar mass") -> float:
     if found <= 0:
         raise DeskError(f"{what}: {quoted(text)} isn't positive")
     return found
+
+
+def molar_volume(text: str, what: str = "molar volume") -> Fraction:
+    """In m3/mol, positive, exactly, from a number with one of MOLAR_VOLUME_UNITS."""
+    value, unit = _quantity(text, what, f"{MOLAR_VOLUMES}, as in 58.68 cm3/mol")
+    if unit not in MOLAR_VOLUME_UNITS:
+        known = suggestion(unit, MOLAR_VOLUME_UNITS)
+        raise DeskError(f"{what}: unit {quoted(unit)} in {quoted(text)} is not {MOLAR_VOLUMES}{known}")
+    if value <= 0:
+        raise DeskError(f"{what}: {quoted(text)} isn't positive")
+    return Fraction(value) * MOLAR_VOLUME_UNITS[unit]
 
 
 def weight(text: str, what: str = "weight") -> Fraction:

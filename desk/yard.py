@@ -1,6 +1,7 @@
 """A yard: a book with the names of its solvents, and what its text says besides."""
 
 from dataclasses import dataclass, field
+from fractions import Fraction
 from typing import Dict, List, Optional, Tuple
 
 from .book import Book
@@ -17,12 +18,14 @@ class BoilingCheck:
 
 @dataclass(frozen=True)
 class MixtureCheck:
-    """A published azeotrope or boiling point of a pair, at the named solvent's mole fraction."""
+    """A published azeotrope or boiling point of a pair, at the named solvent's mole fraction. An azeotrope may have
+    limits of its own, in K and in the mole fraction."""
 
     solvent: str
     fraction: float
     kelvin: float
     pascals: float
+    within: Optional[Tuple[float, float]] = None
 
 
 @dataclass(frozen=True)
@@ -47,6 +50,7 @@ class Yard:
     mixtures: Dict[Tuple[str, str], List[MixtureCheck]] = field(default_factory=dict)
     heteroazeotropes: Dict[Tuple[str, str], MixtureCheck] = field(default_factory=dict)  # the fraction is the vapor's
     solubilities: Dict[Tuple[str, str], List[SolubilityCheck]] = field(default_factory=dict)
+    volumes: Dict[str, Fraction] = field(default_factory=dict)  # molar, m3/mol, as the text has them
     version: Optional[int] = None  # of the book.bin that it came from
 
     @property

@@ -21,7 +21,7 @@ from .sweep import Setting, Sweep, azeotropes
 from .yard import BoilingCheck, MixtureCheck, SolubilityCheck
 
 GRID = 21  # points between which an azeotrope is looked for
-MIXTURE_KELVIN, AZEOTROPE_KELVIN, AZEOTROPE_FRACTION = 1.0, 0.5, 0.01  # differences that pass
+MIXTURE_KELVIN, AZEOTROPE_LIMITS = 1.0, (0.5, 0.01)  # differences that pass, an azeotrope's in K and mole fraction
 SOLUBILITY = 0.02  # relative difference that passes
 PURE, MIXTURE, AZEOTROPE, HETEROAZEOTROPE, SOLUBLE = "pure", "mixture", "azeotrope", "heteroazeotrope", "solubility"
 
@@ -29,7 +29,7 @@ PURE, MIXTURE, AZEOTROPE, HETEROAZEOTROPE, SOLUBLE = "pure", "mixture", "azeotro
 @dataclass(frozen=True)
 class Finding:
     """One published point beside the computed one. A mixture has the fraction of the solvent in `of`, and an azeotrope
-    or a solubility a computed one too; a solubility's temperature is given."""
+    or a solubility a computed one too; a solubility's temperature is given. `within` are limits that the text has."""
 
     kind: str
     what: str
@@ -40,6 +40,7 @@ class Finding:
     of: str = ""
     published_fraction: Optional[float] = None
     fraction: Optional[float] = None
+    within: Optional[Tuple[float, float]] = None
 
 
 def check(path: str, program: Path) -> List[Finding]:
@@ -78,11 +79,7 @@ def _heteroazeotrope(book: NamedBook, pair: Tuple[str, str], known: MixtureCheck
         boiling = None
     computed = boiling.layers.kelvin if boiling else None
     fraction = boiling.vapor[book.names.index(known.solvent)] if boiling else None
-    passed = _near(computed, known.kelvin, AZEOTROPE_KELVIN) and _near(fraction, known.fraction, AZEOTROPE_FRACTION)
-    what = " and ".join(pair)
-    return Finding(
-        HETEROAZEOTROPE, what, known.pascals, known.kelvin, computed, passed, known.solvent, known.fraction, fraction
-    )
+    return _azeotropic(HETEROAZEOTROPE, pair, known, computed, fraction)
 
 
 def _solubility(book: NamedBook, pair: Tuple[str, str], known: SolubilityCheck, core: Core) -> Finding:
@@ -131,11 +128,16 @@ def _azeotrope(book: NamedBook, pair: Tuple[str, str], known: MixtureCheck, core
     found = [point for point in crossings if sweep.verdict(point) == ONE_LAYER]
     nearest = min(found, key=lambda point: abs(point.x - known.fraction), default=None)
     computed, fraction = (nearest.temperature, nearest.x) if nearest else (None, None)
-    passed = _near(computed, known.kelvin, AZEOTROPE_KELVIN) and _near(fraction, known.fraction, AZEOTROPE_FRACTION)
-    what = " and ".join(pair)
-    return Finding(
-        AZEOTROPE, what, known.pascals, known.kelvin, computed, passed, known.solvent, known.fraction, fraction
-    )
+    return _azeotropic(AZEOTROPE, pair, known, computed, fraction)
+
+
+def _azeotropic(
+    kind: str, pair: Tuple[str, str], known: MixtureCheck, computed: Optional[float], fraction: Optional[float]
+) -> Finding:
+    kelvin, most = known.within or AZEOTROPE_LIMITS
+    passed = _near(computed, known.kelvin, kelvin) and _near(fraction, known.fraction, most)
+    published = (known.pascals, known.kelvin, computed, passed, known.solvent, known.fraction)
+    return Finding(kind, " and ".join(pair), *published, fraction, known.within)
 
 
 def _temperatures(finding: Finding) -> List[str]:
@@ -175,7 +177,8 @@ def _computed(value: Optional[float], published: float, digits: int) -> List[str
 
 
 def _verdict(finding: Finding) -> str:
-    return "yes" if finding.passed else "NO"
+    allowed = f", within {finding.within[0]:g} K and {finding.within[1]:g}" if finding.within else ""
+    return ("yes" if finding.passed else "NO") + allowed
 
 
 TEMPERATURE_HEADS = ("p, Pa", "published, K", "computed, K", "difference")

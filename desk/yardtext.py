@@ -17,6 +17,11 @@
     interval          = 298.15 K to 373.15 K
     inferred          = yes
 
+With 'model = wilson' before the first heading a pair has other parameters in place of tau and alpha:
+
+    wilson ethanol water = a -1.2, b -160 K
+    wilson water ethanol = energy 953.2792 cal/mol
+
 docs/GUIDE.md has the whole list of keys. A name is written without blanks. Solvents have the places in which they
 stand; pairs may stand in any order."""
 
@@ -24,28 +29,50 @@ import re
 from dataclasses import replace
 from typing import Callable, Dict, List, Optional, Tuple
 
-from . import units
-from .book import MOST_SOLVENTS, MOST_TERMS, Book, Correlation, Interval, Pair, Solvent, due_pairs
-from .errors import DeskError, quoted
-from .sections import Section, sections_of
+from . import parameters, units
+from .book import (
+    MOST_SOLVENTS, MOST_TERMS, AnyPair, Book, Correlation, Interval, Model, Pair, Solvent, WilsonPair, due_pairs
+)
+from .errors import DeskError, quoted, suggestion
+from .sections import Entry, Section, sections_of
 from .yard import BoilingCheck, MixtureCheck, SolubilityCheck, Yard
 
-GAS_CONSTANT = {"J/mol": 8.31446261815324, "cal/mol": 1.98720425864083}  # per K
+MODELS = {model.title.lower(): model for model in Model}
+PARAMETERS = {Model.NRTL: ("tau", "alpha"), Model.WILSON: ("wilson",)}  # first words of a pair's keys
 NAME = re.compile(r"[^\W_][\w.+()'-]*")
 SEPARATOR = " to "
 
 
 def parse(text: str) -> Yard:
-    sections = sections_of(text)
+    before, sections = sections_of(text)
+    model = _model(before)
     solvents = [section for section in sections if section.kind == "solvent"]
     if not 1 <= len(solvents) <= MOST_SOLVENTS:
         raise DeskError(f"it has {len(solvents)} solvents, and 1 to {MOST_SOLVENTS} are due")
     names = _distinct_names(solvents)
-    yard = Yard(names, Book((), ()))
+    yard = Yard(names, Book((), (), model))
     records = tuple(_solvent(section, yard) for section in solvents)
     _distinct_cas(names, records)
     pairs = _pairs([section for section in sections if section.kind == "pair"], yard)
-    return replace(yard, book=Book(records, pairs))
+    found = replace(yard, book=Book(records, pairs, model))
+    if model is Model.WILSON and found.lacking:
+        raise DeskError(
+            "a Wilson book has the molar mass of every solvent: add 'molar mass = ... g/mol' to "
+            + ", ".join(f"[solvent {name}]" for name in found.lacking)
+        )
+    return found
+
+
+def _model(before: List[Entry]) -> Model:
+    """Before the first heading; NRTL where nothing is said."""
+    if not before:
+        return Model.NRTL
+    if len(before) > 1:
+        raise DeskError(f"line {before[1][2]}: 'model' stands there twice")
+    _, name, line = before[0]
+    if name.lower() not in MODELS:
+        raise DeskError(f"line {line}: model {quoted(name)} is none of {', '.join(MODELS)}{suggestion(name, MODELS)}")
+    return MODELS[name.lower()]
 
 
 def _distinct_names(solvents: List[Section]) -> Tuple[str, ...]:
@@ -76,7 +103,9 @@ def _solvent(section: Section, yard: Yard) -> Solvent:
     name = section.names[0]
     with_place = f"[{section.title}]"
     cas = units.cas_number(section.take("cas"))
-    mass = section.optional("molar mass")
+    mass, volume = section.optional("molar mass"), section.optional("molar volume")
+    if volume:
+        yard.volumes[name] = units.molar_volume(volume, f"{with_place} molar volume")
     vapor = _correlation(section, "vapor", units.pressure)
     density = _density(section, vapor)
     _note_source(section, yard, (name,))
@@ -166,6 +195,18 @@ def _mixture_check(text: str, what: str, pair: Tuple[str, str]) -> MixtureCheck:
     )
 
 
+def _azeotrope_check(text: str, what: str, pair: Tuple[str, str]) -> MixtureCheck:
+    published, limits, within = text.partition(" within ")
+    known = _mixture_check(published, what, pair)
+    if not limits:
+        return known
+    match = re.fullmatch(r"(\S+) K and (\S+)", within)
+    if not match:
+        raise DeskError(f"{what}: {quoted(within)} is not 'D K and d', as in 0.5 K and 0.04 behind 'within'")
+    kelvin, fraction = (units.number(limit, what) for limit in match.groups())
+    return replace(known, within=(kelvin, fraction))
+
+
 def _solubility_check(text: str, what: str, pair: Tuple[str, str]) -> SolubilityCheck:
     match = re.fullmatch(r"(\S+) (\S+) in (\S+) at (.+)", text)
     if not match or {match.group(1), match.group(3)} != set(pair):
@@ -174,9 +215,9 @@ def _solubility_check(text: str, what: str, pair: Tuple[str, str]) -> Solubility
     return SolubilityCheck(solvent, units.number(fraction, what), layer, units.temperature(kelvin, what))
 
 
-def _pairs(sections: List[Section], yard: Yard) -> Tuple[Pair, ...]:
+def _pairs(sections: List[Section], yard: Yard) -> Tuple[AnyPair, ...]:
     places = {name.lower(): place for place, name in enumerate(yard.names)}
-    found: Dict[Tuple[int, int], Pair] = {}
+    found: Dict[Tuple[int, int], AnyPair] = {}
     for section in sections:
         i, j = (_place(name, places, section) for name in section.names)
         if i == j:
@@ -188,7 +229,7 @@ def _pairs(sections: List[Section], yard: Yard) -> Tuple[Pair, ...]:
     return tuple(_due(key, found, yard.names) for key in due_pairs(len(yard.names)))
 
 
-def _due(key: Tuple[int, int], found: Dict[Tuple[int, int], Pair], names: Tuple[str, ...]) -> Pair:
+def _due(key: Tuple[int, int], found: Dict[Tuple[int, int], AnyPair], names: Tuple[str, ...]) -> AnyPair:
     if key not in found:
         raise DeskError(f"[pair {names[key[0]]} {names[key[1]]}] is missing")
     return found[key]
@@ -200,28 +241,55 @@ def _place(name: str, places: Dict[str, int], section: Section) -> int:
     return places[name.lower()]
 
 
-def _pair(section: Section, yard: Yard, names: Tuple[str, str]) -> Pair:
-    first, second = names
+def _pair(section: Section, yard: Yard, names: Tuple[str, str]) -> AnyPair:
     what = f"[{section.title}]"
-    tau_ij = _tau(section.take(f"tau {first} {second}"), f"{what} tau {first} {second}")
-    tau_ji = _tau(section.take(f"tau {second} {first}"), f"{what} tau {second} {first}")
-    alpha = _terms(_named_alpha(section.take("alpha")), ("a0", "a1"), f"{what} alpha")
-    interval = _interval(section, what)
+    _expect_parameters(section, yard.book.model)
+    pair = {Model.NRTL: _nrtl, Model.WILSON: _wilson}[yard.book.model](section, yard, names)
     _note_source(section, yard, tuple(sorted(names, key=yard.names.index)))
     known = section.optional("azeotrope")
     if known:
-        yard.azeotropes[names] = _mixture_check(known, f"{what} azeotrope", names)
+        yard.azeotropes[names] = _azeotrope_check(known, f"{what} azeotrope", names)
     boiling = section.take_all("boiling point")
     if boiling:
         yard.mixtures[names] = [_mixture_check(text, f"{what} boiling point", names) for text in boiling]
     hetero = section.optional("heteroazeotrope")
     if hetero:
-        yard.heteroazeotropes[names] = _mixture_check(hetero, f"{what} heteroazeotrope", names)
+        yard.heteroazeotropes[names] = _azeotrope_check(hetero, f"{what} heteroazeotrope", names)
     solubilities = section.take_all("solubility")
     if solubilities:
         yard.solubilities[names] = [_solubility_check(text, f"{what} solubility", names) for text in solubilities]
     section.finish()
-    return Pair(tau_ij, tau_ji, alpha, interval)
+    return pair
+
+
+def _expect_parameters(section: Section, model: Model) -> None:
+    """None of another model."""
+    for other in Model:
+        for key, _, line in section.entries:
+            if other is not model and key.split()[0] in PARAMETERS[other]:
+                raise DeskError(
+                    f"line {line}: [{section.title}] has '{key}', which is of {other.title}, and the text's model is "
+                    f"{model.title}; 'model = {other.title.lower()}' before the first heading changes it"
+                )
+
+
+def _nrtl(section: Section, _: Yard, names: Tuple[str, str]) -> Pair:
+    what, (first, second) = f"[{section.title}]", names
+    tau_ij, tau_ji = (
+        parameters.tau(section.take(key), f"{what} {key}")
+        for key in (f"tau {first} {second}", f"tau {second} {first}")
+    )
+    alpha = parameters.alpha(section.take("alpha"), f"{what} alpha")
+    return Pair(tau_ij, tau_ji, alpha, _interval(section, what))
+
+
+def _wilson(section: Section, yard: Yard, names: Tuple[str, str]) -> WilsonPair:
+    what = f"[{section.title}]"
+    ij, ji = (
+        parameters.wilson(section.take(f"wilson {a} {b}"), f"{what} wilson {a} {b}", (a, b), yard.volumes)
+        for a, b in (names, names[::-1])
+    )
+    return WilsonPair(ij, ji, _interval(section, what))
 
 
 def _interval(section: Section, what: str) -> Optional[Interval]:
@@ -234,34 +302,3 @@ def _interval(section: Section, what: str) -> Optional[Interval]:
         return None
     return Interval(*_range(text, f"{what} interval"), inferred == "yes")
 
-
-def _tau(text: str, what: str) -> Tuple[float, float, float, float]:
-    return _terms(text, ("t0", "t1", "t2", "t3"), what)
-
-
-def _named_alpha(text: str) -> str:
-    return text if text.lstrip().startswith("a") else f"a0 {text}"
-
-
-def _terms(text: str, names: Tuple[str, ...], what: str) -> Tuple[float, ...]:
-    """Named terms, in any order; a term that isn't named is 0."""
-    values: Dict[str, float] = {}
-    for part in text.split(","):
-        words = part.split()
-        if len(words) not in (2, 3) or words[0] not in names:
-            raise DeskError(f"{what}: {quoted(part)} is not a term ({', '.join(names)}) and its number")
-        if words[0] in values:
-            raise DeskError(f"{what}: {words[0]} stands there twice")
-        values[words[0]] = units.number(words[1], f"{what} {words[0]}") / _divisor(words, what)
-    return tuple(values.get(name, 0.0) for name in names)
-
-
-def _divisor(words: List[str], what: str) -> float:
-    """t1 is in K, or an energy that is divided by the gas constant."""
-    if len(words) == 2 or words[0] == "t1" and words[2] == "K":
-        return 1.0
-    if words[0] == "t1" and words[2] in GAS_CONSTANT:
-        return GAS_CONSTANT[words[2]]
-    raise DeskError(
-        f"{what}: unit {quoted(words[2])} of {words[0]} is none of K, J/mol and cal/mol, which t1 alone may have"
-    )

@@ -3,13 +3,14 @@
 from typing import List, Tuple
 
 from . import units
-from .book import Pair, Solvent, due_pairs
+from .book import AnyPair, Model, Solvent, WilsonPair, due_pairs
 from .errors import DeskError
 from .yard import Yard
 
 
 def write(yard: Yard) -> str:
-    parts = [_solvent_text(name, solvent, yard) for name, solvent in zip(yard.names, yard.book.solvents)]
+    parts = [] if yard.book.model is Model.NRTL else [f"model = {yard.book.model.title.lower()}\n"]
+    parts += [_solvent_text(name, solvent, yard) for name, solvent in zip(yard.names, yard.book.solvents)]
     for (i, j), pair in zip(due_pairs(len(yard.names)), yard.book.pairs):
         parts.append(_pair_text(yard.names[i], yard.names[j], pair, yard))
     return "\n".join(parts)
@@ -43,19 +44,28 @@ def _cas_as_read(cas: int) -> str:
         return str(cas)
 
 
-def _pair_text(first: str, second: str, pair: Pair, yard: Yard) -> str:
-    def named(prefix: str, values: Tuple[float, ...]) -> str:
-        return ", ".join(f"{prefix}{k} {value!r}" for k, value in enumerate(values))
-
-    entries = [
-        (f"tau {first} {second}", named("t", pair.tau_ij)),
-        (f"tau {second} {first}", named("t", pair.tau_ji)),
-        ("alpha", named("a", pair.alpha)),
-    ]
+def _pair_text(first: str, second: str, pair: AnyPair, yard: Yard) -> str:
+    entries = _parameters(first, second, pair)
     if pair.interval:
         entries.append(("interval", f"{pair.interval.low!r} K to {pair.interval.high!r} K"))
         entries.append(("inferred", "yes" if pair.interval.inferred else "no"))
     return _lines(f"pair {first} {second}", entries + _source_entry(yard, (first, second)))
+
+
+def _parameters(first: str, second: str, pair: AnyPair) -> List[Tuple[str, str]]:
+    def named(prefix: str, values: Tuple[float, ...]) -> str:
+        return ", ".join(f"{prefix}{k} {value!r}" for k, value in enumerate(values))
+
+    if isinstance(pair, WilsonPair):
+        return [
+            (f"wilson {first} {second}", f"a {pair.ij[0]!r}, b {pair.ij[1]!r} K"),
+            (f"wilson {second} {first}", f"a {pair.ji[0]!r}, b {pair.ji[1]!r} K"),
+        ]
+    return [
+        (f"tau {first} {second}", named("t", pair.tau_ij)),
+        (f"tau {second} {first}", named("t", pair.tau_ji)),
+        ("alpha", named("a", pair.alpha)),
+    ]
 
 
 def _source_entry(yard: Yard, key: Tuple[str, ...]) -> List[Tuple[str, str]]:

@@ -46,6 +46,8 @@ const SHAPE: &str = "shape errors cannot arise in a book";
 const NOTES: &str = "notes are bits of word 13";
 const OPEN: &str = "called by the sheet";
 const NORMALIZE: &str = "34: `normalize` refuses a sum that isn't finite and positive; its step is noted";
+const WILSON: &str =
+    "Wilson's sums stand beside NRTL's (src/named/nrtl/wilson.rs); tests and energies are the Rust's own for both";
 const PRESENT: &str = "the slope runs over positive feed fractions only (docs/DIFFERENCES.md)";
 
 const fn cut(within: &'static str, anchor: &'static str, reason: &'static str) -> Row {
@@ -148,6 +150,33 @@ pub const SOURCES: &[Source] = &[
             call("fn matrices(", OUTSIDE, "Error::AlphaNotPositive", 1, "24"),
             put("pub fn excess(", "NotPositive(\"temperature\")", "Temperature", 1, "13"),
             call("pub fn excess(", FAILURE, "Error::ResultNotFinite", 1, "25"),
+            put(
+                "pub struct NrtlModel",
+                "parameters: NrtlParameters,",
+                "parameters: NrtlParameters, wilson: Option<Wilson>,",
+                1,
+                WILSON,
+            ),
+            put("impl NrtlModel", "Self { parameters }", "Self { parameters, wilson: None }", 1, WILSON),
+            put(
+                "pub fn excess(",
+                "let rt = R * t;",
+                "Ok((ge, ln_gamma)) } \
+                 fn state(&self, t: f64, x: &[f64], ge: Jet, ln_gamma: Vec<Jet>) -> Result<ExcessState, Error> { \
+                 let rt = R * t;",
+                1,
+                WILSON,
+            ),
+            put(
+                "pub fn excess(",
+                "let (tau, g) = self.matrices(t)?;",
+                "let (ge, ln_gamma) = match &self.wilson { Some(wilson) => wilson.sums(t, x), None => self.sums(t, x)? }; \
+                 self.state(t, x, ge, ln_gamma) } \
+                 fn sums(&self, t: f64, x: &[f64]) -> Result<(Jet, Vec<Jet>), Error> { \
+                 let n = x.len(); let (tau, g) = self.matrices(t)?;",
+                1,
+                WILSON,
+            ),
         ],
         jet_exp: 1,
     },

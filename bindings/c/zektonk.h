@@ -64,7 +64,14 @@ enum zektonk_kind {
 enum zektonk_any_word { ZEKTONK_WORD_KIND = 0, ZEKTONK_WORD_CHECK = 63 };
 
 /* Words of block 0 of a book. */
-enum zektonk_book_word { ZEKTONK_BOOK_WORD_VERSION = 1, ZEKTONK_BOOK_WORD_SOLVENTS = 2 };
+enum zektonk_book_word {
+    ZEKTONK_BOOK_WORD_VERSION = 1,
+    ZEKTONK_BOOK_WORD_SOLVENTS = 2,
+    ZEKTONK_BOOK_WORD_MODEL = 3 /* of the activity coefficients, for all pairs */
+};
+
+/* Models, word 3 of block 0; Wilson's from version 2 on. */
+enum zektonk_model { ZEKTONK_MODEL_NRTL = 0, ZEKTONK_MODEL_WILSON = 1 };
 
 /* Words of a solvent: its vapor pressure and its liquid density, of which only the range is used. */
 enum zektonk_solvent_word {
@@ -99,6 +106,15 @@ enum zektonk_pair_word {
     ZEKTONK_PAIR_WORD_LOW = 16,
     ZEKTONK_PAIR_WORD_HIGH = 17,
     ZEKTONK_PAIR_WORD_INFERRED = 18
+};
+
+/* Words of a pair of a Wilson book in place of tau and alpha: Lambda = exp(a + b/T), b in K. Words 7 to 14 are not read
+ * there, the others are those above. */
+enum zektonk_wilson_word {
+    ZEKTONK_WILSON_WORD_A_IJ = 3,
+    ZEKTONK_WILSON_WORD_B_IJ = 4,
+    ZEKTONK_WILSON_WORD_A_JI = 5,
+    ZEKTONK_WILSON_WORD_B_JI = 6
 };
 
 /* Words of a question. */
@@ -186,8 +202,9 @@ enum zektonk_note {
 enum zektonk_validity { ZEKTONK_UNASSESSED = 0, ZEKTONK_WITHIN = 1, ZEKTONK_EXTRAPOLATED = 2 };
 
 /*
- * The first question that was answered no: 1 to 21 in this order, with 38 between 1 and 2, 35 after 5, 36 after 12 and,
- * of a feed by mass, 34 after 18; the others, and 15 to 18 and 34 once more, where the calculation puts them.
+ * The first question that was answered no: 1 to 21 in this order, with 38 between 1 and 2, 37 after 3, 35 after 5, 36
+ * after 12 and, of a feed by mass, 34 after 18; the others, and 15 to 18 and 34 once more, where the calculation puts
+ * them.
  */
 enum zektonk_refusal {
     ZEKTONK_ANSWERED = 0,
@@ -199,7 +216,7 @@ enum zektonk_refusal {
     ZEKTONK_SOLVENT_TWICE = 6,            /* one CAS number for two solvents */
     ZEKTONK_PAIR_BLOCK = 7,               /* kind, i and j, or a flag not 0 or 1 */
     ZEKTONK_PAIR_NUMBER = 8,              /* a float not finite */
-    ZEKTONK_PAIR_ALPHAS = 9,              /* alpha_ij and alpha_ji differ */
+    ZEKTONK_PAIR_ALPHAS = 9,              /* alpha_ij and alpha_ji differ; NRTL */
     ZEKTONK_ANSWER_SHORT = 10,            /* fewer than ZEKTONK_ANSWER_ROOM bytes */
     ZEKTONK_QUESTION_BLOCK = 11,          /* not 512 bytes, its check by the book's version, or its kind */
     ZEKTONK_TASK = 12,                    /* none of 1 to 9 */
@@ -214,7 +231,7 @@ enum zektonk_refusal {
     ZEKTONK_LIMIT_HIGH = 21,              /* above 1,000,000 iterations */
     ZEKTONK_TEMPERATURE_OUTSIDE = 22,     /* of 273.16 to 450 K or of a solvent's ranges */
     ZEKTONK_PRESSURE_OUTSIDE = 23,        /* of 100 to 500,000 Pa */
-    ZEKTONK_ALPHA_NOT_POSITIVE = 24,
+    ZEKTONK_ALPHA_NOT_POSITIVE = 24,      /* NRTL */
     ZEKTONK_RESULT_NOT_FINITE = 25,       /* or not positive where it must be */
     ZEKTONK_NOT_BRACKETED = 26,
     ZEKTONK_NOT_CONVERGED = 27,           /* within its limit, or the bracket collapsed */
@@ -225,6 +242,7 @@ enum zektonk_refusal {
                                              mass too */
     ZEKTONK_MOLAR_MASS = 35,              /* not finite and positive, in a book of version 2 or 3 */
     ZEKTONK_FEED_KIND = 36,               /* neither moles nor mass, or mass with a book of version 1 */
+    ZEKTONK_BOOK_MODEL = 37,              /* neither NRTL nor, from version 2 on, Wilson */
     ZEKTONK_BOOK_VERSION = 38             /* block 0 has kind 1 and a version other than 1 to 3 */
 };
 

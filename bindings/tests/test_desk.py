@@ -17,6 +17,7 @@ from support import LIBRARY, ROOT, STILL, InFolder
 
 BOOK = desk.open_yard(str(ROOT / "yard" / "yard.txt")).book
 YARD, SOLVENTS = desk.encode(BOOK), len(BOOK.solvents)
+ALCOHOLS = desk.encode(desk.open_yard(str(ROOT / "yard" / "alcohols.txt")).book)
 COUNT = 150
 
 
@@ -53,10 +54,11 @@ class SameAnswers(unittest.TestCase):
     def test_tasks(self):
         self.assertEqual(self.assert_same(SAMPLE_BOOK, [question.block() for question in NINE.values()]), 0)
 
-    def test_drums_of_the_yard(self):
-        asked = [question.block(rule_of(YARD)) for question in questions(random.Random(1), SOLVENTS)]
-        refused = self.assert_same(YARD, asked)
-        self.assertTrue(COUNT // 10 < refused < COUNT - COUNT // 10, refused)
+    def test_drums_of_both_yards(self):
+        for book, n in ((YARD, SOLVENTS), (ALCOHOLS, 5)):
+            asked = [question.block(rule_of(book)) for question in questions(random.Random(1), n)]
+            refused = self.assert_same(book, asked)
+            self.assertTrue(COUNT // 10 < refused < COUNT - COUNT // 10, refused)
 
     def test_refused_books_and_questions(self):
         block = NINE[7].block()
@@ -98,6 +100,17 @@ class SameAnswers(unittest.TestCase):
             self.assertEqual(found[:63], due[:63])
         unknown = sealed([1, 4] + split(SAMPLE_BOOK)[0][2:]) + SAMPLE_BOOK[512:]
         self.assertEqual(desk.Library(unknown).ask(NINE[7]).head[:3], [9, 0, 38])
+
+    def test_models(self):
+        """37 has task 0, in every version."""
+        for content in (YARD, ALCOHOLS, SAMPLE_BOOK):
+            head, rest = split(content)[0], content[512:]
+            for version, model in ((1, 1), (2, 2), (3, 2**64 - 1)):
+                rule = Rule.RUNNING if version == 3 else Rule.PLAIN
+                blocks = [words[:63] for words in split(rest)]
+                book = b"".join(sealed(words, rule) for words in [[1, version, head[2], model], *blocks])
+                self.assertEqual(self.assert_same(book, [NINE[7].block(rule)]), 1)
+                self.assertEqual(desk.Library(book).ask(NINE[7]).head[:3], [9, 0, 37])
 
     def test_stored_answer(self):
         found = desk.Library(SAMPLE_BOOK).ask_bytes((STILL / "stdin").read_bytes())

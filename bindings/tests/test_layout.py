@@ -24,10 +24,12 @@ def short(tag: str, prefix: str) -> Dict[str, int]:
 
 
 KIND = short("zektonk_kind", "ZEKTONK_KIND_")
+MODELS = short("zektonk_model", "ZEKTONK_MODEL_")
 ANY = short("zektonk_any_word", "ZEKTONK_WORD_")
 BOOK = short("zektonk_book_word", "ZEKTONK_BOOK_WORD_")
 SOLVENT = short("zektonk_solvent_word", "ZEKTONK_SOLVENT_WORD_")
 PAIR = short("zektonk_pair_word", "ZEKTONK_PAIR_WORD_")
+WILSON = short("zektonk_wilson_word", "ZEKTONK_WILSON_WORD_")
 QUESTION = short("zektonk_question_word", "ZEKTONK_QUESTION_WORD_")
 ANSWER = short("zektonk_answer_word", "ZEKTONK_ANSWER_WORD_")
 TRIAL = short("zektonk_trial_word", "ZEKTONK_TRIAL_WORD_")
@@ -71,6 +73,9 @@ class Definitions(unittest.TestCase):
         self.assertEqual(body("versionRight"), f"not ({kind}) || (ltb 0 (w {version}) && leb (w {version}) {last})")
         self.assertEqual(body("headRight"), f"{kind} && ltb 0 (w {n}) && leb (w {n}) {MOST}")
         self.assertEqual(body("hasMasses"), f"leb {mass} version")
+        nrtl, wilson = (f"eqb (w {BOOK['MODEL']}) {number}" for number in MODELS.values())
+        self.assertEqual(body("modelRight"), f"{nrtl} || ({wilson} && leb {mass} (w {version}))")
+        self.assertEqual(body("modelIn"), f"cond ({wilson}) Wilson Nrtl")
         self.assertEqual(body("ruleIn"), f"cond ({kind} && eqb (w {version}) {last}) Running Plain")
 
     def test_solvents(self):
@@ -103,13 +108,17 @@ class Definitions(unittest.TestCase):
         kind = f"eqb (w {ANY['KIND']}) {KIND['PAIR']} && eqb (w {PAIR['I']}) i && eqb (w {PAIR['J']}) j"
         interval, inferred = PAIR["INTERVAL"], PAIR["INFERRED"]
         self.assertEqual(body("pairRight"), f"{kind} && leb (w {interval}) 1 && leb (w {inferred}) 1")
-        there, back = (rf"\(\w+ \(w \(pairPlace n {pair}\)\) \(?{{}}\b" for pair in ("i j", "j i"))
-        taus = rf"ltb i j\) {there.format(PAIR['TAU_IJ'])}.*ltb j i\) {back.format(PAIR['TAU_JI'])}"
-        self.assertRegex(first("parameter", "tauWord"), taus)
-        self.assertIn(f"floatsFinite w {PAIR['TAU_IJ']} {PAIR['INTERVAL'] - PAIR['TAU_IJ']}", body("pairFinite"))
+        there, back = (f"(pairTerm m (w (pairPlace n {pair})) {{}} k)" for pair in ("i j", "j i"))
+        taken = f"cond (ltb i j) {there.format(PAIR['TAU_IJ'])} (cond (ltb j i) {back.format('(lowerFrom m)')} 0f)"
+        self.assertEqual(body("parameter"), taken)
+        self.assertEqual(cases("lowerFrom"), {"Nrtl": PAIR["TAU_JI"], "Wilson": WILSON["A_JI"]})
+        self.assertEqual(PAIR["TAU_IJ"], WILSON["A_IJ"])
+        nrtl = f"parametersFinite Nrtl w = floatsFinite w {PAIR['TAU_IJ']} {PAIR['INTERVAL'] - PAIR['TAU_IJ']}"
+        wilson = f"parametersFinite Wilson w = floatsFinite w {WILSON['A_IJ']} {len(WILSON)}"
+        self.assertIn(f"{nrtl} {wilson}", stated("parametersFinite"))
         a, b = PAIR["ALPHA_IJ"], PAIR["ALPHA_JI"]
         both = f"eq (float w {a}) (float w {b}) && eq (float w {a + 1}) (float w {b + 1})"
-        self.assertEqual(body("alphasEqual"), both)
+        self.assertIn(f"alphasEqual Nrtl w = {both} alphasEqual Wilson w = true", stated("alphasEqual"))
         bounds = f"(float w {PAIR['LOW']}) (float w {PAIR['HIGH']})"
         stated_interval = f"Interval {bounds} (not (eqb (w {inferred}) 0))"
         self.assertEqual(body("regressionOf"), f"cond (eqb (w {interval}) 0) None ({stated_interval})")
@@ -190,7 +199,7 @@ class Definitions(unittest.TestCase):
             self.assertEqual(numbers_of(question), {REFUSAL[name]}, name)
         self.assertEqual({number for _, number in spent()}, {REFUSAL["NOT_CONVERGED"]})
         self.assertEqual(set(REFUSAL) - set(QUESTIONS), {"ANSWERED", "NOT_CONVERGED"})
-        self.assertEqual(sorted(REFUSAL.values()), [*range(31), 34, 35, 36, 38])
+        self.assertEqual(sorted(REFUSAL.values()), [*range(31), *range(34, 39)])
         self.assertIn(f"numberOf (ok bs) = {REFUSAL['ANSWERED']}", stated("sheet::numberOf"))
 
 
@@ -245,6 +254,7 @@ QUESTIONS = {
     "NOT_NORMALIZABLE": r"(?:lt 0f|positive) \(sumTo x n\)",
     "MOLAR_MASS": r"massesRight",
     "FEED_KIND": r"kindRight",
+    "BOOK_MODEL": r"modelRight",
     "BOOK_VERSION": r"versionRight",
 }
 
@@ -264,12 +274,13 @@ class Page(unittest.TestCase):
 
     def test_words_stand_in_a_row(self):
         """Each block's words begin where those before them end; only the two names of task 1 stand twice."""
-        lasts = {"BOOK": 2, "SOLVENT": 45, "PAIR": 18, "QUESTION": 27, "ANSWER": 37, "TRIAL": 12}
+        lasts = {"BOOK": 3, "SOLVENT": 45, "PAIR": 18, "QUESTION": 27, "ANSWER": 37, "TRIAL": 12}
         for block, last in lasts.items():
             names = [name for name in page() if name.startswith(f"ZEKTONK_{block}_WORD_")]
             names = [name for name in names if not name.endswith(("_LN_GAMMA", "_SLOPES"))]
             words = [word for name in names for word in span(page()[name])]
             self.assertEqual(words, list(range(1, last + 1)), block)
+        self.assertEqual(list(WILSON.values()), list(range(PAIR["TAU_IJ"], PAIR["TAU_JI"])))
 
 
 class Desk(unittest.TestCase):
@@ -298,6 +309,10 @@ class Desk(unittest.TestCase):
         for name in ("TAU_IJ", "TAU_JI", "ALPHA_IJ", "ALPHA_JI", "INTERVAL", "LOW", "INFERRED"):
             there = {"INTERVAL": "FLAG", "LOW": "BOUNDS"}.get(name, name)
             self.assertEqual(getattr(book, there), PAIR[name], name)
+        for name, word in WILSON.items():
+            self.assertEqual(getattr(book, name), word, name)
+        self.assertEqual(book.MODEL, BOOK["MODEL"])
+        self.assertEqual({model.name: model.value for model in book.Model}, MODELS)
 
     def test_question(self):
         for name, word in QUESTION.items():

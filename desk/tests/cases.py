@@ -6,11 +6,13 @@ from typing import Iterable, List
 
 from desk import tasks
 from desk.blocks import Rule
-from desk.book import RUNNING_VERSION, VERSION, Book, Correlation, Interval, Pair, Solvent, due_pairs
+from desk.book import (
+    RUNNING_VERSION, VERSION, Book, Correlation, Interval, Model, Pair, Solvent, WilsonPair, due_pairs
+)
 from desk.openbook import open_yard
 from desk.question import Options, Question, eight
 
-from .support import SAMPLE, YARD
+from .support import ALCOHOLS, SAMPLE, YARD
 
 TINY, HUGE = 5e-324, 1.7976931348623157e308
 
@@ -21,6 +23,18 @@ def books() -> List[Book]:
     rng = random.Random(7)
     plain = [_book(rng, n) for n in range(1, 9)]
     return [open_yard(str(path)).book for path in (SAMPLE, YARD)] + plain + [_weighed(rng, book) for book in plain]
+
+
+def wilson_books() -> List[Book]:
+    """The alcohol yard, and books of 1 to 8 solvents with floats from all over the range."""
+    rng = random.Random(23)
+    weighed = [book for book in books() if book.version != VERSION]
+    return [open_yard(str(ALCOHOLS)).book] + [_as_wilson(rng, book) for book in weighed]
+
+
+def _as_wilson(rng: random.Random, book: Book) -> Book:
+    pairs = (WilsonPair(floats(rng, 2), floats(rng, 2), pair.interval) for pair in book.pairs)
+    return replace(book, pairs=tuple(pairs), model=Model.WILSON)
 
 
 def questions() -> List[Question]:
@@ -46,7 +60,7 @@ def _float(rng: random.Random) -> float:
     )
 
 
-def _floats(rng: random.Random, count: int):
+def floats(rng: random.Random, count: int):
     return tuple(_float(rng) for _ in range(count))
 
 
@@ -72,21 +86,22 @@ def _weighed(rng: random.Random, book: Book) -> Book:
 
 def _pair(rng: random.Random) -> Pair:
     interval = rng.choice((None, Interval(_float(rng), _float(rng), True), Interval(300.0, 400.0, False)))
-    return Pair(_floats(rng, 4), _floats(rng, 4), _floats(rng, 2), interval)
+    return Pair(floats(rng, 4), floats(rng, 4), floats(rng, 2), interval)
 
 
 def _question(rng: random.Random, task: tasks.Task) -> Question:
     n = rng.randint(1, 8)
     limits = rng.choice((0, 1, 500, 10**6, 2**64 - 1))
     options = Options(limits, _float(rng), limits, _float(rng), _float(rng), (_float(rng), _float(rng)))
-    k_values = _floats(rng, n) if task.takes_k else None
-    return Question(task, _floats(rng, n), _float(rng), _float(rng), k_values, options)
+    k_values = floats(rng, n) if task.takes_k else None
+    return Question(task, floats(rng, n), _float(rng), _float(rng), k_values, options)
 
 
 def book_line(book: Book, version: int) -> str:
     with_masses = version != VERSION
     numbers: List[object] = ["running"] if version == RUNNING_VERSION else []
-    numbers += ["massbook" if with_masses else "book", len(book.solvents)]
+    wilson = book.model is Model.WILSON
+    numbers += ["wilsonbook" if wilson else "massbook" if with_masses else "book", len(book.solvents)]
     for solvent in book.solvents:
         numbers += [solvent.cas, solvent.molar_mass] if with_masses else [solvent.cas]
         for record in (solvent.vapor_pressure, solvent.density):
@@ -95,7 +110,8 @@ def book_line(book: Book, version: int) -> str:
     for pair in book.pairs:
         interval = pair.interval
         bounds = [1, interval.low, interval.high, int(interval.inferred)] if interval else [0, 0.0, 0.0, 0]
-        numbers += [*pair.tau_ij, *pair.tau_ji, *pair.alpha, *bounds]
+        numbers += [*pair.ij, *pair.ji] if wilson else [*pair.tau_ij, *pair.tau_ji, *pair.alpha]
+        numbers += bounds
     return _line(numbers)
 
 

@@ -18,6 +18,7 @@ ROOT = Path(__file__).resolve().parent.parent.parent
 GOLDEN = Path(__file__).resolve().parent / "golden"
 SHEET = ROOT / "sheet"
 YARD = ROOT / "yard" / "yard.txt"
+ALCOHOLS = ROOT / "yard" / "alcohols.txt"
 SAMPLE = ROOT / "yard" / "sample.txt"
 STORE = os.environ.get("DESK_STORE") == "yes"  # scripts/desk-tests --store
 os.environ["SOURCE_DATE_EPOCH"] = "1794821400"  # every sheet of the tests is of 2026-11-16 09:30

@@ -24,8 +24,10 @@ REFERENCE = ROOT / "reference"
 
 
 def books_by_version() -> List[Tuple[books.Book, int]]:
-    """Each in version 1, and in all others that it has the numbers for."""
-    return [(book, version) for version in books.VERSIONS for book in cases.books() if version <= book.version]
+    """Each in version 1, and in all others that it has the numbers for; Wilson books in 2 and 3 by turns."""
+    plain = [(book, version) for version in books.VERSIONS for book in cases.books() if version <= book.version]
+    turns = (books.RUNNING_VERSION, books.MASS_VERSION)
+    return plain + [(book, turns[place % 2]) for place, book in enumerate(cases.wilson_books())]
 
 
 def questions_by_rule() -> List[Tuple[Question, Rule]]:

@@ -6,7 +6,7 @@ import shlex
 from .support import ROOT, InFolder, sheet
 
 GUIDE, README = ROOT / "docs" / "GUIDE.md", ROOT / "README.md"
-PICTURES = ("ethanol-water.svg", "toluene-water.svg")
+PICTURES = ("ethanol-water.svg", "toluene-water.svg", "2-propanol-water.svg")
 BLOCK = re.compile(r"^```\n\$ \./sheet (.*)\n((?:.*\n)*?)```$", re.MULTILINE)
 
 

@@ -170,13 +170,14 @@ class Texts(InFolder):
     def test_book_command(self):
         yard = open_yard(str(YARD)).book
         run = sheet("book", str(YARD), "-o", "0.bin", cwd=self.folder)
-        self.assertIn("6 solvents, 15 pairs, 11264 bytes, version 3, SHA-256", run.out)
+        self.assertIn("6 solvents, 15 pairs, NRTL, 11264 bytes, version 3, SHA-256", run.out)
         self.assertEqual((self.folder / "0.bin").read_bytes(), books.encode(yard, 3))
         for version in (1, 2, 3):
             run = sheet("book", str(YARD), "-o", "1.bin", "--book-version", str(version), cwd=self.folder)
             self.assertIn(f"bytes, version {version}, SHA-256", run.out)
             self.assertEqual((self.folder / "1.bin").read_bytes(), books.encode(yard, version))
-            self.assertIn(f"6 solvents, a book of version {version}\n", sheet("show", "1.bin", cwd=self.folder).out)
+            words = f"6 solvents, a book of version {version}, NRTL\n"
+            self.assertIn(words, sheet("show", "1.bin", cwd=self.folder).out)
         lacking = self.file("yard.txt", without("methanol", "toluene"))
         run = sheet("book", lacking, "-o", "3.bin", cwd=self.folder)
         self.assertIn("version 1 (no molar mass of methanol, toluene), SHA-256", run.out)
@@ -191,10 +192,10 @@ class Texts(InFolder):
 
     def test_show(self):
         out = sheet("show", str(YARD)).out
-        self.assertIn("6 solvents, a book of version 3\n", out)
+        self.assertIn("6 solvents, a book of version 3, NRTL\n", out)
         self.assertRegex(out, r"  ethanol +64-17-5 +46.06844 +273.15 to 510")
         self.assertIn("IUPAC", out)
-        self.assertIn("a book of version 1\n", sheet("show", str(STORED)).out)
+        self.assertIn("a book of version 1, NRTL\n", sheet("show", str(STORED)).out)
         self.assertRegex(sheet("show", str(STORED)).out, r"64-17-5 +none +")
 
 

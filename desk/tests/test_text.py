@@ -83,6 +83,8 @@ BAD = (
     ("[solvent a]", "cas = 1\n[solvent a]", "before the first heading"),
     ("cas = 64-17-5", "cas = 64-17-5\nboiling point = 350 K at 1 bar within 0.5 C", "is not 'T at P within D K'"),
     ("inferred = yes", "inferred = yes\nazeotrope = c 0.5, 350 K at 1 bar", "is not 'NAME x, T at P'"),
+    ("inferred = yes", "inferred = yes\nazeotrope = a 0.5, 350 K at 1 bar within 0.02", "'0.02' is not 'D K and d'"),
+    ("inferred = yes", "inferred = yes\nazeotrope = a 0.5, 350 K at 1 bar within 1 K and much", "is not a number"),
     ("[solvent a]", "[solvent a_b,c]", "can't be a name"),
     ("[solvent a]", "[solvent 64-17-5]", "can't be a name"),
     (SMALL[SMALL.index("[pair") :], "", "[pair a b] is missing"),

@@ -97,7 +97,7 @@ BAD = {
         "diagram", "txy", "--pair", "ethanol,water", "--pressure", "1bar", "--unit", "bar", "-o", "a.svg"
     ),
     "no folder": ("diagram", "xy", "--pair", "ethanol,water", "--pressure", "1bar", "-o", "nowhere/a.svg"),
-    "31 is no refusal number; they are 1 to 30, 34 to 36 and 38": ("refusals", "31"),
+    "31 is no refusal number; they are 1 to 30 and 34 to 38": ("refusals", "31"),
     "no 'boiling point'": ("check-yard", "--book", str(ROOT / "yard" / "sample.txt")),
     "./sheet strike --help": ("strike", "bogus"),
 }

@@ -26,7 +26,7 @@ class PlainSheet(InFolder):
         for row in (
             "Label    drum 17",
             "Date     2026-11-16 09:30",
-            f"Book     yard/yard.txt, 6 solvents, SHA-256 {digest[:12]}",
+            f"Book     yard/yard.txt, 6 solvents, NRTL, SHA-256 {digest[:12]}",
         ):
             self.assertIn(f"  {row}\n", run.out)
         found = json.loads(sheet(*FLASH, "--label", "drum 17", "--json").out)

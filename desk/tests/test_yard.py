@@ -63,6 +63,19 @@ class SampleYard(InFolder):
         self.assertEqual(run.status, 1)
         self.assertEqual(run.out.count("NO"), 3)
 
+    def test_limits_of_an_azeotrope(self):
+        """A text's own; acetone and methanol are 0.0028 off."""
+        text, known = YARD.read_text(encoding="utf-8"), "acetone 0.79, 328.5 K at 101325 Pa"
+        self.assertIn(known, text)
+        for limits, status, words in (
+            ("0.5 K and 0.002", 1, "NO, within 0.5 K and 0.002"),
+            ("0.01 K and 0.5", 1, "NO, within 0.01 K and 0.5"),
+            ("0.5 K and 0.003", 0, "yes, within 0.5 K and 0.003"),
+        ):
+            book = self.file("yard.txt", text.replace(known, f"{known} within {limits}"))
+            run = sheet("check-yard", "--book", book)
+            self.assertEqual((run.status, words in run.out), (status, True), run.out)
+
     def test_tables_of_the_document(self):
         self.assertIn(markdown(self.findings), (ROOT / "docs" / "YARD.md").read_text(encoding="utf-8"))
 

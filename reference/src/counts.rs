@@ -5,6 +5,7 @@ use std::collections::BTreeMap;
 use crate::generate::cases::{Cases, Kind};
 use crate::generate::exchanged::{Exchange, PLACES};
 use crate::sheet::blocks::{rule_of, words_of, Rule, BLOCK};
+use crate::sheet::book::WILSON;
 use crate::sheet::question::{BASIS, BY_MASS, FRACTIONS, TASK};
 use crate::stage::{Case, Stage};
 
@@ -52,7 +53,8 @@ impl Tally {
     }
 }
 
-/// Counts of all sheets, of the realistic ones, of those with nothing damaged or beside an edge, and of those by mass, by task.
+/// Counts of all sheets, of the realistic ones, of those with nothing damaged or beside an edge, of those by mass, and of those of
+/// Wilson books, by task.
 #[derive(Debug, Default)]
 pub struct SheetCounts {
     all: BTreeMap<u64, Tally>,
@@ -60,6 +62,7 @@ pub struct SheetCounts {
     ordinary: BTreeMap<u64, usize>,
     /// Feeds by mass on books that have molar masses.
     by_mass: BTreeMap<u64, Tally>,
+    wilson: BTreeMap<u64, Tally>,
 }
 
 impl SheetCounts {
@@ -75,6 +78,9 @@ impl SheetCounts {
         }
         if words[BASIS] == BY_MASS && matches!(version(book), Some(2 | 3)) {
             tallies.push(self.by_mass.entry(task).or_default());
+        }
+        if is_wilson(book) {
+            tallies.push(self.wilson.entry(task).or_default());
         }
         for tally in tallies {
             tally.add(refusal);
@@ -97,18 +103,30 @@ impl SheetCounts {
                 tally.refused()
             );
         }
-        let mut sum = Tally::default();
-        for (task, tally) in &self.by_mass {
-            print_by_mass(&format!("task {task} by mass"), tally);
-            sum.join(tally);
-        }
-        if sum.all() > 0 {
-            print_by_mass("by mass", &sum);
+        print_part("by mass", &self.by_mass);
+        print_part("of Wilson books", &self.wilson);
+        if !self.wilson.is_empty() {
+            print_tally("of Wilson books, tasks 1 to 7", &joined(self.wilson.range(1..=7)));
         }
     }
 }
 
-fn print_by_mass(what: &str, tally: &Tally) {
+fn joined<'a>(tallies: impl IntoIterator<Item = (&'a u64, &'a Tally)>) -> Tally {
+    let mut sum = Tally::default();
+    tallies.into_iter().for_each(|(_, tally)| sum.join(tally));
+    sum
+}
+
+fn print_part(what: &str, tallies: &BTreeMap<u64, Tally>) {
+    for (task, tally) in tallies {
+        print_tally(&format!("task {task} {what}"), tally);
+    }
+    if !tallies.is_empty() {
+        print_tally(what, &joined(tallies));
+    }
+}
+
+fn print_tally(what: &str, tally: &Tally) {
     println!(
         "{what}: {} asked, {} accepted, {} with absent solvents, refused {}",
         tally.all(),
@@ -156,7 +174,7 @@ impl Exchanges {
             Some(Exchange::Question { .. }) => {
                 self.questions.add(number);
                 // The book, or its answer slice, may have been refused first.
-                matches!(number, 4..=11 | 35)
+                matches!(number, 4..=11 | 35 | 37)
             }
         };
         self.let_through += usize::from(!refused);
@@ -196,6 +214,11 @@ fn task_of(question: &[u8]) -> u64 {
 
 fn version(book: &[u8]) -> Option<u64> {
     book.get(..BLOCK).map(|head| words_of(head)[1])
+}
+
+/// Of a version that has the model.
+fn is_wilson(book: &[u8]) -> bool {
+    book.get(..BLOCK).is_some_and(|head| matches!(words_of(head)[1..4], [2 | 3, _, WILSON]))
 }
 
 fn has_absent(question: &[u64; 64], n: usize) -> bool {

@@ -12,6 +12,7 @@ pub mod questions;
 pub mod rice;
 pub mod small;
 pub mod vanish;
+pub mod wilson;
 
 use crate::helpers;
 

@@ -53,9 +53,9 @@ pub fn program_output(book: &[u8], question: &[u8]) -> Vec<u8> {
     blocks.iter().flat_map(bytes_of).collect()
 }
 
-/// Words 0, 1, 2 and the check; task 0 for numbers 1 to 12, 35 and 38.
+/// Words 0, 1, 2 and the check; task 0 for numbers 1 to 12, 35, 37 and 38.
 fn refusal_block(book: &[u8], question: &[u8], number: u32) -> Words {
-    let task = if number <= 12 || number == 35 || number == 38 { 0 } else { blocks::words_of(question)[1] };
+    let task = if matches!(number, 0..=12 | 35 | 37 | 38) { 0 } else { blocks::words_of(question)[1] };
     let mut words = [0; 64];
     words[..3].copy_from_slice(&[9, task, number.into()]);
     seal(&mut words, rule_of(book));

@@ -7,7 +7,7 @@ use crate::named::liquid::Correlation;
 use crate::named::rachford_rice::{rachford_rice, rachford_rice_negative, RachfordRiceOutcome, RachfordRiceSolution};
 use crate::rattle;
 use crate::sheet::blocks::Rule;
-use crate::sheet::book::Solvent;
+use crate::sheet::book::{Pairs, Solvent};
 use crate::sheet::{self, open_book, Book};
 use crate::types::Temperature;
 
@@ -24,9 +24,11 @@ pub enum Stage {
     Mass,
     /// Sheets of version 3 books.
     Exchanged,
+    /// Sheets of Wilson books.
+    Wilson,
 }
 
-pub const STAGES: [Stage; 9] = [
+pub const STAGES: [Stage; 10] = [
     Stage::Numbers,
     Stage::Fractions,
     Stage::Book,
@@ -36,6 +38,7 @@ pub const STAGES: [Stage; 9] = [
     Stage::Sheet,
     Stage::Mass,
     Stage::Exchanged,
+    Stage::Wilson,
 ];
 
 impl Stage {
@@ -50,6 +53,7 @@ impl Stage {
             Stage::Sheet => "sheet",
             Stage::Mass => "mass",
             Stage::Exchanged => "exchanged",
+            Stage::Wilson => "wilson",
         }
     }
 
@@ -72,11 +76,12 @@ impl Stage {
             Stage::Sheet => cfg!(feature = "sheet"),
             Stage::Mass => cfg!(feature = "mass"),
             Stage::Exchanged => cfg!(feature = "exchanged"),
+            Stage::Wilson => cfg!(feature = "wilson"),
         }
     }
 
     pub fn has_sheets(self) -> bool {
-        matches!(self, Stage::Sheet | Stage::Mass | Stage::Exchanged)
+        matches!(self, Stage::Sheet | Stage::Mass | Stage::Exchanged | Stage::Wilson)
     }
 }
 
@@ -398,7 +403,7 @@ fn fractions(x: &[f64]) -> u32 {
         rule: Rule::Plain,
         solvents: (0..x.len()).map(solvent).collect(),
         molar_masses: None,
-        pairs: Vec::new(),
+        pairs: Pairs::Nrtl(Vec::new()),
     };
     book.model().with_fractions(x).map_or_else(|error| error.number(), |_| 0)
 }
@@ -416,7 +421,7 @@ fn vapor_pressure(book: &[u8], i: usize, t: f64) -> Result<[f64; 4], u32> {
     Ok([found.pressure, found.ln_pressure, found.d_ln_pressure_dt, found.d2_ln_pressure_dt2])
 }
 
-/// 1 to 9; then 13, 15, 16, 18, 24, 25 as `excess` has them.
+/// 1 to 9, 35, 37 and 38; then 13, 15, 16, 18, 24, 25 as `excess` has them.
 fn excess(book: &[u8], t: f64, x: &[f64; 8]) -> Result<[f64; 23], u32> {
     let book = open_book(book)?;
     let n = book.solvents.len();

@@ -102,7 +102,7 @@ fn every_exchange_is_refused() {
     let mut blocks = third(3);
     // Anything where nothing is read.
     for (at, words) in blocks.iter_mut().enumerate() {
-        let from = [3, 46, 46, 46, 19, 19, 19][at];
+        let from = [4, 46, 46, 46, 19, 19, 19][at];
         words[from..63].iter_mut().for_each(|word| *word = rng.bits());
     }
     let question = ask(2, &[0.3, 0.3, 0.4]).word(BASIS, BY_MOLES);

@@ -5,6 +5,7 @@ mod common;
 use common::{answer, blocks, book, bytes, call, float, floats, Ask};
 use reference::generate::mass::entered;
 use reference::generate::small::sealed_by;
+use reference::generate::wilson;
 use reference::helpers;
 use reference::sheet::blocks::{check_of, words_of, Rule};
 use reference::sheet::program_output;
@@ -99,6 +100,33 @@ fn q_r_s_running_sums() {
     assert_eq!(sent(3, Rule::Plain)[..3], [9, 0, 11]);
     let words = sent(4, Rule::Plain);
     assert_eq!([words[0], words[1], words[2], words[63]], [9, 0, 38, 9 + 38]);
+}
+
+/// The Gibbs energy is −0, the negated sum.
+#[test]
+fn t_wilson_one_solvent() {
+    let words = answer(&bytes(&wilson::entered(&[0.5], [0.0; 4])), Ask::new(1, &[1.0]).at(300.0));
+    assert_eq!([words[4], words[14], words[22]], [300f64.to_bits(), 0, 0]);
+    assert_eq!(words[30..32], [1 << 63; 2]);
+    assert_eq!(floats(&words, 30, 5), [0.0; 5]);
+}
+
+#[test]
+fn u_wilson_ideal_mixture() {
+    let words = answer(&bytes(&wilson::entered(&[0.5, 0.5], [0.0; 4])), halves(1).at(300.0));
+    assert_eq!(words[14..16], [0, 0]);
+    assert_eq!(words[30..32], [1 << 63; 2]);
+    assert_eq!(floats(&words, 30, 5), [0.0; 5]);
+}
+
+#[test]
+fn v_wilson_in_version_1() {
+    let mut blocks = blocks(&[4e6], [0.0, 0.0]);
+    blocks[0][3] = 1;
+    let ask = Ask::new(1, &[1.0]).at(300.0);
+    assert_eq!(call(&bytes(&blocks), ask), Err(37));
+    let words = words_of(&program_output(&bytes(&blocks), &ask.bytes()));
+    assert_eq!([words[0], words[1], words[2], words[63]], [9, 0, 37, 9 + 37]);
 }
 
 #[test]

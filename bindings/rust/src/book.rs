@@ -8,7 +8,7 @@ use crate::format::solvent::{
     CAS, DENSITY_T_R, INDEX, MOLAR_MASS, VAPOR_EXPONENT, VAPOR_HIGH, VAPOR_LOW, VAPOR_N, VAPOR_REDUCING, VAPOR_TERMS,
     VAPOR_T_R,
 };
-use crate::format::{self, kind, pair};
+use crate::format::{self, kind, model, pair, wilson};
 use crate::UpToEight;
 
 /// Bytes of the largest book: eight solvents and their 28 pairs.
@@ -71,6 +71,13 @@ impl Book<'_> {
         VERSIONS.contains(&version).then_some(version)
     }
 
+    /// The model that block 0 says, if the version that it says has it; the core refuses the others with 37.
+    #[must_use]
+    pub fn model(&self) -> Option<Model> {
+        let version = self.version()?;
+        Model::of_number(self.block(0)?.word(format::book::MODEL)).filter(|model| model.is_of(version))
+    }
+
     /// By which rule the core checks the blocks of a call with this book: running sums where it is of whole blocks and
     /// block 0 is of kind 1 and version 3.
     #[must_use]
@@ -88,6 +95,37 @@ impl Book<'_> {
     pub fn solvents(&self) -> Option<usize> {
         let n = usize::try_from(self.block(0)?.word(format::book::SOLVENTS)).ok()?;
         (1..=8).contains(&n).then_some(n)
+    }
+}
+
+/// By which equation the liquid's activity coefficients come about.
+#[derive(Debug, Clone, Copy, PartialEq, Eq, Hash, Default)]
+#[non_exhaustive]
+pub enum Model {
+    /// Renon and Prausnitz 1968, with a [`Pair`] for each two solvents.
+    #[default]
+    Nrtl,
+    /// Wilson 1964, with a [`WilsonPair`] for each two solvents, in a book with molar masses.
+    Wilson,
+}
+
+impl Model {
+    /// Word 3 of block 0.
+    #[must_use]
+    pub fn number(self) -> u64 {
+        match self {
+            Self::Nrtl => model::NRTL,
+            Self::Wilson => model::WILSON,
+        }
+    }
+
+    fn of_number(number: u64) -> Option<Self> {
+        [Self::Nrtl, Self::Wilson].into_iter().find(|model| model.number() == number)
+    }
+
+    /// Version 1 has NRTL alone.
+    fn is_of(self, version: u64) -> bool {
+        self == Self::Nrtl || version != format::VERSION
     }
 }
 
@@ -184,20 +222,63 @@ pub struct Pair {
 
 impl Pair {
     fn words(&self, i: usize, j: usize) -> Words {
-        let words = Words::new(kind::PAIR)
-            .word(pair::I, i as u64)
-            .word(pair::J, j as u64)
+        pair_words(i, j, self.interval)
             .floats(pair::TAU_IJ, &self.tau_ij)
             .floats(pair::TAU_JI, &self.tau_ji)
             .floats(pair::ALPHA_IJ, &self.alpha)
-            .floats(pair::ALPHA_JI, &self.alpha);
-        match self.interval {
-            None => words,
-            Some(Interval { low, high, inferred }) => words
-                .word(pair::INTERVAL, 1)
-                .float(pair::LOW, low)
-                .float(pair::HIGH, high)
-                .word(pair::INFERRED, inferred.into()),
+            .floats(pair::ALPHA_JI, &self.alpha)
+    }
+}
+
+/// Wilson parameters of two solvents i < j; T in K. From energies and molar volumes a_ij = ln(V_j/V_i) and
+/// b_ij = −(λ_ij − λ_ii)/R.
+#[derive(Debug, Clone, Copy, PartialEq)]
+pub struct WilsonPair {
+    /// a and b of Λ_ij = exp(a + b/T).
+    pub ij: [f64; 2],
+    /// a and b of Λ_ji.
+    pub ji: [f64; 2],
+    /// The regression interval, if there is one.
+    pub interval: Option<Interval>,
+}
+
+impl WilsonPair {
+    fn words(&self, i: usize, j: usize) -> Words {
+        pair_words(i, j, self.interval).floats(wilson::A_IJ, &self.ij).floats(wilson::A_JI, &self.ji)
+    }
+}
+
+/// What pairs of both models have.
+fn pair_words(i: usize, j: usize, interval: Option<Interval>) -> Words {
+    let words = Words::new(kind::PAIR).word(pair::I, i as u64).word(pair::J, j as u64);
+    match interval {
+        None => words,
+        Some(Interval { low, high, inferred }) => words
+            .word(pair::INTERVAL, 1)
+            .float(pair::LOW, low)
+            .float(pair::HIGH, high)
+            .word(pair::INFERRED, inferred.into()),
+    }
+}
+
+#[derive(Debug, Clone, Copy)]
+enum AnyPair {
+    Nrtl(Pair),
+    Wilson(WilsonPair),
+}
+
+impl AnyPair {
+    fn model(&self) -> Model {
+        match self {
+            Self::Nrtl(_) => Model::Nrtl,
+            Self::Wilson(_) => Model::Wilson,
+        }
+    }
+
+    fn words(&self, i: usize, j: usize) -> Words {
+        match self {
+            Self::Nrtl(pair) => pair.words(i, j),
+            Self::Wilson(pair) => pair.words(i, j),
         }
     }
 }
@@ -205,7 +286,7 @@ impl Pair {
 /// A book in the making.
 ///
 /// ```
-/// use zektonk::{Book, Correlation, Incomplete, Pair, Solvent};
+/// use zektonk::{Book, Correlation, Incomplete, Model, Pair, Solvent, WilsonPair};
 ///
 /// let terms = [(-7.0, 1.0).into()].into();
 /// let record = Correlation { t_r: 600.0, reducing_value: 1e6, range: [250.0, 500.0], terms };
@@ -223,13 +304,20 @@ impl Pair {
 /// assert_eq!(alone.build()?.version(), Some(3));
 /// // For a desk that knows no later version.
 /// assert_eq!(alone.version(2).build()?.version(), Some(2));
+///
+/// // Wilson in place of NRTL.
+/// let wilson = Book::builder().model(Model::Wilson).solvent(solvent(64_175)).solvent(solvent(7_732_185));
+/// let pair = WilsonPair { ij: [-1.178, -162.5], ji: [1.178, -473.5], interval: None };
+/// let book = wilson.molar_masses([0.04606844, 0.01801528]).wilson_pair(0, 1, pair).build()?;
+/// assert_eq!(book.model(), Some(Model::Wilson));
 /// # Ok::<(), Incomplete>(())
 /// ```
 #[derive(Debug, Clone, Default)]
 #[must_use = "a builder makes a book by `build`"]
 pub struct Builder {
     solvents: Vec<Solvent>,
-    pairs: Vec<(usize, usize, Pair)>,
+    model: Model,
+    pairs: Vec<(usize, usize, AnyPair)>,
     molar_masses: Option<UpToEight<f64>>,
     version: Option<u64>,
 }
@@ -250,6 +338,10 @@ pub enum Incomplete {
     MolarMasses(usize),
     /// A version that is none, or one with molar masses, where there are none.
     Version(u64),
+    /// A model other than NRTL in version 1, which is the only one without molar masses.
+    ModelVersion,
+    /// A pair that is of another model than the book.
+    PairModel(usize, usize),
 }
 
 impl fmt::Display for Incomplete {
@@ -261,6 +353,8 @@ impl fmt::Display for Incomplete {
             Self::PairMissing(i, j) => write!(f, "pair ({i}, {j}) is missing"),
             Self::MolarMasses(count) => write!(f, "{count} molar masses where each solvent has one, or none has"),
             Self::Version(version) => write!(f, "version {version} where there is 1, and 2 and 3 with molar masses"),
+            Self::ModelVersion => f.write_str("version 1 has NRTL alone; others need molar masses and version 2 or 3"),
+            Self::PairModel(i, j) => write!(f, "pair ({i}, {j}) is of another model than the book"),
         }
     }
 }
@@ -274,9 +368,21 @@ impl Builder {
         self
     }
 
-    /// The pair of solvents i < j. Pairs may come in any order.
+    /// The model, NRTL where none is given.
+    pub fn model(mut self, model: Model) -> Self {
+        self.model = model;
+        self
+    }
+
+    /// The pair of solvents i < j of an NRTL book. Pairs may come in any order.
     pub fn pair(mut self, i: usize, j: usize, pair: Pair) -> Self {
-        self.pairs.push((i, j, pair));
+        self.pairs.push((i, j, AnyPair::Nrtl(pair)));
+        self
+    }
+
+    /// The pair of solvents i < j of a Wilson book.
+    pub fn wilson_pair(mut self, i: usize, j: usize, pair: WilsonPair) -> Self {
+        self.pairs.push((i, j, AnyPair::Wilson(pair)));
         self
     }
 
@@ -297,8 +403,9 @@ impl Builder {
     ///
     /// # Errors
     ///
-    /// [`Incomplete`] where there are not 1 to 8 solvents, a pair is missing, given twice or of no two solvents, molar
-    /// masses are not as many as the solvents, or the version is none that these can have.
+    /// [`Incomplete`] where there are not 1 to 8 solvents, a pair is missing, given twice, of no two solvents or of
+    /// another model, molar masses are not as many as the solvents, or the version is none that these and the model can
+    /// have.
     pub fn build(&self) -> Result<Book<'static>, Incomplete> {
         let n = self.solvents.len();
         if !(1..=8).contains(&n) {
@@ -306,6 +413,9 @@ impl Builder {
         }
         if let Some((i, j, _)) = self.pairs.iter().find(|(i, j, _)| i >= j || *j >= n) {
             return Err(Incomplete::PairPlaces(*i, *j));
+        }
+        if let Some((i, j, _)) = self.pairs.iter().find(|(_, _, pair)| pair.model() != self.model) {
+            return Err(Incomplete::PairModel(*i, *j));
         }
         let latest = match &self.molar_masses {
             None => format::VERSION,
@@ -316,8 +426,14 @@ impl Builder {
         if !(format::VERSION..=latest).contains(&version) {
             return Err(Incomplete::Version(version));
         }
+        if !self.model.is_of(version) {
+            return Err(Incomplete::ModelVersion);
+        }
         let molar_masses = self.molar_masses.filter(|_| version != format::VERSION);
-        let head = Words::new(kind::BOOK).word(format::book::VERSION, version).word(format::book::SOLVENTS, n as u64);
+        let head = Words::new(kind::BOOK)
+            .word(format::book::VERSION, version)
+            .word(format::book::SOLVENTS, n as u64)
+            .word(format::book::MODEL, self.model.number());
         let mut blocks = vec![head];
         for (index, solvent) in self.solvents.iter().enumerate() {
             blocks.push(solvent.words(index, molar_masses.map(|masses| masses[index])));
@@ -329,7 +445,7 @@ impl Builder {
         Ok(Book::from(blocks.into_iter().flat_map(|words| words.seal_by(rule)).collect::<Vec<u8>>()))
     }
 
-    fn due(&self, i: usize, j: usize) -> Result<&Pair, Incomplete> {
+    fn due(&self, i: usize, j: usize) -> Result<&AnyPair, Incomplete> {
         let mut found = self.pairs.iter().filter(|(a, b, _)| (*a, *b) == (i, j));
         match (found.next(), found.next()) {
             (None, _) => Err(Incomplete::PairMissing(i, j)),
@@ -429,6 +545,42 @@ mod tests {
         assert_eq!(floats, [1.0, 2.0, 3.0, 4.0, 5.0, 6.0, 7.0, 8.0, 9.0, 10.0, 9.0, 10.0, 300.0, 350.0]);
         let bytes = Pair { interval: None, ..with }.words(2, 5).seal();
         assert!((15..63).all(|at| Block::new(&bytes).word(at) == 0));
+    }
+
+    #[test]
+    fn words_of_a_wilson_book() {
+        let interval = Some(Interval { low: 300.0, high: 350.0, inferred: true });
+        let with = WilsonPair { ij: [1.0, 2.0], ji: [3.0, 4.0], interval };
+        let two = Book::builder().model(Model::Wilson).solvent(solvent(1)).solvent(solvent(2)).wilson_pair(0, 1, with);
+        for version in [2, 3] {
+            let book = two.clone().molar_masses([0.046, 0.018]).version(version).build().unwrap();
+            assert_eq!([0, 1, 2, 3].map(|at| book.block(0).unwrap().word(at)), [1, version, 2, 1]);
+            assert_eq!((book.model(), book.version()), (Some(Model::Wilson), Some(version)));
+            let block = book.block(3).unwrap();
+            assert_eq!([0, 1, 2, 15, 18].map(|at| block.word(at)), [3, 0, 1, 1, 1]);
+            assert_eq!([3, 4, 5, 6, 16, 17].map(|at| block.float(at)), [1.0, 2.0, 3.0, 4.0, 300.0, 350.0]);
+            assert!((7..15).chain(19..63).all(|at| block.word(at) == 0));
+        }
+        let nrtl = Book::builder().solvent(solvent(1)).solvent(solvent(2)).pair(0, 1, pair(1.0)).build().unwrap();
+        assert_eq!((nrtl.model(), nrtl.block(0).unwrap().word(3)), (Some(Model::Nrtl), 0));
+    }
+
+    #[test]
+    fn models_of_books() {
+        let with = WilsonPair { ij: [0.0; 2], ji: [0.0; 2], interval: None };
+        let two = Book::builder().solvent(solvent(1)).solvent(solvent(2));
+        let wilson = two.clone().model(Model::Wilson).wilson_pair(0, 1, with);
+        assert_eq!(wilson.build(), Err(Incomplete::ModelVersion));
+        assert_eq!(wilson.clone().molar_masses([0.046, 0.018]).version(1).build(), Err(Incomplete::ModelVersion));
+        assert_eq!(two.clone().wilson_pair(0, 1, with).build(), Err(Incomplete::PairModel(0, 1)));
+        let mixed = two.model(Model::Wilson).molar_masses([0.046, 0.018]).pair(0, 1, pair(1.0));
+        assert_eq!(mixed.build(), Err(Incomplete::PairModel(0, 1)));
+        let one = Book::builder().model(Model::Wilson).solvent(solvent(1)).molar_masses([0.018]).build().unwrap();
+        assert_eq!(one.model(), Some(Model::Wilson));
+        for (version, number) in [(1, 1), (1, 2), (2, 2), (3, u64::MAX), (4, 0)] {
+            let head = Words::new(kind::BOOK).word(1, version).word(2, 1).word(3, number).seal();
+            assert_eq!(Book::from(&head[..]).model(), None);
+        }
     }
 
     #[test]

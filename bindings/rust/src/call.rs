@@ -57,6 +57,6 @@ pub fn answer_bytes(book: &[u8], question: &[u8], answer: &mut [u8]) -> Result<(
     };
     match number {
         0 => Ok(()),
-        _ => Err(Refusal::from_number(number).expect("the core refuses with 1 to 30, 34 to 36 or 38")),
+        _ => Err(Refusal::from_number(number).expect("the core refuses with 1 to 30 or 34 to 38")),
     }
 }

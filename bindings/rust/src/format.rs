@@ -39,6 +39,7 @@ named! {
     book: usize {
         VERSION = 1 "1; 2 with molar masses; 3 with running sums too"
         SOLVENTS = 2 "n, 1 to 8"
+        MODEL = 3 "By which equation the activity coefficients come about"
     }
 }
 
@@ -66,6 +67,14 @@ named! {
 }
 
 named! {
+    /// Models, word 3 of block 0.
+    model: u64 {
+        NRTL = 0 "NRTL"
+        WILSON = 1 "Wilson, in a book of version 2 or 3"
+    }
+}
+
+named! {
     /// Words of a pair.
     pair: usize {
         I = 1 "Index of the first solvent"
@@ -78,6 +87,16 @@ named! {
         LOW = 16 "Its lowest temperature, K"
         HIGH = 17 "Its highest temperature, K"
         INFERRED = 18 "Whether its bounds were inferred"
+    }
+}
+
+named! {
+    /// Words of a pair of a Wilson book, in place of τ and α.
+    wilson: usize {
+        A_IJ = 3 "a of Λ_ij = exp(a + b/T)"
+        B_IJ = 4 "Its b, K"
+        A_JI = 5 "a of Λ_ji"
+        B_JI = 6 "Its b, K"
     }
 }
 

@@ -1,5 +1,5 @@
 //! The proved phase-equilibrium core, called from Rust: activity coefficients, bubble and dew points, liquid trials,
-//! flashes and splits of up to eight solvents (NRTL with an ideal-gas vapor).
+//! flashes and splits of up to eight solvents (NRTL or Wilson with an ideal-gas vapor).
 //!
 //! A [`Book`] holds the solvents and their pairs. Each task is a call that gives its own answer or a [`Refusal`]:
 //! [`excess_at`], [`bubble_pressure`], [`dew_pressure`], [`bubble_temperature`], [`dew_temperature`],
@@ -41,7 +41,9 @@ pub use answer::{
     Answer, Energies, Excess, Flash, Malformed, Notes, Phases, Saturation, Split, Stability, Trial, TwoPhase, Validity,
 };
 pub use block::{Block, Rule, Words, BLOCK};
-pub use book::{Book, Builder, Correlation, Incomplete, Interval, Pair, Solvent, Term, BOOK_LARGEST, BOOK_MOST};
+pub use book::{
+    Book, Builder, Correlation, Incomplete, Interval, Model, Pair, Solvent, Term, WilsonPair, BOOK_LARGEST, BOOK_MOST,
+};
 pub use call::answer_bytes;
 pub use question::{Feed, Kelvin, Options, Pascal, Question, Task};
 pub use refusal::Refusal;

@@ -1,4 +1,4 @@
-//! The numbers that a call is refused with, 1 to 30, 34 to 36 and 38, and what this crate refuses before it.
+//! The numbers that a call is refused with, 1 to 30 and 34 to 38, and what this crate refuses before it.
 
 use std::fmt;
 
@@ -30,9 +30,9 @@ macro_rules! refusals {
 
         impl Refusal {
             /// The core's, in order.
-            pub const ALL: [Self; 34] = [$(Self::$name),*];
+            pub const ALL: [Self; 35] = [$(Self::$name),*];
 
-            /// The core's number, 1 to 30, 34 to 36 or 38; none of what this crate refuses before the call.
+            /// The core's number, 1 to 30 or 34 to 38; none of what this crate refuses before the call.
             #[must_use]
             pub fn number(self) -> Option<u64> {
                 match self {
@@ -109,6 +109,7 @@ refusals! {
     34 NotNormalizable "a composition's parts, or the moles of a feed by mass, have a sum that is not finite and positive"
     35 MolarMass "a solvent's molar mass is not finite and positive"
     36 FeedKind "the feed is by mass and the book has no molar masses, or by neither moles nor mass"
+    37 BookModel "the book's model is neither NRTL nor, from version 2 on, Wilson"
     38 BookVersion "the book's version is none of 1 to 3"
 }
 
@@ -119,12 +120,12 @@ mod tests {
     use super::*;
 
     #[test]
-    fn numbers_are_1_to_30_34_to_36_and_38() {
-        for (number, refusal) in (1..=30).chain(34..=36).chain([38]).zip(Refusal::ALL) {
+    fn numbers_are_1_to_30_and_34_to_38() {
+        for (number, refusal) in (1..=30).chain(34..=38).zip(Refusal::ALL) {
             assert_eq!(refusal.number(), Some(number));
             assert_eq!(Refusal::from_number(number), Some(refusal));
         }
-        assert!([0, 31, 32, 33, 37, 39, u64::MAX].iter().all(|number| Refusal::from_number(*number).is_none()));
+        assert!([0, 31, 32, 33, 39, u64::MAX].iter().all(|number| Refusal::from_number(*number).is_none()));
     }
 
     #[test]

@@ -9,8 +9,8 @@ use zektonk::{
     liquid_stability, rachford_rice, rachford_rice_negative, tp_flash,
 };
 use zektonk::{
-    Answer, Block, Book, Correlation, Feed, Kelvin, Options, Pair, Pascal, Phases, Question, Refusal, Rule, Solvent,
-    Split, Task, UpToEight, Validity, Words, ANSWER_ROOM, BLOCK,
+    Answer, Block, Book, Builder, Correlation, Feed, Kelvin, Model, Options, Pair, Pascal, Phases, Question, Refusal,
+    Rule, Solvent, Split, Task, UpToEight, Validity, WilsonPair, Words, ANSWER_ROOM, BLOCK,
 };
 
 const STORED_BOOK: &[u8] = include_bytes!("../../../crates/still/data/book.bin");
@@ -145,10 +145,62 @@ fn immiscible() -> Book<'static> {
 
 /// Two solvents with one vapor pressure.
 fn book_with(pair: Pair) -> Book<'static> {
+    two_solvents().pair(0, 1, pair).build().unwrap()
+}
+
+fn two_solvents() -> Builder {
     let record =
         Correlation { t_r: 647.0, reducing_value: 2.2e7, range: [273.16, 640.0], terms: [(-7.5, 1.0).into()].into() };
     let solvent = |cas| Solvent { cas, vapor_pressure: record, density: record };
-    Book::builder().solvent(solvent(1)).solvent(solvent(2)).pair(0, 1, pair).build().unwrap()
+    Book::builder().solvent(solvent(1)).solvent(solvent(2))
+}
+
+fn wilson_with(pair: WilsonPair) -> Book<'static> {
+    two_solvents().model(Model::Wilson).molar_masses([0.06, 0.018]).wilson_pair(0, 1, pair).build().unwrap()
+}
+
+/// 2-propanol and water at 353.15 K as in Smith, Van Ness and Abbott's example: Λ 0.1258 and 0.7292.
+#[test]
+fn wilson_s_equation() {
+    let (r, ratio) = (1.98720425864083, (18.07_f64 / 76.92).ln());
+    let pair = WilsonPair { ij: [ratio, -437.98 / r], ji: [-ratio, -1238.0 / r], interval: None };
+    let (t, x) = (353.15, [0.25, 0.75]);
+    let [there, back] = [pair.ij, pair.ji].map(|[a, b]| (a + b / t).exp());
+    assert!((there - 0.1258).abs() < 1e-4 && (back - 0.7292).abs() < 2e-4);
+    let sums = [x[0] + x[1] * there, x[0] * back + x[1]];
+    let due = [
+        1.0 - sums[0].ln() - x[0] / sums[0] - x[1] * back / sums[1],
+        1.0 - sums[1].ln() - x[0] * there / sums[0] - x[1] / sums[1],
+    ];
+    let found = excess_at(&wilson_with(pair), x, Kelvin(t)).unwrap();
+    assert!((0..2).all(|i| (found.ln_gamma[i] - due[i]).abs() < 1e-14), "{found:?} for {due:?}");
+    let sum: f64 = (0..2).map(|i| x[i] * found.ln_gamma[i]).sum();
+    assert!((found.energies.reduced_gibbs - sum).abs() < 1e-14);
+    let flash = tp_flash(&wilson_with(pair), x, Kelvin(t), Pascal(40_000.0), options()).unwrap();
+    assert!(flash.notes.gamma_phi());
+}
+
+#[test]
+fn refusals_of_wilson_books() {
+    let zeros = WilsonPair { ij: [0.0; 2], ji: [0.0; 2], interval: None };
+    let refused = |book: &Book<'_>| excess_at(book, [0.5, 0.5], Kelvin(300.0)).err();
+    let ideal = excess_at(&wilson_with(zeros), [0.5, 0.5], Kelvin(300.0)).unwrap();
+    assert_eq!(ideal.ln_gamma, [0.0, 0.0].into());
+    for pair in [WilsonPair { ij: [f64::NAN, 0.0], ..zeros }, WilsonPair { ji: [0.0, f64::INFINITY], ..zeros }] {
+        assert_eq!(refused(&wilson_with(pair)), Some(Refusal::PairNumber));
+    }
+    // Words 7 to 14 are not read: a τ and two alphas that NRTL would refuse.
+    let sealed = |words: Words| words.seal_by(Rule::Running);
+    let head = |version: u64, model| Words::new(1).word(1, version).word(2, 2).word(3, model);
+    let wilson = wilson_with(zeros);
+    let odd = sealed(Words::new(3).word(2, 1).float(7, f64::NAN).float(11, -1.0).float(13, 1.0));
+    assert_eq!(refused(&Book::from([&wilson.bytes()[..3 * BLOCK], &odd].concat())), None);
+    for model in [2, u64::MAX] {
+        let book = Book::from([&sealed(head(3, model))[..], &wilson.bytes()[BLOCK..]].concat());
+        assert_eq!((book.model(), refused(&book)), (None, Some(Refusal::BookModel)));
+    }
+    let first = Book::from([&head(1, 1).seal()[..], &STORED_BOOK[BLOCK..]].concat());
+    assert_eq!((first.model(), refused(&first)), (None, Some(Refusal::BookModel)));
 }
 
 #[test]

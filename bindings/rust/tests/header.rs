@@ -50,6 +50,7 @@ fn words() {
     same("zektonk_book_word", "ZEKTONK_BOOK_WORD_", format::book::ALL);
     same("zektonk_solvent_word", "ZEKTONK_SOLVENT_WORD_", format::solvent::ALL);
     same("zektonk_pair_word", "ZEKTONK_PAIR_WORD_", format::pair::ALL);
+    same("zektonk_wilson_word", "ZEKTONK_WILSON_WORD_", format::wilson::ALL);
     same("zektonk_question_word", "ZEKTONK_QUESTION_WORD_", format::question::ALL);
     same("zektonk_answer_word", "ZEKTONK_ANSWER_WORD_", format::answer::ALL);
     same("zektonk_trial_word", "ZEKTONK_TRIAL_WORD_", format::trial::ALL);
@@ -58,6 +59,7 @@ fn words() {
 #[test]
 fn numbers() {
     same("zektonk_kind", "ZEKTONK_KIND_", format::kind::ALL);
+    same("zektonk_model", "ZEKTONK_MODEL_", format::model::ALL);
     same("zektonk_feed", "ZEKTONK_FEED_", format::feed::ALL);
     same("zektonk_task", "ZEKTONK_", format::task::ALL);
     same("zektonk_outcome", "ZEKTONK_", format::outcome::ALL);
@@ -67,7 +69,7 @@ fn numbers() {
 
 #[test]
 fn every_enumeration_is_held() {
-    assert_eq!(HEADER.matches("\nenum zektonk_").count(), 14);
+    assert_eq!(HEADER.matches("\nenum zektonk_").count(), 16);
 }
 
 /// What a macro stands for.

@@ -11,11 +11,13 @@ use Rattle.floats.specs.Small.{isFinite, floatOf, float}
 use Rattle.floats.specs.Fold.{allTo}
 use Rattle.floats.proofs.Folds.{all-at, all-done}
 use Rattle.book.proofs.Laws.{says-yes, says-no}
+use Rattle.book.specs.declared.Model.{Model}
+use Rattle.book.specs.declared.Model.the-variants.{Nrtl, Wilson}
 use Rattle.book.specs.declared.Head.{Head}
 use Rattle.book.specs.declared.Opened.the-variants.{Book, No}
 use Rattle.book.specs.Places.{pairCount, rowFrom}
-use Rattle.book.specs.Book.{floatsFinite, rangeRight, termCount, recordRight, recordsRight, rowRight, boundsFinite, pairFinite, alphasEqual}
-use Rattle.book.specs.Book.{pairsOf, openedOf}
+use Rattle.book.specs.Book.{floatsFinite, rangeRight, termCount, recordRight, recordsRight, rowRight}
+use Rattle.book.specs.Book.{parametersFinite, boundsFinite, pairFinite, alphasEqual, pairsOf, openedOf}
 
 first : (a b : Bool) → a && b ≡ true → a ≡ true
 first true b e = refl
@@ -70,8 +72,8 @@ either true = refl
 either false = refl
 
 -- words 3 to 17 are finite and the alphas are the same words
-one-scan : (w : ℕ → ℕ) → w 11 ≡ w 13 → w 12 ≡ w 14 → floatsFinite w 3 15 ≡ true → (pairFinite w && alphasEqual w) ≡ true
-unfolding pairFinite boundsFinite alphasEqual floatsFinite
+one-scan : (w : ℕ → ℕ) → w 11 ≡ w 13 → w 12 ≡ w 14 → floatsFinite w 3 15 ≡ true → (pairFinite Nrtl w && alphasEqual Nrtl w) ≡ true
+unfolding parametersFinite pairFinite boundsFinite alphasEqual floatsFinite
 one-scan w a b h =
     let at : (k : ℕ) → k < 15 → isFinite (float w (3 + k)) ≡ true = λ k l. all-at (λ k. isFinite (float w (3 + k))) 15 k l h in
     let p : floatsFinite w 3 12 ≡ true = part-finite w 3 15 3 12 (omega arith) (omega arith) h in
@@ -81,12 +83,21 @@ one-scan w a b h =
     rw (p, q, a, b, x, y, either (eqb (w 15) 0))
 
 pub pair-scanned : (w : ℕ → ℕ) {a b c d : ℕ} {r : Bool} → a ≡ w 11 → b ≡ w 13 → c ≡ w 12 → d ≡ w 14 → r ≡ floatsFinite w 3 15
-    → ((eqb a b && eqb c d) && r) ≡ true → true ≡ (pairFinite w && alphasEqual w)
+    → ((eqb a b && eqb c d) && r) ≡ true → true ≡ (pairFinite Nrtl w && alphasEqual Nrtl w)
 pair-scanned w {a} {b} {c} {d} {r} p q s t f h =
     let same = first (eqb a b && eqb c d) r h in
     let e = eqb-true a b (first (eqb a b) (eqb c d) same) in
     let g = eqb-true c d (second (eqb a b) (eqb c d) same) in
     sym (one-scan w (sym p ∙ e ∙ q) (sym s ∙ g ∙ t) (sym f ∙ second (eqb a b && eqb c d) r h))
+
+-- a Wilson pair has no question 9
+pub wilson-sound : (w : ℕ → ℕ) {b : Bool} → b ≡ pairFinite Wilson w → b ≡ (pairFinite Wilson w && alphasEqual Wilson w)
+unfolding alphasEqual
+wilson-sound w e = e ∙ with-true (pairFinite Wilson w)
+  where
+    with-true : (b : Bool) → b ≡ (b && true)
+    with-true true = refl
+    with-true false = refl
 
 -- questions 8 and 9 put together
 module _ (p q : ℕ → Bool) (n : ℕ) where
@@ -104,26 +115,33 @@ module _ (p q : ℕ → Bool) (n : ℕ) where
       pick true e =
           absurd (true≢false (sym (all-of (λ k. p k && q k) n (λ k l. rw (all-at p n k l a, all-at q n k l e))) ∙ h))
 
+-- what is asked of the pair in block d behind the solvents
+abbrev finite-at : (ℕ → ℕ → ℕ) → Head → ℕ → Bool
+finite-at w h d = pairFinite (h .model) (w (1 + h .n + d))
+
+abbrev equal-at : (ℕ → ℕ → ℕ) → Head → ℕ → Bool
+equal-at w h d = alphasEqual (h .model) (w (1 + h .n + d))
+
 module _ (w : ℕ → ℕ → ℕ) (h : Head) {count : ℕ} {b : Bool} (e : count ≡ pairCount (h .n))
     (rows : allTo (λ i. rowRight w i (rowFrom (h .n) i) (h .n - i - 1)) (h .n) ≡ true)
-    (sound : b ≡ allTo (λ d. pairFinite (w (1 + h .n + d)) && alphasEqual (w (1 + h .n + d))) count) where
-  due : b ≡ allTo (λ d. pairFinite (w (1 + h .n + d)) && alphasEqual (w (1 + h .n + d))) (pairCount (h .n))
+    (sound : b ≡ allTo (λ d. finite-at w h d && equal-at w h d) count) where
+  due : b ≡ allTo (λ d. finite-at w h d && equal-at w h d) (pairCount (h .n))
   due = all-done _ count (pairCount (h .n)) e sound
 
   pub pairs-pass : b ≡ true → Book h ≡ openedOf (pairsOf w h)
   unfolding pairsOf openedOf
   pairs-pass t =
-      let finite = all-first (λ d. pairFinite (w (1 + h .n + d))) (λ d. alphasEqual (w (1 + h .n + d))) (pairCount (h .n)) (sym due ∙ t) in
-      let equal = all-second (λ d. pairFinite (w (1 + h .n + d))) (λ d. alphasEqual (w (1 + h .n + d))) (pairCount (h .n)) (sym due ∙ t) in
+      let finite = all-first (finite-at w h) (equal-at w h) (pairCount (h .n)) (sym due ∙ t) in
+      let equal = all-second (finite-at w h) (equal-at w h) (pairCount (h .n)) (sym due ∙ t) in
       says-yes 7 _ rows (says-yes 8 _ finite (says-yes 9 _ equal refl))
 
-  pub pairs-infinite : {c : Bool} → c ≡ allTo (λ d. pairFinite (w (1 + h .n + d))) count → c ≡ false → No 8 ≡ openedOf (pairsOf w h)
+  pub pairs-infinite : {c : Bool} → c ≡ allTo (finite-at w h) count → c ≡ false → No 8 ≡ openedOf (pairsOf w h)
   unfolding pairsOf
   pairs-infinite f t = says-yes 7 _ rows (says-no 8 _ (sym (all-done _ count (pairCount (h .n)) e f) ∙ t))
 
-  pub pairs-unequal : {c : Bool} → c ≡ allTo (λ d. pairFinite (w (1 + h .n + d))) count → c ≡ true → b ≡ false → No 9 ≡ openedOf (pairsOf w h)
+  pub pairs-unequal : {c : Bool} → c ≡ allTo (finite-at w h) count → c ≡ true → b ≡ false → No 9 ≡ openedOf (pairsOf w h)
   unfolding pairsOf
   pairs-unequal f t u =
       let finite = sym (all-done _ count (pairCount (h .n)) e f) ∙ t in
-      let unequal = second-no (λ d. pairFinite (w (1 + h .n + d))) (λ d. alphasEqual (w (1 + h .n + d))) (pairCount (h .n)) (sym due ∙ u) finite in
+      let unequal = second-no (finite-at w h) (equal-at w h) (pairCount (h .n)) (sym due ∙ u) finite in
       says-yes 7 _ rows (says-yes 8 _ finite (says-no 9 _ unequal))

@@ -1,5 +1,5 @@
--- Questions 1 to 9, 35 and 38 in the order of docs/FORMAT.md, each put to all blocks before the next. In a test of one block w k is its word k; over a whole book
--- w j k is word k of block j. Assumes nothing.
+-- Questions 1 to 9, 35, 37 and 38 in the order of docs/FORMAT.md, each put to all blocks before the next. In a test of one block w k is its word k; over a
+-- whole book w j k is word k of block j. Assumes nothing.
 use mathlib.Core.List.{List}
 use mathlib.Core.Bool.{Bool, true, not, cond, _&&_, _||_}
 use Prim.Native.Nat.{ℕ, _+_, _-_, _/_, _%_}
@@ -15,6 +15,8 @@ use Rattle.floats.specs.Fold.{allTo}
 use Rattle.floats.specs.Vector.{places}
 use Rattle.floats.specs.Outcome.{Out, ok, no, need}
 use Rattle.book.specs.Places.{words, pairCount, blockCount, rowFrom}
+use Rattle.book.specs.declared.Model.{Model}
+use Rattle.book.specs.declared.Model.the-variants.{Nrtl, Wilson}
 use Rattle.book.specs.declared.Head.{Head}
 use Rattle.book.specs.declared.Opened.{Opened}
 use Rattle.book.specs.declared.Opened.the-variants.{Book, No}
@@ -30,6 +32,18 @@ versionRight w = not (eqb (w 0) 1) || (ltb 0 (w 1) && leb (w 1) 3)
 -- 3. block 0: kind 1, n 1 to 8
 unfoldable pub headRight : (ℕ → ℕ) → Bool
 headRight w = eqb (w 0) 1 && ltb 0 (w 2) && leb (w 2) 8
+
+-- 37. word 3 of block 0: 0, NRTL; or, from version 2 on, 1, Wilson
+unfoldable pub modelRight : (ℕ → ℕ) → Bool
+modelRight w = eqb (w 3) 0 || (eqb (w 3) 1 && leb 2 (w 1))
+
+-- the model, from the words of block 0
+unfoldable pub modelIn : (ℕ → ℕ) → Model
+modelIn w = cond (eqb (w 3) 1) Wilson Nrtl
+
+-- from the book's bytes
+abbrev pub modelOf : List ℕ → Model
+modelOf s = modelIn (words s 0)
 
 -- 4. a solvent's block: kind 2, its own index, CAS not 0, term counts 1 to 8
 unfoldable pub solventRight : (ℕ → ℕ) → ℕ → Bool
@@ -77,27 +91,32 @@ pairRight w i j = eqb (w 0) 3 && eqb (w 1) i && eqb (w 2) j && leb (w 15) 1 && l
 unfoldable pub rowRight : (ℕ → ℕ → ℕ) → ℕ → ℕ → ℕ → Bool
 rowRight w i from count = allTo (λ d. pairRight (w (from + d)) i (i + 1 + d)) count
 
--- 8. tau_ij, tau_ji, alpha_ij and alpha_ji are finite, and the bounds of a flagged interval
+-- 8. a pair's parameters are finite (NRTL: tau_ij, tau_ji, alpha_ij and alpha_ji; Wilson: a_ij, b_ij, a_ji and b_ji), and the bounds of a flagged interval
+unfoldable pub parametersFinite : Model → (ℕ → ℕ) → Bool
+parametersFinite Nrtl w = floatsFinite w 3 12
+parametersFinite Wilson w = floatsFinite w 3 4
+
 unfoldable pub boundsFinite : (ℕ → ℕ) → Bool
 boundsFinite w = cond (eqb (w 15) 0) true (floatsFinite w 16 2)
 
-unfoldable pub pairFinite : (ℕ → ℕ) → Bool
-pairFinite w = floatsFinite w 3 12 && boundsFinite w
+unfoldable pub pairFinite : Model → (ℕ → ℕ) → Bool
+pairFinite m w = parametersFinite m w && boundsFinite w
 
--- 9. alpha_ij and alpha_ji are equal as floats
-unfoldable pub alphasEqual : (ℕ → ℕ) → Bool
-alphasEqual w = eq (float w 11) (float w 13) && eq (float w 12) (float w 14)
+-- 9. alpha_ij and alpha_ji are equal as floats; Wilson has none
+unfoldable pub alphasEqual : Model → (ℕ → ℕ) → Bool
+alphasEqual Nrtl w = eq (float w 11) (float w 13) && eq (float w 12) (float w 14)
+alphasEqual Wilson w = true
 
 -- what block 0 says of the book
 unfoldable pub headIn : (ℕ → ℕ) → Head
-headIn w = record { n = w 2; version = w 1 }
+headIn w = record { n = w 2; version = w 1; model = modelIn w }
 
 -- questions 7 to 9, on the pairs
 unfoldable pub pairsOf : (ℕ → ℕ → ℕ) → Head → Out Head
 pairsOf w h =
     need (allTo (λ i. rowRight w i (rowFrom (h .n) i) (h .n - i - 1)) (h .n)) 7
-    (need (allTo (λ d. pairFinite (w (1 + h .n + d))) (pairCount (h .n))) 8
-    (need (allTo (λ d. alphasEqual (w (1 + h .n + d))) (pairCount (h .n))) 9 (ok h)))
+    (need (allTo (λ d. pairFinite (h .model) (w (1 + h .n + d))) (pairCount (h .n))) 8
+    (need (allTo (λ d. alphasEqual (h .model) (w (1 + h .n + d))) (pairCount (h .n))) 9 (ok h)))
 
 -- questions 4, 5, 35 and 6, on the solvents, then those on the pairs
 unfoldable pub solventsOf : (ℕ → ℕ → ℕ) → Head → Out Head
@@ -107,9 +126,12 @@ solventsOf w h =
     (need (massesRight w h) 35
     (need (allTo (casNew w) (h .n)) 6 (pairsOf w h))))
 
--- question 3, on block 0 and the number of blocks, then the others
+-- questions 3, on block 0 and the number of blocks, and 37, then the others
 unfoldable pub headOf : (ℕ → ℕ → ℕ) → ℕ → Out Head
-headOf w count = need (headRight (w 0)) 3 (need (eqb count (blockCount (w 0 2))) 3 (solventsOf w (headIn (w 0))))
+headOf w count =
+    need (headRight (w 0)) 3
+    (need (eqb count (blockCount (w 0 2))) 3
+    (need (modelRight (w 0)) 37 (solventsOf w (headIn (w 0)))))
 
 -- 1. whole blocks, at least one
 abbrev pub wholeBlocks : List ℕ → Bool

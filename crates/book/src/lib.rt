@@ -1,4 +1,4 @@
-// The book: questions 1 to 9, 35 and 38.
+// The book: questions 1 to 9, 35, 37 and 38.
 ghost use mathlib.Core.Path.{_≡_};
 ghost use mathlib.Core.Bool.{_&&_};
 ghost use Prim.Native.Nat.{_≤_, _<_, _+_, _*_, _-_};
@@ -8,13 +8,20 @@ ghost use Rattle.blocks.specs.Words.{word, wordFrom, block, checkRight};
 ghost use Rattle.floats.specs.Small.{isFinite, positive, floatOf, float};
 ghost use Rattle.floats.specs.Fold.{allTo};
 ghost use Rattle.book.specs.Places.{words, pairCount, blockCount, rowFrom};
-ghost use Rattle.book.specs.Book.{floatsFinite, versionRight, headRight, solventRight, rangeRight, recordRight, recordsRight, hasMasses, molarMass, massesRight, casNew, pairRight, rowRight, boundsFinite, pairFinite, alphasEqual, pairsOf, solventsOf, headOf, ruleOf, bookOf, openedOf};
+ghost use Rattle.book.specs.Book.{floatsFinite, versionRight, headRight, modelRight, modelOf, solventRight, rangeRight, recordRight, recordsRight, hasMasses, molarMass, massesRight, casNew, pairRight, rowRight, parametersFinite, boundsFinite, pairFinite, alphasEqual, pairsOf, solventsOf, headOf, ruleOf, bookOf, openedOf};
 use blocks::Rule;
 
-// What block 0 says: the number of solvents, and the version.
+// What the activity coefficients are worked out by.
+pub enum Model {
+    Nrtl,
+    Wilson,
+}
+
+// What block 0 says: the number of solvents, the version, and the model.
 pub struct Head {
     pub n: usize,
     pub version: u64,
+    pub model: Model,
 }
 
 // A book that passed, or the number of the question that was answered no.
@@ -111,6 +118,25 @@ fn head_right(s: &[u8]) -> bool
 {
     let n = word(s, 2);
     (word(s, 0) == 1) & (0 < n) & (n <= 8)
+}
+
+// 0, NRTL; or 1, Wilson, from version 2 on.
+fn model_right(s: &[u8]) -> bool
+    requires { ⌜ length (now s) ≡ 512 ⌝ }
+    ensures { λ r. ⌜ r ≡ modelRight (word (now (s .entry))) ⌝ }
+{
+    let model = word(s, 3);
+    (model == 0) | ((model == 1) & (2 <= word(s, 1)))
+}
+
+// By word 3 of block 0, whatever else stands there.
+pub fn model_of(book: &[u8]) -> Model
+    ensures { λ r. ⌜ r ≡ modelOf (now (book .entry)) ⌝ }
+{
+    if blocks::word(blocks::block(book, 0), 3) == 1 {
+        return Model::Wilson;
+    }
+    Model::Nrtl
 }
 
 fn pair_count(n: usize) -> usize
@@ -332,20 +358,31 @@ fn bounds_finite(s: &[u8]) -> bool
     floats_finite(s, 16, 2)
 }
 
-fn pair_finite(s: &[u8]) -> bool
+// Four taus and two alphas each way, or a and b.
+fn parameters_finite(model: Model, s: &[u8]) -> bool
     requires { ⌜ length (now s) ≡ 512 ⌝ }
-    ensures { λ r. ⌜ r ≡ pairFinite (word (now (s .entry))) ⌝ }
+    ensures { λ r. ⌜ r ≡ parametersFinite model (word (now (s .entry))) ⌝ }
 {
-    floats_finite(s, 3, 12) & bounds_finite(s)
+    match model {
+        Model::Nrtl => floats_finite(s, 3, 12),
+        Model::Wilson => floats_finite(s, 3, 4),
+    }
 }
 
-fn pairs_finite(book: &[u8], from: usize, count: usize) -> bool
+fn pair_finite(model: Model, s: &[u8]) -> bool
+    requires { ⌜ length (now s) ≡ 512 ⌝ }
+    ensures { λ r. ⌜ r ≡ pairFinite model (word (now (s .entry))) ⌝ }
+{
+    parameters_finite(model, s) & bounds_finite(s)
+}
+
+fn pairs_finite(model: Model, book: &[u8], from: usize, count: usize) -> bool
     requires { ⌜ 512 * (from + count) ≤ length (now book) ⌝ }
-    ensures { λ r. ⌜ r ≡ allTo (λ d. pairFinite (words (now (book .entry)) (from + d))) count ⌝ }
+    ensures { λ r. ⌜ r ≡ allTo (λ d. pairFinite model (words (now (book .entry)) (from + d))) count ⌝ }
 {
     let mut d = 0;
     while d < count {
-        if !pair_finite(whole_block(book, from + d)) {
+        if !pair_finite(model, whole_block(book, from + d)) {
             return false;
         }
         d += 1;
@@ -355,30 +392,41 @@ fn pairs_finite(book: &[u8], from: usize, count: usize) -> bool
 
 fn alphas_equal(s: &[u8]) -> bool
     requires { ⌜ length (now s) ≡ 512 ⌝ }
-    ensures { λ r. ⌜ r ≡ alphasEqual (word (now (s .entry))) ⌝ }
+    ensures { λ r. ⌜ r ≡ alphasEqual Model.Nrtl (word (now (s .entry))) ⌝ }
 {
     (float_at(s, 11) == float_at(s, 13)) & (float_at(s, 12) == float_at(s, 14))
 }
 
 // Questions 8 and 9 in one reading. As a rule the alphas are the same words, and unflagged bounds are finite too.
-fn pair_sound(s: &[u8]) -> bool
+fn nrtl_sound(s: &[u8]) -> bool
     requires { ⌜ length (now s) ≡ 512 ⌝ }
-    ensures { λ r. ⌜ r ≡ (pairFinite (word (now (s .entry))) && alphasEqual (word (now (s .entry)))) ⌝ }
+    ensures { λ r. ⌜ r ≡ (pairFinite Model.Nrtl (word (now (s .entry))) && alphasEqual Model.Nrtl (word (now (s .entry)))) ⌝ }
 {
     let same = (word(s, 11) == word(s, 13)) & (word(s, 12) == word(s, 14));
     if same & floats_finite(s, 3, 15) {
         return true;
     }
-    pair_finite(s) & alphas_equal(s)
+    pair_finite(Model::Nrtl, s) & alphas_equal(s)
 }
 
-fn pairs_sound(book: &[u8], from: usize, count: usize) -> bool
+// Wilson has no alphas.
+fn pair_sound(model: Model, s: &[u8]) -> bool
+    requires { ⌜ length (now s) ≡ 512 ⌝ }
+    ensures { λ r. ⌜ r ≡ (pairFinite model (word (now (s .entry))) && alphasEqual model (word (now (s .entry)))) ⌝ }
+{
+    match model {
+        Model::Nrtl => nrtl_sound(s),
+        Model::Wilson => pair_finite(model, s),
+    }
+}
+
+fn pairs_sound(model: Model, book: &[u8], from: usize, count: usize) -> bool
     requires { ⌜ 512 * (from + count) ≤ length (now book) ⌝ }
-    ensures { λ r. ⌜ r ≡ allTo (λ d. pairFinite (words (now (book .entry)) (from + d)) && alphasEqual (words (now (book .entry)) (from + d))) count ⌝ }
+    ensures { λ r. ⌜ r ≡ allTo (λ d. pairFinite model (words (now (book .entry)) (from + d)) && alphasEqual model (words (now (book .entry)) (from + d))) count ⌝ }
 {
     let mut d = 0;
     while d < count {
-        if !pair_sound(whole_block(book, from + d)) {
+        if !pair_sound(model, whole_block(book, from + d)) {
             return false;
         }
         d += 1;
@@ -395,10 +443,11 @@ fn open_pairs(book: &[u8], head: Head) -> Opened
         return Opened::No(7);
     }
     let count = pair_count(n);
-    if pairs_sound(book, 1 + n, count) {
+    let model = head.model;
+    if pairs_sound(model, book, 1 + n, count) {
         return Opened::Book(head);
     }
-    if !pairs_finite(book, 1 + n, count) {
+    if !pairs_finite(model, book, 1 + n, count) {
         return Opened::No(8);
     }
     Opened::No(9)
@@ -436,8 +485,12 @@ fn open_head(book: &[u8], count: usize) -> Opened
     if count != 1 + n + pair_count(n) {
         return Opened::No(3);
     }
+    if !model_right(first) {
+        return Opened::No(37);
+    }
     let version = word(first, 1);
-    open_solvents(book, Head { n, version })
+    let model = model_of(book);
+    open_solvents(book, Head { n, version, model })
 }
 
 // The rule by which the blocks of a call are checked: a book's own, its question's and its answer's.
@@ -457,7 +510,7 @@ pub fn rule_of(book: &[u8]) -> Rule
     Rule::Plain
 }
 
-// Questions 1 to 9, 35 and 38: what block 0 says, or the number of the first question that is answered no.
+// Questions 1 to 9, 35, 37 and 38: what block 0 says, or the number of the first question that is answered no.
 pub fn open_book(book: &[u8]) -> Opened
     ensures { λ r. ⌜ r ≡ openedOf (bookOf (now (book .entry))) ⌝ }
 {

@@ -91,9 +91,9 @@ module _ {e : Energies} {lg sl : List Float} (a : Assessment) where
   excess-given (no r) g q w = let z : _≡_ {A = ℕ} 0 1 = cc (ap (λ (e : Energies). e .verdict) (g .energies)) in absurd (omega arith)
 
 -- from the book's parameters, by a table made for t
-module _ (book : List ℕ) (n : ℕ) (x : List Float) {P : List Float} {t : Temperature} {s : Tabled} {table : List Float} (p : P ≡ parametersOf book n) (h : Stands P n t s (replicate 512 0f) table)
+module _ (book : List ℕ) (n : ℕ) (x : List Float) {P : List Float} {t : Temperature} {s : Tabled} {table : List Float} (p : P ≡ parametersOf book n) (h : Stands book P n t s (replicate 512 0f) table)
     {e : Energies} {lg sl : List Float} (g : Gives (excessOn table s x) e lg sl) where
-  known : Gives (excessOf (parametersOf book n) n (t .0) x) e lg sl
+  known : Gives (excessOf book (parametersOf book n) n (t .0) x) e lg sl
   known = let k = ap (λ (E : List Float → Out Excess). E x) (excess-fresh h) in rw p at (rw k at g)
 
   pub excess-no : {r : ℕ} {old : List Float} → e .verdict ≡ Refused r → ExcessGives (excessIn (mixtureOf book n) (t .0) x) r old old

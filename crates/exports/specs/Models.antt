@@ -28,7 +28,7 @@ use Rattle.exports.specs.Slices.{eightOf, outcomeNumber}
 unfoldable pub vaporFrom : List ℕ → ℕ → Float → Out Vapor
 vaporFrom book i t = bind (positiveOf t 13) (λ v. vaporPressureOf (vaporRecord book i) v)
 
--- the book's questions (1 to 9) first
+-- the book's questions first
 unfoldable pub vaporAt : List ℕ → ℕ → Float → Out Vapor
 vaporAt book i t = bind (bookOf book) (λ h. vaporFrom book i t)
 
@@ -55,7 +55,7 @@ excessIn m t x = bind (m .excess t x) (λ e. ok (record { excess = e; assessment
 unfoldable pub excessFrom : List ℕ → ℕ → Float → List Float → Out Assessed
 excessFrom book n t x = bind (positiveOf t 13) (λ v. excessIn (mixtureOf book n) v (eightOf x))
 
--- the book's questions (1 to 9) first
+-- the book's questions first
 unfoldable pub excessAt : List ℕ → Float → List Float → Out Assessed
 excessAt book t x = bind (bookOf book) (λ h. excessFrom book (h .n) t x)
 

@@ -189,7 +189,7 @@ fn vapor_of(book: &[u8], i: usize, t: f64, out: &mut [f64]) -> u64
     }
 }
 
-// 0, with p (Pa), ln p and its two derivatives by T in the first four entries; or 100 for a slice shorter than that, 1 to 9 of the book, 13, 22, 25.
+// 0, with p (Pa), ln p and its two derivatives by T in the first four entries; or 100 for a slice shorter than that, one of the book, 13, 22, 25.
 #[no_mangle]
 pub extern "C" fn zektonk_vapor_pressure(book: &[u8], i: usize, t: f64, out: &mut [f64]) -> u64
     ensures { λ r. ⌜ VaporGives (need (leb 4 (length (now (out .entry)))) 100 (vaporAt (now (book .entry)) i t)) r (now (out .entry)) (now (out .exit)) ⌝ }
@@ -265,7 +265,7 @@ fn excess_in(book: &[u8], n: usize, t: Temperature, x: &[f64; 8], out: &mut [f64
     let mut lg = [0.0; 8];
     let mut sl = [0.0; 8];
     records::parameters(book, n, &mut parameters);
-    let s = thermo_models::tables(&parameters, n, t, &mut table);
+    let s = thermo_models::tables(book, &parameters, n, t, &mut table);
     let e = thermo_models::excess(&table, s, x, &mut lg, &mut sl);
     let verdict = e.verdict;
     if let Verdict::Refused(r) = verdict {
@@ -291,7 +291,7 @@ fn excess_of(book: &[u8], n: usize, t: f64, x: &[f64], out: &mut [f64]) -> u64
 }
 
 // 0, with ln γ (8), slopes (8), the reduced and the plain Gibbs energy, enthalpy, entropy, heat capacity, validity (0, 1, 2) and inferred (0, 1) in
-// the first 23 entries; or 100 for a slice shorter than that, 1 to 9 of the book, 13, 15, 16, 18, 24, 25.
+// the first 23 entries; or 100 for a slice shorter than that, one of the book, 13, 15, 16, 18, 24, 25.
 #[no_mangle]
 pub extern "C" fn zektonk_excess(book: &[u8], t: f64, x: &[f64], out: &mut [f64]) -> u64
     ensures { λ r. ⌜ ExcessGives (need (leb 23 (length (now (out .entry)))) 100 (excessAt (now (book .entry)) t (now (x .entry)))) r (now (out .entry)) (now (out .exit)) ⌝ }
@@ -336,7 +336,7 @@ pub extern "C" fn zektonk_rachford_rice_negative(
     rice_exports::negative_split(z, k, n, max_iterations, out)
 }
 
-// 100 + n for an accepted book, else the number 1 to 9.
+// 100 + n for an accepted book, else its number.
 #[no_mangle]
 pub extern "C" fn zektonk_open_book(book: &[u8]) -> u64
     ensures { λ r. ⌜ r ≡ bookNumber (bookOf (now (book .entry))) ⌝ }
@@ -367,7 +367,7 @@ fn repeat_from(book: &[u8], n: usize, t: Temperature, x: &[f64; 8], count: u64) 
     let mut parameters = [0.0; 384];
     let mut table = [0.0; 512];
     records::parameters(book, n, &mut parameters);
-    let s = thermo_models::tables(&parameters, n, t, &mut table);
+    let s = thermo_models::tables(book, &parameters, n, t, &mut table);
     repeat(&table, s, x, count)
 }
 

@@ -23,16 +23,16 @@ use Rattle.sheet.specs.Tasks.{taskOf}
 use Rattle.sheet.specs.Sheet.{replied, answerTo, roomy, questionTo, sheetFrom, sheetOf}
 use Rattle.feeds.specs.Feeds.{OneAnswer, MolesAlike, MassAsMoles, VersionsAlike}
 use Rattle.feeds.proofs.Books.{count-alike, behind, book-alike}
-use Rattle.feeds.proofs.Moles.{question-moles, rule-alike, masses-moles}
+use Rattle.feeds.proofs.Moles.{question-moles, rule-alike, model-moles, masses-moles}
 use Rattle.feeds.proofs.Mass.{question-mass}
-use Rattle.feeds.proofs.Versions.{mass-alike, masses-alike, question-alike, one-refusal, one-answer, one-needed}
+use Rattle.feeds.proofs.Versions.{model-versions, mass-alike, masses-alike, question-alike, one-refusal, one-answer, one-needed}
 
 pub moles-alike : MolesAlike
 unfolding headIn answerTo sheetFrom sheetOf
-moles-alike s t question room a p e =
+moles-alike s t question room a w p e =
     let n = words t 0 2 in
     let v = words t 0 1 in
-    book-alike s t a _≡_ (λ r. refl) _ _ refl (masses-moles s t a p) (λ l.
+    book-alike s t a _≡_ (λ r. refl) _ _ refl (model-moles s t a w) (masses-moles s t a p) (λ l.
     ap (λ (k : ℕ). sheetFrom s (words s 0 1) k question room) (count-alike s t a)
     ∙ ap (λ (o : Out Question). roomy room (bind o (answerTo s n))) (question-moles (ruleOf s) question (words s 0 1) v _ (molarMass (words t)) n e)
     ∙ ap (λ (rule : Rule). roomy room (bind (questionOf rule question v (molarMass (words t)) n) (λ x. replied rule (x .task) (taskOf (mixtureOf s n) x)))) (rule-alike s t a)
@@ -57,7 +57,7 @@ versions-alike s t q r room a b =
     let n = words t 0 2 in
     let rule = ruleOf s in
     let rule' = ruleOf t in
-    book-alike s t a (OneAnswer rule rule') (one-refusal rule rule') _ _ refl (masses-alike s t a) (λ l.
+    book-alike s t a (OneAnswer rule rule') (one-refusal rule rule') _ _ refl (model-versions s t a) (masses-alike s t a) (λ l.
     one-needed rule rule' (leb answerRoom room) 10 _ _
     (rw (count-alike s t a, a .version, a .version', question-alike rule rule' q r b n l (molarMass (words s)) (molarMass (words t)) (mass-alike s t a))
     (one-answer rule rule' (questionTo t 2 n r) _ _ (λ x. ap (λ (m : Mixture). taskOf m x) (mixture-unread s t n (behind s t a n))))))

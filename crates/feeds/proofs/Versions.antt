@@ -16,7 +16,7 @@ use Rattle.thermo_types.proofs.Normalizing.{normalize-cong}
 use Rattle.blocks.specs.declared.Rule.{Rule}
 use Rattle.blocks.specs.Words.{word}
 use Rattle.book.specs.Places.{words}
-use Rattle.book.specs.Book.{molarMass, massesRight, headIn}
+use Rattle.book.specs.Book.{molarMass, massesRight, modelRight, headIn}
 use Rattle.question.specs.Asked.{taskIn, kindRight, fraction, feedOf, molesOf, restOf, questionOf}
 use Rattle.question.specs.declared.Question.{Question}
 use Rattle.replies.specs.Blocks.{Answer}
@@ -27,6 +27,10 @@ use Rattle.feeds.proofs.Rest.{restIn, rest-alike}
 
 -- ---- the book: both versions have molar masses
 module _ (s t : List ℕ) (a : OfVersions 3 2 s t) where
+  pub model-versions : modelRight (words s 0) ≡ modelRight (words t 0)
+  unfolding modelRight
+  model-versions = rw (a .version, a .version', a .head 3 (omega arith) (λ e. omega arith))
+
   pub mass-alike : (i : ℕ) → molarMass (words s) i ≡ molarMass (words t) i
   mass-alike i = ap floatOf (a .others i 45 (omega arith))
 

@@ -32,10 +32,10 @@ pub record OfVersions (v v' : ℕ) (s t : List ℕ) : Type 0 where
   pub checks : allTo (λ k. checkRight (ruleOf s) (words s k)) (length s / 512) ≡ true
   pub checks' : allTo (λ k. checkRight (ruleOf t) (words t k)) (length t / 512) ≡ true
 
--- a question in moles (word 27 is 0) to a version 2 book that passes 35 is answered as to that version 1 book
+-- a question in moles (word 27 is 0) to a version 2 book that passes 35 is answered as to that version 1 book, but for Wilson, which version 1 doesn't have
 abbrev pub MolesAlike : Type 0
 MolesAlike =
-    (s t question : List ℕ) (room : ℕ) → OfVersions 2 1 s t → allTo (λ i. positive (molarMass (words s) i)) (words s 0 2) ≡ true → word question 27 ≡ 0
+    (s t question : List ℕ) (room : ℕ) → OfVersions 2 1 s t → words s 0 3 ≢ 1 → allTo (λ i. positive (molarMass (words s) i)) (words s 0 2) ≡ true → word question 27 ≡ 0
     → sheetOf s question room ≡ sheetOf t question room
 
 -- r is the question q in moles for n solvents: word 27 is 0 for 1, the fractions are those of z, all else stands

@@ -1,16 +1,19 @@
 -- Jets that agree in value and slope: these never depend on second derivatives, so code can leave those away. Assumes nothing.
 use Prim.Native.Nat.{ℕ, zero, suc, _<_}
-use mathlib.Core.Path.{_≡_}
+use mathlib.Core.Path.{_≡_, refl}
 use native.Mathlib.Omega.{arith}
 use lib.Ieee.{Float}
 use Rattle.floats.specs.Fold.{foldTo}
 use Rattle.jet.specs.declared.Jet.{Jet}
-use Rattle.jet.specs.Jets.{addJ, subJ, mulJ, scaleJ, divJ, twoJ, sumJetFrom}
+use Rattle.jet.specs.Jets.{addJ, subJ, mulJ, scaleJ, divJ, lnJ, lnWith, twoJ, sumJetFrom}
 
 infixl 4 _≃_
 pub record _≃_ (a b : Jet) : Type 0 where
   pub v : a .v ≡ b .v
   pub d : a .d ≡ b .d
+
+pub near-refl : {a : Jet} → a ≃ a
+near-refl = record { v = refl; d = refl }
 
 pub two-near : {x y : Float} {a : Jet} → x ≡ a .v → y ≡ a .d → twoJ x y ≃ a
 unfolding twoJ
@@ -35,6 +38,10 @@ scale-near x p = record { v = rw (p .v); d = rw (p .d) }
 pub div-near : {a a′ b b′ : Jet} → a ≃ a′ → b ≃ b′ → divJ a b ≃ divJ a′ b′
 unfolding divJ
 div-near p q = record { v = rw (p .v, q .v); d = rw (p .v, q .v, p .d, q .d) }
+
+pub ln-near : {a a′ : Jet} → a ≃ a′ → lnJ a ≃ lnJ a′
+unfolding lnWith
+ln-near p = record { v = rw (p .v); d = rw (p .v, p .d) }
 
 pub sum-near : {a a′ : Jet} (f f′ : ℕ → Jet) (n : ℕ) → a ≃ a′ → ((k : ℕ) → k < n → f k ≃ f′ k) → sumJetFrom a f n ≃ sumJetFrom a′ f′ n
 unfolding foldTo

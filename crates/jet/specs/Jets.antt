@@ -3,7 +3,7 @@ use Prim.Native.Nat.{ℕ}
 use lib.Ieee.{Float, neg}
 use Rattle.floats.specs.Arithmetic.{_⊕_, _⊖_, _⊗_, _⊘_, 0f, 2f}
 use Rattle.floats.specs.Fold.{foldTo}
-use Rattle.numerics.specs.Numerics.{expOf}
+use Rattle.numerics.specs.Numerics.{expOf, lnOf}
 use Rattle.jet.specs.declared.Jet.{Jet}
 
 -- a number that doesn't depend on T
@@ -48,6 +48,13 @@ expWith e a = record { v = e; d = e ⊗ a .d; dd = e ⊗ (a .dd ⊕ a .d ⊗ a .
 
 abbrev pub expJ : Jet → Jet
 expJ a = expWith (expOf (a .v)) a
+
+-- ln a, where l is ln of its value: l, a' / a, (a'' - a' a' / a) / a
+unfoldable pub lnWith : Float → Jet → Jet
+lnWith l a = record { v = l; d = a .d ⊘ a .v; dd = (a .dd ⊖ a .d ⊗ a .d ⊘ a .v) ⊘ a .v }
+
+abbrev pub lnJ : Jet → Jet
+lnJ a = lnWith (lnOf (a .v)) a
 
 -- a + f 0 + f 1 + .. + f (n - 1), in that order
 abbrev pub sumJetFrom : Jet → (ℕ → Jet) → ℕ → Jet

@@ -1,6 +1,6 @@
 // A value with its first and second temperature derivatives (the Rust's `Jet`); each method equals its definition in specs/Jets.antt.
 ghost use mathlib.Core.Path.{_≡_};
-ghost use Rattle.jet.specs.Jets.{constJ, twoJ, addJ, subJ, negJ, mulJ, scaleJ, divJ, expWith, expJ};
+ghost use Rattle.jet.specs.Jets.{constJ, twoJ, addJ, subJ, negJ, mulJ, scaleJ, divJ, expWith, expJ, lnWith, lnJ};
 
 // A quantity with its derivatives by the temperature, 1/K and 1/K².
 pub struct Jet {
@@ -102,5 +102,22 @@ impl Jet {
         ensures { λ r. ⌜ r ≡ expJ self ⌝ }
     {
         self.exp_with(numerics::exp(self.v))
+    }
+
+    // ln of self, where l is ln of its value.
+    pub fn ln_with(self, l: f64) -> Jet
+        ensures { λ r. ⌜ r ≡ lnWith l self ⌝ }
+    {
+        Jet {
+            v: l,
+            d: self.d / self.v,
+            dd: (self.dd - self.d * self.d / self.v) / self.v,
+        }
+    }
+
+    pub fn ln(self) -> Jet
+        ensures { λ r. ⌜ r ≡ lnJ self ⌝ }
+    {
+        self.ln_with(numerics::ln(self.v))
     }
 }

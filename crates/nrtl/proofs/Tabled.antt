@@ -7,35 +7,28 @@ use mathlib.Core.List.{List}
 use native.Mathlib.Omega.{arith}
 use lib.ListN.{length}
 use lib.Ieee.{Float}
-use Rattle.floats.specs.Vector.{at, zeros8}
+use Rattle.floats.specs.Vector.{at}
 use Rattle.floats.specs.Outcome.{need}
-use Rattle.floats.proofs.Folds.{all-cong}
-use Rattle.floats.proofs.Fills.{fill-cong}
 use Rattle.thermo_types.specs.declared.Verdict.the-variants.{Passed, Refused}
-use Rattle.thermo_types.specs.Composition.{allFinite}
 use Rattle.jet.specs.declared.Jet.{Jet}
 use Rattle.jet.specs.Jets.{scaleJ, mulJ, twoJ}
+use Rattle.jet.specs.Planes.{jetAt, jets, twos, firstTwo}
 use Rattle.jet.proofs.Sums.{sumJet-cong}
+use Rattle.jet.proofs.Planes.{rows-at, jet-is, two-is, first-near, twos-near}
 use Rattle.jet.proofs.Near.{_≃_, two-near, scale-near, div-near, sub-near, mul-near, sum-near}
 use Rattle.nrtl_tables.specs.Pair.{tauAt, gAt, alphasRight}
 use Rattle.nrtl_tables.specs.Table.{gPlane, hPlane, tauPlane, keptOf, tableRows, tableOf, tableVerdict}
-use Rattle.nrtl_tables.proofs.Planes.{rows-at}
-use Rattle.excess.specs.State.{stateWith, stateFrom}
+use Rattle.excess.specs.State.{stateFrom}
+use Rattle.excess.proofs.Ways.{state-near}
 use Rattle.nrtl.specs.Columns.{colS, colC, ratio, termJ, lnFrom, gibbsFrom, lnGammaJ, reducedJ}
 use Rattle.nrtl.specs.State.{nrtlOf}
-use Rattle.nrtl.specs.On.{jetAt, jets, twos, firstTwo, sOn, rOn, lnGammaOn, reducedOn, passing, nrtlOn}
+use Rattle.nrtl.specs.On.{sOn, rOn, lnGammaOn, reducedOn, passing, nrtlOn}
 
 -- the table m stands for τ and G, below n
 pub record TableOf (T G : ℕ → ℕ → Jet) (n : ℕ) (m : List Float) : Type 0 where
   pub g : (i j : ℕ) → i < n → j < n → jets m gPlane i j ≡ G i j
   pub h : (i j : ℕ) → i < n → j < n → jets m hPlane i j ≡ mulJ (T i j) (G i j)
   pub tau : (i j : ℕ) → i < n → j < n → twos m tauPlane i j ≡ firstTwo (T i j)
-
-jet-is : (j : Jet) {a b c : Float} → a ≡ j .v → b ≡ j .d → c ≡ j .dd → _≡_ {A = Jet} (record { v = a; d = b; dd = c }) j
-jet-is j p q r = rw (p, q, r)
-
-pub two-is : {a b c d : Float} → a ≡ c → b ≡ d → twoJ a b ≡ twoJ c d
-two-is p q = rw (p, q)
 
 pub rows-stand : (T G : ℕ → ℕ → Jet) (n : ℕ) (old : List Float) → length old ≡ 512 → n ≤ 8 → TableOf T G n (tableRows T G n n old)
 unfolding jetAt keptOf
@@ -46,14 +39,11 @@ rows-stand T G n old len n8 = record {
 }
   where
     e : (i j : ℕ) → i < n → j < n → (k : ℕ) → k < 8 → at (tableRows T G n n old) (k * 64 + (i * 8 + j)) ≡ keptOf (T i j) (G i j) k
-    e i j a b k k8 = rows-at T G n n old k i j len n8 n8 k8 a b
+    e i j a b k k8 = rows-at (λ i j. keptOf (T i j) (G i j)) 8 n n old k i j len (omega arith) n8 n8 k8 a b
 
 term-near : {t t′ g g′ s s′ r r′ : Jet} (x : Float) → t ≃ t′ → g ≃ g′ → s ≃ s′ → r ≃ r′ → termJ t g s r x ≃ termJ t′ g′ s′ r′ x
 unfolding termJ
 term-near x t g s r = mul-near (div-near (scale-near x g) s) (sub-near t r)
-
-first-near : {a b : Jet} → a ≡ b → firstTwo a ≃ b
-first-near e = two-near (ap (λ (j : Jet). j .v) e) (ap (λ (j : Jet). j .d) e)
 
 module _ (T G : ℕ → ℕ → Jet) (n : ℕ) (m : List Float) (s : TableOf T G n m) (x : ℕ → Float) where
   s-is : (k : ℕ) → k < n → sOn m x n k ≡ colS G x n k
@@ -72,8 +62,7 @@ module _ (T G : ℕ → ℕ → Jet) (n : ℕ) (m : List Float) (s : TableOf T G
   reduced-is = sumJet-cong n refl (λ i a. ap (λ (j : Jet). scaleJ j (x i)) (r-is i a))
 
   g-near : (i j : ℕ) → i < n → j < n → twos m gPlane i j ≃ G i j
-  unfolding jetAt
-  g-near i j a b = first-near (s .g i j a b)
+  g-near i j a b = twos-near m gPlane i j (s .g i j a b)
 
   t-near : (i j : ℕ) → i < n → j < n → twos m tauPlane i j ≃ T i j
   unfolding twoJ
@@ -83,14 +72,6 @@ module _ (T G : ℕ → ℕ → Jet) (n : ℕ) (m : List Float) (s : TableOf T G
   unfolding lnFrom
   ln-near i l =
       sum-near _ _ n (first-near (r-is i l)) (λ j h. term-near (x j) (t-near i j l h) (g-near i j l h) (first-near (s-is j h)) (first-near (r-is j h)))
-
--- a state has values and slopes of ln γ alone
-pub state-near : {e e′ : Jet} (L L′ : ℕ → Jet) (n : ℕ) (t : Float) → e ≡ e′ → ((i : ℕ) → i < n → L i ≃ L′ i) → stateFrom e L n t ≡ stateFrom e′ L′ n t
-unfolding stateFrom
-state-near {e} {e′} L L′ n t p h =
-    let a : allFinite (λ i. L i .v) n ≡ allFinite (λ i. L′ i .v) n = all-cong n (λ i l. rw (h i l .v)) in
-    let b : allFinite (λ i. L i .d) n ≡ allFinite (λ i. L′ i .d) n = all-cong n (λ i l. rw (h i l .d)) in
-    rw (p, a, b, fill-cong (λ i. L i .v) (λ i. L′ i .v) n zeros8 (λ i l. h i l .v), fill-cong (λ i. L i .d) (λ i. L′ i .d) n zeros8 (λ i l. h i l .d))
 
 module _ (P : List Float) (n : ℕ) (t : Float) (old : List Float) (len : length old ≡ 512) (n8 : n ≤ 8) (x : ℕ → Float) where
   filled : stateFrom (reducedOn (tableRows (tauAt P t) (gAt P t) n n old) x n) (lnGammaOn (tableRows (tauAt P t) (gAt P t) n n old) x n) n t

@@ -2,4 +2,3 @@
 pub mod Columns
 pub mod State
 pub mod On
-pub mod Steps

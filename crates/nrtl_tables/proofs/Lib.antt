@@ -1,3 +1,2 @@
--- Laws of the tables, which the proofs of nrtl cite. Assumes nothing.
+-- What the proofs of the table's functions share. Assumes nothing.
 mod Stores
-pub mod Planes

@@ -17,9 +17,10 @@ use Rattle.numerics.specs.Numerics.{expOf}
 use Rattle.thermo_types.specs.declared.Verdict.the-variants.{Passed, Refused}
 use Rattle.jet.specs.declared.Jet.{Jet}
 use Rattle.jet.specs.Jets.{constJ, addJ, scaleJ, mulJ, expWith}
+use Rattle.jet.specs.Planes.{spread}
 use Rattle.nrtl_tables.specs.declared.Basis.{Basis}
 use Rattle.nrtl_tables.specs.Pair.{basisOf, tauJ, exponentJ, tauIJ, gIJ, allRight}
-use Rattle.nrtl_tables.specs.Table.{keptOf, spread, tableRow, tableRows, tableOf, tableVerdict, Filled}
+use Rattle.nrtl_tables.specs.Table.{keptOf, tableRow, tableRows, tableOf, tableVerdict, Filled}
 use Rattle.nrtl_tables.specs.Passes.{argumentIJ, expIJ, gWith, gFrom}
 
 -- t0 + t1 / T + t2 ln T + t3 T, sum by sum

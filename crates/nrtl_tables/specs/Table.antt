@@ -1,16 +1,15 @@
 -- The table of a temperature: eight planes of 64 in one flat array, entry (i, j) of plane k at k * 64 + i * 8 + j. Assumes nothing.
-use Prim.Native.Nat.{ℕ, _+_, _*_}
+use Prim.Native.Nat.{ℕ}
 use mathlib.Core.Path.{_≡_}
 use mathlib.Core.Bool.{cond}
 use mathlib.Core.List.{List, [], _∷_}
-use lib.ListN.{set}
 use lib.Ieee.{Float}
-use Rattle.floats.specs.Fold.{foldTo}
 use Rattle.floats.specs.Vector.{at}
 use Rattle.thermo_types.specs.declared.Verdict.{Verdict}
 use Rattle.thermo_types.specs.declared.Verdict.the-variants.{Passed, Refused}
 use Rattle.jet.specs.declared.Jet.{Jet}
 use Rattle.jet.specs.Jets.{mulJ}
+use Rattle.jet.specs.Planes.{planeRow, planeRows}
 use Rattle.nrtl_tables.specs.Pair.{tauAt, gAt, alphasRight}
 
 -- where the planes of G, of H = τ G and of τ begin
@@ -27,17 +26,13 @@ tauPlane = 384
 unfoldable pub keptOf : Jet → Jet → ℕ → Float
 keptOf t g k = at (g .v ∷ g .d ∷ g .dd ∷ mulJ t g .v ∷ mulJ t g .d ∷ mulJ t g .dd ∷ t .v ∷ t .d ∷ []) k
 
--- f k at place e of plane k, for each of the first m planes
-abbrev pub spread : (ℕ → Float) → ℕ → ℕ → List Float → List Float
-spread f e m old = foldTo (λ k (l : List Float). set l (k * 64 + e) (f k)) old m
-
 -- the first n entries of row i
 abbrev pub tableRow : (ℕ → Jet) → (ℕ → Jet) → ℕ → ℕ → List Float → List Float
-tableRow T G i n old = foldTo (λ j (l : List Float). spread (keptOf (T j) (G j)) (i * 8 + j) 8 l) old n
+tableRow T G i n old = planeRow (λ j. keptOf (T j) (G j)) 8 i n old
 
 -- the first m rows of n entries each
 abbrev pub tableRows : (ℕ → ℕ → Jet) → (ℕ → ℕ → Jet) → ℕ → ℕ → List Float → List Float
-tableRows T G n m old = foldTo (λ i (l : List Float). tableRow (T i) (G i) i n l) old m
+tableRows T G n m old = planeRows (λ i j. keptOf (T i j) (G i j)) 8 n m old
 
 -- an array after the tables of t are made in it: as it was where an α is refused
 unfoldable pub tableOf : List Float → ℕ → Float → List Float → List Float

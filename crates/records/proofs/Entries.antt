@@ -11,6 +11,7 @@ use Rattle.floats.specs.Arithmetic.{0f}
 use Rattle.floats.specs.Fold.{foldTo}
 use Rattle.floats.proofs.Fills.{fillFrom-length, fillFrom-at, fillFrom-before}
 use Rattle.book.specs.Places.{words}
+use Rattle.book.specs.Book.{modelOf}
 use Rattle.records.specs.Parameters.{parameter, parameterRow, parameterRows, parametersOf}
 
 module _ (f : ℕ → ℕ → Float) (i : ℕ) (d : Float) where
@@ -51,6 +52,6 @@ module _ (f : ℕ → ℕ → ℕ → Float) (n : ℕ) (d : Float) where
       (eq-or-lt-of-le (omega arith))
 
 pub parameters-at : (book : List ℕ) (n : ℕ) (d : Float) (i j k : ℕ) → n ≤ 8 → i < n → j < n → k < 6
-    → getD (parametersOf book n) ((i * 8 + j) * 6 + k) d ≡ parameter (words book) n i j k
+    → getD (parametersOf book n) ((i * 8 + j) * 6 + k) d ≡ parameter (modelOf book) (words book) n i j k
 unfolding parametersOf
-parameters-at book n d i j k a h q o = rows-at (parameter (words book) n) n d n i j k a (omega arith) h q o
+parameters-at book n d i j k a h q o = rows-at (parameter (modelOf book) (words book) n) n d n i j k a (omega arith) h q o

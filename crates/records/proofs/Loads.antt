@@ -11,20 +11,21 @@ use Rattle.floats.specs.Arithmetic.{0f}
 use Rattle.floats.specs.Fold.{foldTo}
 use Rattle.floats.specs.Vector.{fillFrom}
 use Rattle.floats.proofs.Folds.{fold-turn}
-use Rattle.book.specs.Places.{words, pairPlace}
+use Rattle.book.specs.declared.Model.{Model}
+use Rattle.book.specs.Places.{pairPlace}
 use Rattle.records.specs.declared.Terms.{Terms}
-use Rattle.records.specs.Parameters.{termIn, parameter, termsOf, parameterRow, parameterRows, parametersOf}
+use Rattle.records.specs.Parameters.{pairTerm, lowerFrom, parameter, termsOf, parameterRow, parameterRows}
 
-module _ (w : ℕ → ℕ → ℕ) (n i j : ℕ) where
-  pub terms-upper : {x : Terms} → i < j → x ≡ termsOf (termIn (w (pairPlace n i j)) 3) → x ≡ termsOf (parameter w n i j)
+module _ (m : Model) (w : ℕ → ℕ → ℕ) (n i j : ℕ) where
+  pub terms-upper : {x : Terms} → i < j → x ≡ termsOf (pairTerm m (w (pairPlace n i j)) 3) → x ≡ termsOf (parameter m w n i j)
   unfolding termsOf parameter
   terms-upper h p = rw (lt-ltb i j h) p
 
-  pub terms-lower : {x : Terms} → j < i → x ≡ termsOf (termIn (w (pairPlace n j i)) 7) → x ≡ termsOf (parameter w n i j)
+  pub terms-lower : {x : Terms} → j < i → x ≡ termsOf (pairTerm m (w (pairPlace n j i)) (lowerFrom m)) → x ≡ termsOf (parameter m w n i j)
   unfolding termsOf parameter
   terms-lower h p = let l : j ≤ i = omega arith in rw (le-ltb i j l, lt-ltb j i h) p
 
-  pub terms-own : j ≤ i → i ≤ j → termsOf (λ k. 0f) ≡ termsOf (parameter w n i j)
+  pub terms-own : j ≤ i → i ≤ j → termsOf (λ k. 0f) ≡ termsOf (parameter m w n i j)
   unfolding termsOf parameter
   terms-own a b = rw (le-ltb i j a, le-ltb j i b)
 
@@ -55,6 +56,5 @@ pub rows-turn : (f : ℕ → ℕ → ℕ → Float) (n i : ℕ) {l l′ : List F
 unfolding parameterRows
 rows-turn f n i p h = fold-turn (λ k (l : List Float). parameterRow (f k) n k l) (replicate 384 0f) i p h
 
-pub rows-done : (book : List ℕ) (n i : ℕ) {l : List Float} → i ≡ n → l ≡ parameterRows (parameter (words book) n) n i → l ≡ parametersOf book n
-unfolding parametersOf
-rows-done book n i e h = h ∙ ap (parameterRows (parameter (words book) n) n) e
+pub rows-done : (f : ℕ → ℕ → ℕ → Float) (n i : ℕ) {l : List Float} → i ≡ n → l ≡ parameterRows f n i → l ≡ parameterRows f n n
+rows-done f n i e h = h ∙ ap (parameterRows f n) e

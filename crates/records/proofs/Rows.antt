@@ -13,6 +13,8 @@ use Rattle.floats.specs.Vector.{places}
 use Rattle.floats.proofs.Folds.{all-at}
 use Rattle.blocks.specs.Words.{word, block}
 use Rattle.book.specs.Places.{words, rowFrom, pairPlace}
+use Rattle.book.specs.declared.Model.{Model}
+use Rattle.book.specs.Book.{modelOf}
 use Rattle.records.specs.declared.Pair.{Pair}
 use Rattle.records.specs.Records.{pairOf}
 
@@ -55,7 +57,7 @@ pub place-first : (n i j : ℕ) {from : ℕ} → from ≡ rowFrom n i → j ≤ 
 unfolding pairPlace
 place-first n i j e h = let z : j - i - 1 ≡ 0 = omega arith in rw (z, e) (sym (add-zero (rowFrom n i)))
 
--- the regression of a pair, from the code's places
-pub pair-placed : (book : List ℕ) (n i j : ℕ) {m k l : ℕ} {s : List ℕ} {r : Pair} → m ≡ places n → k ≡ places i → l ≡ places j
-    → s ≡ block book (pairPlace m k l) → r ≡ pairOf (word s) → r ≡ pairOf (words book (pairPlace (places n) (places i) (places j)))
-pair-placed book n i j em ek el es h = rw (← em, ← ek, ← el, ← es) h
+-- a pair, from the code's model and places
+pub pair-placed : (book : List ℕ) (n i j : ℕ) {M : Model} {m k l : ℕ} {s : List ℕ} {r : Pair} → M ≡ modelOf book → m ≡ places n → k ≡ places i → l ≡ places j
+    → s ≡ block book (pairPlace m k l) → r ≡ pairOf M (word s) → r ≡ pairOf (modelOf book) (words book (pairPlace (places n) (places i) (places j)))
+pair-placed book n i j eM em ek el es h = rw (← eM, ← em, ← ek, ← el, ← es) h

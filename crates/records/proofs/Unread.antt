@@ -4,6 +4,7 @@ use mathlib.Core.List.{List}
 use mathlib.Core.Bool.{Bool, true, false, cond, not}
 use Prim.Native.Nat.{ℕ, zero, suc, _+_, _*_, _≤_, _<_}
 use native.Mathlib.Omega.{arith}
+use borrow.Author.Tests.{ltb-true}
 use lib.Dec.{eqb, ltb}
 use lib.Ieee.{Float}
 use Rattle.floats.specs.Arithmetic.{0f}
@@ -11,12 +12,16 @@ use Rattle.floats.specs.Small.{floatOf, float}
 use Rattle.floats.specs.Vector.{vec, zeros8, fillFrom}
 use Rattle.floats.proofs.Folds.{fold-cong}
 use Rattle.floats.proofs.Fills.{fill-cong}
+use Rattle.book.specs.declared.Model.{Model}
+use Rattle.book.specs.declared.Model.the-variants.{Nrtl, Wilson}
 use Rattle.book.specs.Places.{words, pairPlace}
+use Rattle.book.specs.Named.{parametersEnd}
+use Rattle.book.specs.Book.{modelOf}
 use Rattle.book.proofs.Laws.{place-above}
 use Rattle.book.proofs.Unread.{PairAgrees, AgreeBehind}
 use Rattle.records.specs.declared.Regression.the-variants.{None, Interval}
 use Rattle.records.specs.Records.{ancillaryOf, rangeOf, regressionOf}
-use Rattle.records.specs.Parameters.{termIn, parameter, parameterRow, parameterRows, parametersOf}
+use Rattle.records.specs.Parameters.{termIn, wilsonTerm, pairTerm, lowerFrom, parameter, parameterRow, parameterRows, parametersOf}
 
 module _ (w v : ℕ → ℕ) (e : (k : ℕ) → k < 45 → w k ≡ v k) where
   eight-same : (f : ℕ) → f + 8 ≤ 45 → vec (λ k. float w (f + k)) 8 ≡ vec (λ k. float v (f + k)) 8
@@ -39,7 +44,7 @@ module _ (w v : ℕ → ℕ) (e : (k : ℕ) → k < 45 → w k ≡ v k) where
   unfolding rangeOf
   range-same f h = rw (e (f + 2) (omega arith), e (f + 3) (omega arith))
 
-module _ (w v : ℕ → ℕ) (e : PairAgrees w v) where
+module _ (m : Model) (w v : ℕ → ℕ) (e : PairAgrees m w v) where
   regression-same : regressionOf w ≡ regressionOf v
   unfolding regressionOf
   regression-same = pick (eqb (w 15) 0) refl
@@ -47,8 +52,23 @@ module _ (w v : ℕ → ℕ) (e : PairAgrees w v) where
       pick : (b : Bool) → eqb (w 15) 0 ≡ b
           → cond (eqb (w 15) 0) None (Interval (float w 16) (float w 17) (not (eqb (w 18) 0)))
           ≡ cond (eqb (v 15) 0) None (Interval (float v 16) (float v 17) (not (eqb (v 18) 0)))
-      pick true q = rw (← e .low 15 (omega arith), q)
-      pick false q = rw (← e .low 15 (omega arith), q, e .flagged q 16 (omega arith), e .flagged q 17 (omega arith), e .inferred)
+      pick true q = rw (← e .flag, q)
+      pick false q = rw (← e .flag, q, e .flagged q 16 (omega arith) (omega arith), e .flagged q 17 (omega arith) (omega arith), e .inferred)
+
+-- the terms that start at word 3, and those of (j, i)
+three : (m : Model) → 3 ≤ lowerFrom m
+unfolding lowerFrom
+three Nrtl = omega arith
+three Wilson = omega arith
+
+term-same : (m : Model) (w v : ℕ → ℕ) → PairAgrees m w v → (f k : ℕ) → f ≤ lowerFrom m → k < 6 → pairTerm m w f k ≡ pairTerm m v f k
+unfolding parametersEnd lowerFrom pairTerm termIn wilsonTerm
+term-same Nrtl w v e f k h q = rw (e .low (f + k) (omega arith), e .low (7 + k) (omega arith))
+term-same Wilson w v e f k h q = pick (ltb k 2) refl
+  where
+    pick : (b : Bool) → ltb k 2 ≡ b → cond b (float w (f + k)) 0f ≡ cond b (float v (f + k)) 0f
+    pick true l = ap floatOf (e .low (f + k) (omega (arith, ltb-true k 2 l)))
+    pick false l = refl
 
 -- tables of equal entries are equal
 fillFrom-cong : (f g : ℕ → Float) (b n : ℕ) (l : List Float) → ((k : ℕ) → k < n → f k ≡ g k) → fillFrom f b n l ≡ fillFrom g b n l
@@ -75,16 +95,13 @@ module _ (s t : List ℕ) (n : ℕ) (a : AgreeBehind s t n) where
   density-range-unread i l = range-same (words s (i + 1)) (words t (i + 1)) (a .solvent i l) 24 (omega arith)
 
   pub regression-unread : (i j : ℕ) → regressionOf (words s (pairPlace n i j)) ≡ regressionOf (words t (pairPlace n i j))
-  regression-unread i j = regression-same (words s (pairPlace n i j)) (words t (pairPlace n i j)) (a .pair (pairPlace n i j) (place-above n i j))
-
-  at-pair : (i j f k : ℕ) → f ≤ 7 → k < 6 → termIn (words s (pairPlace n i j)) f k ≡ termIn (words t (pairPlace n i j)) f k
-  unfolding termIn
-  at-pair i j f k h q =
-      let e = a .pair (pairPlace n i j) (place-above n i j) in
-      rw (e .low (f + k) (omega arith), e .low (7 + k) (omega arith))
+  regression-unread i j = regression-same (modelOf s) (words s (pairPlace n i j)) (words t (pairPlace n i j)) (a .pair (pairPlace n i j) (place-above n i j))
 
   pub parameters-unread : parametersOf s n ≡ parametersOf t n
   unfolding parametersOf parameter
   parameters-unread =
-      rows-cong (parameter (words s) n) (parameter (words t) n) n (λ i j k h.
-      chosen (ltb i j) (ltb j i) 0f (at-pair i j 3 k (omega arith) h) (at-pair j i 7 k (omega arith) h))
+      let m = modelOf s in
+      let at : (i j : ℕ) → PairAgrees m (words s (pairPlace n i j)) (words t (pairPlace n i j)) = λ i j. a .pair (pairPlace n i j) (place-above n i j) in
+      rw (← a .model)
+      (rows-cong (parameter m (words s) n) (parameter m (words t) n) n (λ i j k h.
+      chosen (ltb i j) (ltb j i) 0f (term-same m _ _ (at i j) 3 k (three m) h) (term-same m _ _ (at j i) (lowerFrom m) k (omega arith) h)))

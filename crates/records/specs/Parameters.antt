@@ -1,4 +1,4 @@
--- The NRTL parameters of all ordered pairs in one flat table, w j k being word k of block j. Assumes nothing.
+-- The parameters of all ordered pairs in one flat table, six to a pair, w j k being word k of block j. Assumes nothing.
 use mathlib.Core.List.{List}
 use mathlib.Core.Bool.{cond}
 use Prim.Native.Nat.{ℕ, _+_, _*_}
@@ -8,17 +8,34 @@ use lib.ListN.{replicate}
 use Rattle.floats.specs.Arithmetic.{0f}
 use Rattle.floats.specs.Fold.{foldTo}
 use Rattle.floats.specs.Vector.{fillFrom}
-use Rattle.book.specs.Places.{words, pairPlace}
 use Rattle.floats.specs.Small.{float}
+use Rattle.book.specs.declared.Model.{Model}
+use Rattle.book.specs.declared.Model.the-variants.{Nrtl, Wilson}
+use Rattle.book.specs.Places.{words, pairPlace}
+use Rattle.book.specs.Book.{modelOf}
 use Rattle.records.specs.declared.Terms.{Terms}
 
--- term k of a pair's block: tau's t0 to t3 from word f on, then alpha's a0 and a1, words 11 and 12
+-- NRTL's parameter k in a pair's block: tau's t0 to t3 from word f on, then alpha's a0 and a1, words 11 and 12
 unfoldable pub termIn : (ℕ → ℕ) → ℕ → ℕ → Float
 termIn w f k = cond (ltb k 4) (float w (f + k)) (float w (7 + k))
 
--- of the ordered pair (i, j): tau_ij from word 3 of the block of i < j, tau_ji from word 7, and the one alpha, which question 9 found the same both ways
-unfoldable pub parameter : (ℕ → ℕ → ℕ) → ℕ → ℕ → ℕ → ℕ → Float
-parameter w n i j k = cond (ltb i j) (termIn (w (pairPlace n i j)) 3 k) (cond (ltb j i) (termIn (w (pairPlace n j i)) 7 k) 0f)
+-- Wilson's: a and b from word f on, then +0
+unfoldable pub wilsonTerm : (ℕ → ℕ) → ℕ → ℕ → Float
+wilsonTerm w f k = cond (ltb k 2) (float w (f + k)) 0f
+
+-- the model's
+unfoldable pub pairTerm : Model → (ℕ → ℕ) → ℕ → ℕ → Float
+pairTerm Nrtl = termIn
+pairTerm Wilson = wilsonTerm
+
+-- the word that those of (j, i) start at in the block of i < j: tau_ji's t0, and a_ji
+unfoldable pub lowerFrom : Model → ℕ
+lowerFrom Nrtl = 7
+lowerFrom Wilson = 5
+
+-- of the ordered pair (i, j): in the block of i < j those of (i, j) start at word 3; NRTL has the one alpha, which question 9 found the same both ways
+unfoldable pub parameter : Model → (ℕ → ℕ → ℕ) → ℕ → ℕ → ℕ → ℕ → Float
+parameter m w n i j k = cond (ltb i j) (pairTerm m (w (pairPlace n i j)) 3 k) (cond (ltb j i) (pairTerm m (w (pairPlace n j i)) (lowerFrom m) k) 0f)
 
 -- as the code has them
 unfoldable pub termsOf : (ℕ → Float) → Terms
@@ -34,4 +51,4 @@ parameterRows f n r = foldTo (λ i (l : List Float). parameterRow (f i) n i l) (
 
 -- of a book of n solvents
 unfoldable pub parametersOf : List ℕ → ℕ → List Float
-parametersOf book n = parameterRows (parameter (words book) n) n n
+parametersOf book n = parameterRows (parameter (modelOf book) (words book) n) n n

@@ -6,7 +6,8 @@ use lib.Ieee.{Float}
 use Rattle.floats.specs.Vector.{vec}
 use Rattle.floats.specs.Small.{float}
 use Rattle.book.specs.Book.{termCount}
-use Rattle.records.specs.Parameters.{termIn, termsOf}
+use Rattle.book.specs.declared.Model.{Model}
+use Rattle.records.specs.Parameters.{pairTerm, lowerFrom, termsOf}
 use Rattle.records.specs.declared.Ancillary.{Ancillary}
 use Rattle.records.specs.declared.Range.{Range}
 use Rattle.records.specs.declared.Pair.{Pair}
@@ -29,10 +30,10 @@ ancillaryOf w f = record {
 unfoldable pub rangeOf : (ℕ → ℕ) → ℕ → Range
 rangeOf w f = record { 0 = float w (f + 2); 1 = float w (f + 3) }
 
--- no regression interval, or one with two bounds and whether it was inferred: words 15 to 18
+-- of a pair no regression interval, or one with two bounds and whether it was inferred: words 15 to 18
 unfoldable pub regressionOf : (ℕ → ℕ) → Regression
 regressionOf w = cond (eqb (w 15) 0) None (Interval (float w 16) (float w 17) (not (eqb (w 18) 0)))
 
--- a pair: tau_ij from word 3, tau_ji from word 7, each with the one alpha, and its interval
-unfoldable pub pairOf : (ℕ → ℕ) → Pair
-pairOf w = record { ij = termsOf (termIn w 3); ji = termsOf (termIn w 7); regression = regressionOf w }
+-- a pair: the model's parameters of (i, j) and of (j, i), and its interval
+unfoldable pub pairOf : Model → (ℕ → ℕ) → Pair
+pairOf m w = record { ij = termsOf (pairTerm m w 3); ji = termsOf (pairTerm m w (lowerFrom m)); regression = regressionOf w }

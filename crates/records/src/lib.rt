@@ -6,9 +6,11 @@ ghost use Rattle.blocks.specs.Words.{word, block};
 ghost use Rattle.floats.specs.Vector.{vec, places};
 ghost use Rattle.book.specs.Places.{words, rowFrom, pairPlace};
 ghost use Rattle.floats.specs.Small.{float};
+ghost use Rattle.book.specs.Book.{modelOf};
 ghost use Rattle.records.specs.Records.{ancillaryOf, rangeOf, regressionOf, pairOf};
-ghost use Rattle.records.specs.Parameters.{termsOf, termIn, parameter, parameterRow, parametersOf};
+ghost use Rattle.records.specs.Parameters.{termsOf, termIn, wilsonTerm, pairTerm, lowerFrom, parameter, parameterRow, parameterRows, parametersOf};
 use blocks::word;
+use book::Model;
 
 // A correlation of document 003: t_r, low and high in K, the reducing value in Pa; the first `count` of n and t are
 // its terms.
@@ -25,7 +27,8 @@ pub struct Ancillary {
 // The temperatures that a correlation holds between, in K.
 pub struct Range(pub f64, pub f64);
 
-// The NRTL terms of an ordered pair: tau = t0 + t1 / T + t2 ln T + t3 T, alpha = a0 + a1 T.
+// The parameters of an ordered pair. NRTL: tau = t0 + t1 / T + t2 ln T + t3 T, alpha = a0 + a1 T. Wilson: t0 and t1 are
+// the a and b of Λ = exp(a + b / T), the others +0.
 pub struct Terms {
     pub t0: f64,
     pub t1: f64,
@@ -168,7 +171,7 @@ fn regression_at(s: &[u8]) -> Regression
 }
 
 // Tau from word f on, alpha from word 11 on.
-fn terms_at(s: &[u8], f: usize) -> Terms
+fn nrtl_terms(s: &[u8], f: usize) -> Terms
     requires { ⌜ f ≤ 7 ⌝ }
     ensures { λ r. ⌜ r ≡ termsOf (termIn (word (now (s .entry))) f) ⌝ }
 {
@@ -182,11 +185,48 @@ fn terms_at(s: &[u8], f: usize) -> Terms
     }
 }
 
-fn pair_at(s: &[u8]) -> Pair
-    ensures { λ r. ⌜ r ≡ pairOf (word (now (s .entry))) ⌝ }
+// a and b from word f on.
+fn wilson_terms(s: &[u8], f: usize) -> Terms
+    requires { ⌜ f ≤ 7 ⌝ }
+    ensures { λ r. ⌜ r ≡ termsOf (wilsonTerm (word (now (s .entry))) f) ⌝ }
 {
-    let ij = terms_at(s, 3);
-    let ji = terms_at(s, 7);
+    let a = float_at(s, f);
+    let b = float_at(s, f + 1);
+    Terms {
+        t0: a,
+        t1: b,
+        t2: 0.0,
+        t3: 0.0,
+        a0: 0.0,
+        a1: 0.0,
+    }
+}
+
+// Of the pair (i, j), i < j, in its block.
+fn upper_terms(model: Model, s: &[u8]) -> Terms
+    ensures { λ r. ⌜ r ≡ termsOf (pairTerm model (word (now (s .entry))) 3) ⌝ }
+{
+    match model {
+        Model::Nrtl => nrtl_terms(s, 3),
+        Model::Wilson => wilson_terms(s, 3),
+    }
+}
+
+// Of the pair (j, i) in the same block.
+fn lower_terms(model: Model, s: &[u8]) -> Terms
+    ensures { λ r. ⌜ r ≡ termsOf (pairTerm model (word (now (s .entry))) (lowerFrom model)) ⌝ }
+{
+    match model {
+        Model::Nrtl => nrtl_terms(s, 7),
+        Model::Wilson => wilson_terms(s, 5),
+    }
+}
+
+fn pair_at(model: Model, s: &[u8]) -> Pair
+    ensures { λ r. ⌜ r ≡ pairOf model (word (now (s .entry))) ⌝ }
+{
+    let ij = upper_terms(model, s);
+    let ji = lower_terms(model, s);
     let interval = regression_at(s);
     Pair {
         ij: ij,
@@ -197,26 +237,28 @@ fn pair_at(s: &[u8]) -> Pair
 
 // The pair (i, j), i < j, of a book of n solvents.
 pub fn pair_record(book: &[u8], n: usize, i: usize, j: usize) -> Pair
-    ensures { λ r. ⌜ r ≡ pairOf (words (now (book .entry)) (pairPlace (places n) (places i) (places j))) ⌝ }
+    ensures { λ r. ⌜ r ≡ pairOf (modelOf (now (book .entry))) (words (now (book .entry)) (pairPlace (places n) (places i) (places j))) ⌝ }
 {
-    pair_at(pair_block(
+    let model = book::model_of(book);
+    let block = pair_block(
         book,
         floats::places(n),
         floats::places(i),
         floats::places(j),
-    ))
+    );
+    pair_at(model, block)
 }
 
 // The terms of the ordered pair (i, j), +0 for i = j.
-fn terms_of(book: &[u8], n: usize, i: usize, j: usize) -> Terms
+fn terms_of(model: Model, book: &[u8], n: usize, i: usize, j: usize) -> Terms
     requires { ⌜ (n ≤ 8) × (i ≤ 8) × (j ≤ 8) ⌝ }
-    ensures { λ r. ⌜ r ≡ termsOf (parameter (words (now (book .entry))) n i j) ⌝ }
+    ensures { λ r. ⌜ r ≡ termsOf (parameter model (words (now (book .entry))) n i j) ⌝ }
 {
     if i < j {
-        return terms_at(pair_block(book, n, i, j), 3);
+        return upper_terms(model, pair_block(book, n, i, j));
     }
     if j < i {
-        return terms_at(pair_block(book, n, j, i), 7);
+        return lower_terms(model, pair_block(book, n, j, i));
     }
     Terms {
         t0: 0.0,
@@ -240,30 +282,30 @@ fn set_terms(plane: &mut [f64; 384], from: usize, t: Terms)
     plane[from + 5] = t.a1;
 }
 
-fn fill_row(book: &[u8], n: usize, i: usize, plane: &mut [f64; 384])
+fn fill_row(model: Model, book: &[u8], n: usize, i: usize, plane: &mut [f64; 384])
     requires { ⌜ (n ≤ 8) × (i < 8) ⌝ }
-    ensures { λ _. ⌜ now (plane .exit) ≡ parameterRow (parameter (words (now (book .entry))) n i) n i (now (plane .entry)) ⌝ }
+    ensures { λ _. ⌜ now (plane .exit) ≡ parameterRow (parameter model (words (now (book .entry))) n i) n i (now (plane .entry)) ⌝ }
 {
     for j in 0..n {
-        let t = terms_of(book, n, i, j);
+        let t = terms_of(model, book, n, i, j);
         set_terms(plane, (i * 8 + j) * 6, t);
     }
 }
 
-fn fill(book: &[u8], n: usize, plane: &mut [f64; 384])
+fn fill(model: Model, book: &[u8], n: usize, plane: &mut [f64; 384])
     requires { ⌜ n ≤ 8 ⌝ }
-    ensures { λ _. ⌜ now (plane .exit) ≡ parametersOf (now (book .entry)) n ⌝ }
+    ensures { λ _. ⌜ now (plane .exit) ≡ parameterRows (parameter model (words (now (book .entry))) n) n n ⌝ }
 {
     *plane = [0.0; 384];
     for i in 0..n {
-        fill_row(book, n, i, plane);
+        fill_row(model, book, n, i, plane);
     }
 }
 
-// The NRTL parameters of all ordered pairs, from (i * 8 + j) * 6 on: tau's t0 to t3, alpha's a0 and a1; +0 for i = j and
-// past n.
+// The parameters of all ordered pairs, from (i * 8 + j) * 6 on: NRTL, tau's t0 to t3, alpha's a0 and a1; Wilson, a and b,
+// then +0. All +0 for i = j and past n.
 pub fn parameters(book: &[u8], n: usize, plane: &mut [f64; 384])
     ensures { λ _. ⌜ now (plane .exit) ≡ parametersOf (now (book .entry)) (places n) ⌝ }
 {
-    fill(book, floats::places(n), plane);
+    fill(book::model_of(book), book, floats::places(n), plane);
 }

@@ -9,38 +9,41 @@ use Rattle.saturation.specs.Saturation.{bubbleFrom, residualWith, dewLiquid, bu
 use Rattle.refusals.specs.Numbered.{Numbered}
 use Rattle.refusals.proofs.Laws.{numbers}
 use Rattle.refusals.proofs.Models.{num-normalize}
+use Rattle.book.specs.declared.Model.{Model}
 
-pub num-residualWith : (lg ps : List Float) (p : Float) (x y : List Float) (n : ℕ) → Numbered (residualWith lg ps p x y n)
-unfolding residualWith
-num-residualWith lg ps p x y n = search numbers
+-- for a book of model M
+module _ {M : Model} where
+  pub num-residualWith : (lg ps : List Float) (p : Float) (x y : List Float) (n : ℕ) → Numbered M (residualWith lg ps p x y n)
+  unfolding residualWith
+  num-residualWith lg ps p x y n = search numbers
 
-module _ (E : List Float → Out Activity) (h : (x : List Float) → Numbered (E x)) (ps : List Float) (n : ℕ) where
-  pub num-bubbleAt : (x : List Float) → Numbered (bubbleAt E ps n x)
-  unfolding bubbleAt bubbleFrom
-  num-bubbleAt x = search numbers
+  module _ (E : List Float → Out Activity) (h : (x : List Float) → Numbered M (E x)) (ps : List Float) (n : ℕ) where
+    pub num-bubbleAt : (x : List Float) → Numbered M (bubbleAt E ps n x)
+    unfolding bubbleAt bubbleFrom
+    num-bubbleAt x = search numbers
 
-  pub num-residual : (p : Float) (x y : List Float) → Numbered (residual E ps n p x y)
-  unfolding residual
-  num-residual p x y = search (numbers, num-residualWith)
+    pub num-residual : (p : Float) (x y : List Float) → Numbered M (residual E ps n p x y)
+    unfolding residual
+    num-residual p x y = search (numbers, num-residualWith)
 
-  num-dewPoint : (y lg : List Float) (iteration : ℕ) → Numbered (dewPoint E ps n y lg iteration)
-  unfolding dewPoint dewLiquid
-  num-dewPoint y lg iteration = search (numbers, num-normalize, num-residualWith)
+    num-dewPoint : (y lg : List Float) (iteration : ℕ) → Numbered M (dewPoint E ps n y lg iteration)
+    unfolding dewPoint dewLiquid
+    num-dewPoint y lg iteration = search (numbers, num-normalize, num-residualWith)
 
-  num-dewLoop : (y : List Float) (tolerance : Float) (left done : ℕ) (lg : List Float) → Numbered (dewLoop E ps n y tolerance left done lg)
-  unfolding dewLoop dewTurn dewLiquid
-  num-dewLoop y tolerance zero done lg = search numbers
-  num-dewLoop y tolerance (suc left) done lg = search (numbers, num-normalize, num-dewPoint, num-dewLoop y tolerance left) depth 8
+    num-dewLoop : (y : List Float) (tolerance : Float) (left done : ℕ) (lg : List Float) → Numbered M (dewLoop E ps n y tolerance left done lg)
+    unfolding dewLoop dewTurn dewLiquid
+    num-dewLoop y tolerance zero done lg = search numbers
+    num-dewLoop y tolerance (suc left) done lg = search (numbers, num-normalize, num-dewPoint, num-dewLoop y tolerance left) depth 8
 
-  pub num-dewAt : (o : ActivityOptions) (y : List Float) → Numbered (dewAt E ps n o y)
-  unfolding dewAt
-  num-dewAt o y = num-dewLoop y _ _ 0 _
+    pub num-dewAt : (o : ActivityOptions) (y : List Float) → Numbered M (dewAt E ps n o y)
+    unfolding dewAt
+    num-dewAt o y = num-dewLoop y _ _ 0 _
 
-module _ (E : Activities) (h : (t : Float) (x : List Float) → Numbered (E t x)) (L : Liquids) (g : (t : Float) → Numbered (L t)) (n : ℕ) where
-  pub num-bubblePressure : (t : Float) (x : List Float) → Numbered (bubblePressure E L n t x)
-  unfolding bubblePressure bubbleTask
-  num-bubblePressure t x = search (numbers, num-bubbleAt, num-residual) depth 6
+  module _ (E : Activities) (h : (t : Float) (x : List Float) → Numbered M (E t x)) (L : Liquids) (g : (t : Float) → Numbered M (L t)) (n : ℕ) where
+    pub num-bubblePressure : (t : Float) (x : List Float) → Numbered M (bubblePressure E L n t x)
+    unfolding bubblePressure bubbleTask
+    num-bubblePressure t x = search (numbers, num-bubbleAt, num-residual) depth 6
 
-  pub num-dewPressure : (o : ActivityOptions) (t : Float) (y : List Float) → Numbered (dewPressurePoint E L n o t y)
-  unfolding dewPressurePoint dewTask
-  num-dewPressure o t y = search (numbers, num-dewAt)
+    pub num-dewPressure : (o : ActivityOptions) (t : Float) (y : List Float) → Numbered M (dewPressurePoint E L n o t y)
+    unfolding dewPressurePoint dewTask
+    num-dewPressure o t y = search (numbers, num-dewAt)

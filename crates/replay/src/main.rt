@@ -7,7 +7,8 @@ mod calls;
 mod text;
 
 // The stored files.
-const FILES: [u8; 69] = *b"numbers.txt fractions.txt book.txt rice.txt sheet.txt differences.txt";
+const FILES: [u8; 80] =
+    *b"numbers.txt fractions.txt book.txt rice.txt sheet.txt differences.txt wilson.txt";
 
 // The functions in the order of `calls::call`, at most 32.
 const NAMES: [u8; 124] =

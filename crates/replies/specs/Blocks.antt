@@ -79,7 +79,7 @@ answerLength s = cond (leb (word s 12) 8) (512 * (1 + word s 12)) 512
 
 -- the numbers that are put before the task is known: their block has task 0
 abbrev pub taskless : ℕ → Bool
-taskless r = leb r 12 || eqb r 35 || eqb r 38
+taskless r = leb r 12 || eqb r 35 || eqb r 37 || eqb r 38
 
 -- the task of the question that was refused with r
 unfoldable pub refusedTask : List ℕ → ℕ → ℕ

@@ -180,7 +180,7 @@ pub fn answer_length(answer: &[u8]) -> usize
 fn taskless(number: u64) -> bool
     ensures { λ r. ⌜ r ≡ taskless number ⌝ }
 {
-    (number <= 12) | (number == 35) | (number == 38)
+    (number <= 12) | (number == 35) | (number == 37) | (number == 38)
 }
 
 fn refused_task(question: &[u8], number: u64) -> u64

@@ -11,16 +11,16 @@ use Rattle.thermo_types.specs.Quantities.{positiveOf}
 use Rattle.blocks.specs.Words.{word, block, checkSum, sumBy, checkRight}
 use Rattle.blocks.specs.Bytes.{bytes, rowTo, blockBytes}
 use Rattle.book.specs.Places.{rowFrom, pairPlace}
-use Rattle.book.specs.Book.{ruleIn, ruleOf}
+use Rattle.book.specs.Book.{modelIn, ruleIn, ruleOf}
 use Rattle.records.specs.Records.{rangeOf, ancillaryOf}
-use Rattle.records.specs.Parameters.{termIn, parameter, parameterRow, parameterRows, parametersOf}
+use Rattle.records.specs.Parameters.{termIn, pairTerm, lowerFrom, parameter, parameterRow, parameterRows, parametersOf}
 use Rattle.liquid.specs.Vapor.{inRange, term, slopeTerm, curvatureTerm, sumsOf, vaporFrom, vaporOf, representable, vaporPressureOf}
 use Rattle.jet.specs.Jets.{constJ, addJ, subJ, negJ, mulJ, scaleJ, divJ, expWith}
 use Rattle.nrtl_tables.specs.Pair.{basisOf, tauJ, alphaJ, exponentJ, tauIJ, gIJ, alphaRight, allRight}
 use Rattle.excess.specs.State.{gibbsOf, enthalpyOf, heatCapacityOf, entropyOf, stateWith, stateFrom, withState}
 use Rattle.nrtl.specs.Columns.{colS, colC, termJ, lnFrom, gibbsFrom}
 use Rattle.nrtl.specs.State.{nrtlOf}
-use Rattle.thermo_models.specs.Activity.{excessOf, activityIn}
+use Rattle.thermo_models.specs.Activity.{excessBy, excessOf, activityIn}
 use Rattle.thermo_models.specs.Domain.{solventCovers, temperatureInDomain, pureLiquidsOf, puresTo}
 use Rattle.thermo_models.specs.Model.{pressureInDomain}
 use Rattle.saturation.specs.Saturation.{partialOf, partialSum, bubbleFrom, gapOf, residualWith, dewTerm, dewPressure, dewLiquid, bubbleAt, dewTurn, dewPoint}
@@ -42,9 +42,9 @@ use Rattle.samples.proofs.Shorter.{shorter}
 
 pub absent : Absent
 unfolding ofBits toBits add sub mul div neg lt le eq isNan ofInt toSigned size word block checkSum sumBy checkRight bytes rowTo blockBytes isFinite foldTo allTo
-    fillFrom fill bind need choose expOf lnOf sumsToOne withFractions positiveOf rowFrom pairPlace ruleIn ruleOf rangeOf termIn parameter parameterRow parameterRows
+    fillFrom fill bind need choose expOf lnOf sumsToOne withFractions positiveOf rowFrom pairPlace modelIn ruleIn ruleOf rangeOf termIn pairTerm lowerFrom parameter parameterRow parameterRows
     parametersOf inRange constJ addJ subJ negJ mulJ scaleJ divJ expWith basisOf tauJ alphaJ exponentJ tauIJ gIJ alphaRight allRight colS colC termJ lnFrom
-    gibbsFrom gibbsOf enthalpyOf heatCapacityOf entropyOf stateWith stateFrom withState nrtlOf excessOf solventCovers temperatureInDomain pureLiquidsOf positive
+    gibbsFrom gibbsOf enthalpyOf heatCapacityOf entropyOf stateWith stateFrom withState nrtlOf excessBy excessOf solventCovers temperatureInDomain pureLiquidsOf positive
     toleranceRight optionsRight optionsIn questionFrom inputsRight limitsRight taskIn kindRight molesOf restOf questionOf bit statusNumber stateWords modelWords answerWords
     answerBytes taskAt taskOf answerTo roomy sheetFrom sharesOf normalizeOf ancillaryOf term slopeTerm curvatureTerm sumsOf vaporFrom vaporOf representable
     vaporPressureOf puresTo pressureInDomain activityIn partialOf partialSum bubbleFrom gapOf residualWith dewTerm dewPressure dewLiquid bubbleAt dewTurn

@@ -1,4 +1,4 @@
--- The samples (a) to (s) of docs/FORMAT.md as one list: (a) to (c) on the helper numbers, (d) to (s) on the whole call, from the bytes of book and question to every byte of
+-- The samples (a) to (v) of docs/FORMAT.md as one list: (a) to (c) on the helper numbers, (d) to (v) on the whole call, from the bytes of book and question to every byte of
 -- the answer, in a slice with room for any answer. Assumes nothing.
 use Prim.Native.Nat.{ℕ}
 use mathlib.Core.Path.{_≡_}
@@ -10,7 +10,7 @@ use Rattle.blocks.specs.declared.Rule.{Rule}
 use Rattle.blocks.specs.declared.Rule.the-variants.{Plain, Running}
 use Rattle.replies.specs.Blocks.{answerRoom}
 use Rattle.sheet.specs.Sheet.{sheetOf, replyTo}
-use Rattle.samples.specs.Sheets.{⅓, ½, ⅔, one, two, -zero, 300K, 350K, 100kPa, blockOf, book1, book2, wide, book2-weighed, book1-of}
+use Rattle.samples.specs.Sheets.{⅓, ½, ⅔, one, two, -zero, 300K, 350K, 100kPa, blockOf, book1, book2, wide, book2-weighed, book1-of, wilson1, wilson2}
 use Rattle.samples.specs.Sheets.{questionBy, question, byMass, answerBy, answer}
 
 -- tasks 8 and 9 with two solvents and M = 200: fractions and K
@@ -34,6 +34,10 @@ idealBy rule = ok (answerBy rule 1 0 (300K ∷ 0 ∷ 0 ∷ 0 ∷ 0 ∷ 0 ∷ 0 �
 
 abbrev pub ideal : Out (List ℕ)
 ideal = idealBy Plain
+
+-- the same of Wilson's model, with -0 in g^E / RT and g^E
+abbrev pub idealWilson : Out (List ℕ)
+idealWilson = ok (answer 1 0 (300K ∷ 0 ∷ 0 ∷ 0 ∷ 0 ∷ 0 ∷ 0 ∷ 0 ∷ 0 ∷ 0 ∷ []) (0 ∷ 0 ∷ []) (0 ∷ 0 ∷ []) (-zero ∷ -zero ∷ 0 ∷ 0 ∷ 0 ∷ 0 ∷ 0 ∷ 0 ∷ []))
 
 -- task 1 with one solvent at 300 K, the question's check by a rule
 abbrev pub pure : Rule → List ℕ
@@ -79,3 +83,10 @@ pub record Samples : Type 0 where
   -- (s) version 4: 38, and the refusal's block is summed the plain way
   pub s : sheetOf (book1-of Plain 4) (pure Plain) answerRoom ≡ no 38
   pub s-block : replyTo (book1-of Plain 4) (pure Plain) ≡ blockOf (9 ∷ 0 ∷ 38 ∷ [])
+  -- (t) as (i), Wilson: ln γ 0
+  pub t : sheetOf (wilson1 2) (pure Plain) answerRoom ≡ idealWilson
+  -- (u) as (j), Wilson, a and b 0: both ln γ 0
+  pub u : sheetOf (wilson2 2) (question 1 300K 0 (½ ∷ ½ ∷ []) 200 []) answerRoom ≡ idealWilson
+  -- (v) Wilson in version 1: 37, and the refusal's block has no task
+  pub v : sheetOf (wilson1 1) (pure Plain) answerRoom ≡ no 37
+  pub v-block : replyTo (wilson1 1) (pure Plain) ≡ blockOf (9 ∷ 0 ∷ 37 ∷ [])

@@ -116,6 +116,13 @@ book2-weighed m₀ m₁ = blockOf (1 ∷ 2 ∷ 2 ∷ []) ++ weighed Plain 0 101 
 abbrev pub book1-of : Rule → ℕ → List ℕ
 book1-of rule version = blockBy rule (1 ∷ version ∷ 1 ∷ []) ++ weighed rule 0 101 4MPa ½
 
+-- book1 with its molar mass and book2 with both as of a version, of Wilson's model; the pair has a_ij, b_ij, a_ji, b_ji 0
+abbrev pub wilson1 : ℕ → List ℕ
+wilson1 version = blockOf (1 ∷ version ∷ 1 ∷ 1 ∷ []) ++ weighed Plain 0 101 4MPa ½
+
+abbrev pub wilson2 : ℕ → List ℕ
+wilson2 version = blockOf (1 ∷ version ∷ 2 ∷ 1 ∷ []) ++ weighed Plain 0 101 4MPa ½ ++ weighed Plain 1 102 1MPa ½ ++ blockOf (3 ∷ 0 ∷ 1 ∷ [])
+
 -- ---- a question: task, T, p, fractions, M, K; 200 outer iterations, tolerances 1e-10, threshold -1e-8, the whole bracket
 abbrev pub questionBy : Rule → ℕ → ℕ → ℕ → List ℕ → ℕ → List ℕ → List ℕ
 questionBy rule task t p x m k =

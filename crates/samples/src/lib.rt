@@ -1,1 +1,1 @@
-// The samples (a) to (s) of docs/FORMAT.md: the list in specs/Samples.antt, the one test in proofs/Test.antt. No code.
+// The samples (a) to (v) of docs/FORMAT.md: the list in specs/Samples.antt, the one test in proofs/Test.antt. No code.

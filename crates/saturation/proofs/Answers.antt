@@ -9,7 +9,7 @@ use Rattle.floats.specs.Outcome.{Out, ok, no}
 use Rattle.thermo_types.specs.declared.Temperature.{Temperature}
 use Rattle.thermo_types.specs.declared.Verdict.the-variants.{Passed, Refused}
 use Rattle.thermo_models.specs.declared.Tabled.{Tabled}
-use Rattle.thermo_models.specs.Activity.{Stands, tabledOf}
+use Rattle.thermo_models.specs.Activity.{Stands, tabledBy}
 use Rattle.thermo_models.proofs.Answers.{stands-count}
 use Rattle.saturation.specs.Saturation.{Bubble, Dew}
 use Rattle.saturation.specs.Answers.{bubbleAnswer, residualAnswer, dewAnswer}
@@ -56,11 +56,11 @@ dew-refused (ok d) e q = let z : _≡_ {A = ℕ} 0 1 = cc in absurd (omega arith
 dew-refused (no m) e q = cc
 
 -- ---- what stands beside a table that `tables` made
-pub stands-places : (n : ℕ) {P : List Float} {t : Temperature} {r : Tabled} {old new : List Float} → Stands P (places n) t r old new → places (r .n) ≡ places n
+pub stands-places : (n : ℕ) {book : List ℕ} {P : List Float} {t : Temperature} {r : Tabled} {old new : List Float} → Stands book P (places n) t r old new → places (r .n) ≡ places n
 stands-places n {r = r} h =
     let e : r .n ≡ places n = stands-count h in
     omega arith
 
-pub stands-kelvin : {P : List Float} {n : ℕ} {t : Temperature} {r : Tabled} {old new : List Float} → Stands P n t r old new → r .t ≡ t
-unfolding tabledOf
-stands-kelvin h = rw (h .said)
+pub stands-kelvin : {book : List ℕ} {P : List Float} {n : ℕ} {t : Temperature} {r : Tabled} {old new : List Float} → Stands book P n t r old new → r .t ≡ t
+unfolding tabledBy
+stands-kelvin h = rw (h .made .said)

@@ -258,28 +258,28 @@ module _ (E : List Float → Out Activity) (ps : List Float) (n : ℕ) (o : Acti
     found-good k e z = rw (dew-passed _ pd u, was-yes k pb, ← e) z
 
 -- the tasks after the pure liquids; w is the table of the parameters P, and s what it stands for
-module _ (P : List Float) (L : Liquids) (n : ℕ) (T : Temperature) {v : Verdict} {ps dps : List Float} (a : PuresAre (L (T .0)) v ps dps)
+module _ (book : List ℕ) (P : List Float) (L : Liquids) (n : ℕ) (T : Temperature) {v : Verdict} {ps dps : List Float} (a : PuresAre (L (T .0)) v ps dps)
     {r : ActivitySaturation} where
   module _ (x : List Float) where
     pub bubble-task-refused : {m : ℕ} → v ≡ Refused m → r ≡ saturationAnswer (no m)
-        → r ≡ saturationAnswer (bubblePressure (activityOf P (places n)) L (places n) (T .0) x)
+        → r ≡ saturationAnswer (bubblePressure (activityOf book P (places n)) L (places n) (T .0) x)
     unfolding bubblePressure bind
     bubble-task-refused u z = rw (pures-refused _ a u) z
 
-    pub bubble-task-passed : {w : List Float} {s : Tabled} → v ≡ Passed → Stands P (places n) T s (replicate 512 0f) w
+    pub bubble-task-passed : {w : List Float} {s : Tabled} → v ≡ Passed → Stands book P (places n) T s (replicate 512 0f) w
         → r ≡ saturationAnswer (bubbleTask (activityOn w s) ps (places (s .n)) (s .t .0) x) → r ≡ saturationAnswer
-        (bubblePressure (activityOf P (places n)) L (places n) (T .0) x)
+        (bubblePressure (activityOf book P (places n)) L (places n) (T .0) x)
     unfolding bubblePressure bind
     bubble-task-passed u h z = rw (pures-passed _ a u) (rw (stands-fresh h, stands-places n h, stands-kelvin h) at z)
 
   module _ (o : ActivityOptions) (y : List Float) where
     pub dew-task-refused : {m : ℕ} → v ≡ Refused m → r ≡ saturationAnswer (no m)
-        → r ≡ saturationAnswer (dewPressurePoint (activityOf P (places n)) L (places n) o (T .0) y)
+        → r ≡ saturationAnswer (dewPressurePoint (activityOf book P (places n)) L (places n) o (T .0) y)
     unfolding dewPressurePoint bind
     dew-task-refused u z = rw (pures-refused _ a u) z
 
-    pub dew-task-passed : {w : List Float} {s : Tabled} → v ≡ Passed → Stands P (places n) T s (replicate 512 0f) w
+    pub dew-task-passed : {w : List Float} {s : Tabled} → v ≡ Passed → Stands book P (places n) T s (replicate 512 0f) w
         → r ≡ saturationAnswer (dewTask (activityOn w s) ps (places (s .n)) o (s .t .0) y) → r ≡ saturationAnswer
-        (dewPressurePoint (activityOf P (places n)) L (places n) o (T .0) y)
+        (dewPressurePoint (activityOf book P (places n)) L (places n) o (T .0) y)
     unfolding dewPressurePoint bind
     dew-task-passed u h z = rw (pures-passed _ a u) (rw (stands-fresh h, stands-places n h, stands-kelvin h) at z)

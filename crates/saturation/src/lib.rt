@@ -480,7 +480,7 @@ pub fn activity_bubble_pressure(
     t: Temperature,
     x: &[f64; 8],
 ) -> ActivitySaturation
-    ensures { λ r. ⌜ r ≡ saturationAnswer (bubblePressure (activityOf (now (parameters .entry)) (places n)) (pureLiquidsOf (now (book .entry)) (places n)) (places n) (t .0) (now (x .entry))) ⌝ }
+    ensures { λ r. ⌜ r ≡ saturationAnswer (bubblePressure (activityOf (now (book .entry)) (now (parameters .entry)) (places n)) (pureLiquidsOf (now (book .entry)) (places n)) (places n) (t .0) (now (x .entry))) ⌝ }
 {
     let mut ps = [0.0; 8];
     let mut dps = [0.0; 8];
@@ -490,7 +490,7 @@ pub fn activity_bubble_pressure(
         Verdict::Passed => {}
     }
     let mut table = [0.0; 512];
-    let s = thermo_models::tables(parameters, n, t, &mut table);
+    let s = thermo_models::tables(book, parameters, n, t, &mut table);
     bubble_pressure(&table, s, x, &ps)
 }
 
@@ -536,7 +536,7 @@ pub fn activity_dew_pressure(
     y: &[f64; 8],
     o: ActivityOptions,
 ) -> ActivitySaturation
-    ensures { λ r. ⌜ r ≡ saturationAnswer (dewPressurePoint (activityOf (now (parameters .entry)) (places n)) (pureLiquidsOf (now (book .entry)) (places n)) (places n) o (t .0) (now (y .entry))) ⌝ }
+    ensures { λ r. ⌜ r ≡ saturationAnswer (dewPressurePoint (activityOf (now (book .entry)) (now (parameters .entry)) (places n)) (pureLiquidsOf (now (book .entry)) (places n)) (places n) o (t .0) (now (y .entry))) ⌝ }
 {
     let mut ps = [0.0; 8];
     let mut dps = [0.0; 8];
@@ -546,6 +546,6 @@ pub fn activity_dew_pressure(
         Verdict::Passed => {}
     }
     let mut table = [0.0; 512];
-    let s = thermo_models::tables(parameters, n, t, &mut table);
+    let s = thermo_models::tables(book, parameters, n, t, &mut table);
     dew_pressure(&table, s, y, &ps, o)
 }

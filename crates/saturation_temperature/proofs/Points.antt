@@ -135,36 +135,36 @@ module _ (E : List Float → Out Activity) (ps : List Float) (n : ℕ) (p : Floa
       dew-good v e a b q k z = rw (dew-passed _ pd u, residual-passed _ pg v, ← e, ← a, ← b, ← q, ← k) z
 
 -- ---- f and the answer on the table w of the parameters P; s is what it stands for
-module _ (P : List Float) (L : Liquids) (n : ℕ) (p : Float) (z : List Float) (T : Temperature) {s : Tabled} {w : List Float}
-    (h : Stands P (places n) T s (replicate 512 0f) w) where
+module _ (book : List ℕ) (P : List Float) (L : Liquids) (n : ℕ) (p : Float) (z : List Float) (T : Temperature) {s : Tabled} {w : List Float}
+    (h : Stands book P (places n) T s (replicate 512 0f) w) where
   module _ {v : Verdict} {lg sl : List Float} (a : ActivityIs (activityOn w s z) v lg sl) where
-    activity-on : ActivityIs (activityOf P (places n) (T .0) z) v lg sl
+    activity-on : ActivityIs (activityOf book P (places n) (T .0) z) v lg sl
     activity-on = rw (stands-fresh h) at a
 
     pub activity-no : {m : ℕ} {r : PointAnswer} → v ≡ Refused m → r ≡ pointAnswer (no m)
-        → r ≡ pointAnswer (bubblePointAt (activityOf P (places n)) L (places n) p z (T .0))
+        → r ≡ pointAnswer (bubblePointAt (activityOf book P (places n)) L (places n) p z (T .0))
     unfolding bubblePointAt bind
     activity-no u q = rw (activity-refused _ activity-on u) q
 
     pub activity-ok : {r : PointAnswer} → v ≡ Passed → r ≡ pointAnswer (bubblePointFrom p z (places n) (activityFrom lg sl) (L (T .0)))
-        → r ≡ pointAnswer (bubblePointAt (activityOf P (places n)) L (places n) p z (T .0))
+        → r ≡ pointAnswer (bubblePointAt (activityOf book P (places n)) L (places n) p z (T .0))
     unfolding bubblePointAt bind
     activity-ok u q = rw (activity-passed _ activity-on u) q
 
   module _ (o : ActivityOptions) {v : Verdict} {ps dps : List Float} (a : PuresAre (L (T .0)) v ps dps) (u : v ≡ Passed) where
     pub dew-point-is : {r : PointAnswer} → r ≡ pointAnswer (dewPointFrom (activityOn w s) (puresFrom ps dps) (places (s .n)) o p z)
-        → r ≡ pointAnswer (dewPointAt (activityOf P (places n)) L (places n) o p z (T .0))
+        → r ≡ pointAnswer (dewPointAt (activityOf book P (places n)) L (places n) o p z (T .0))
     unfolding dewPointAt bind
     dew-point-is q = rw (pures-passed _ a u) (rw (stands-fresh h, stands-places n h) at q)
 
     module _ (iterations : ℕ) {curve : Curve} {r : ActivitySaturation} where
       pub found-bubble : curve ≡ Bubble → r ≡ saturationAnswer (bubbleSaturation (activityOn w s) ps (places (s .n)) p z iterations (s .t .0))
-          → r ≡ saturationAnswer (foundOf (activityOf P (places n)) L (places n) curve o p z iterations (T .0))
+          → r ≡ saturationAnswer (foundOf (activityOf book P (places n)) L (places n) curve o p z iterations (T .0))
       unfolding foundOf bubbleFound bind
       found-bubble e q = rw (e, pures-passed _ a u) (rw (stands-fresh h, stands-places n h, stands-kelvin h) at q)
 
       pub found-dew : curve ≡ Dew → r ≡ saturationAnswer (dewSaturation (activityOn w s) ps (places (s .n)) o p z iterations (s .t .0))
-          → r ≡ saturationAnswer (foundOf (activityOf P (places n)) L (places n) curve o p z iterations (T .0))
+          → r ≡ saturationAnswer (foundOf (activityOf book P (places n)) L (places n) curve o p z iterations (T .0))
       unfolding foundOf dewFound bind
       found-dew e q = rw (e, pures-passed _ a u) (rw (stands-fresh h, stands-places n h, stands-kelvin h) at q)
 

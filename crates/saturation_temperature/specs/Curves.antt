@@ -25,4 +25,4 @@ module _ (E : Activities) (L : Liquids) (n : ℕ) where
 
 -- f of a curve, with the book's pure liquids and the parameters P
 abbrev pub curveOf : List ℕ → List Float → ℕ → Curve → ActivityOptions → Float → List Float → Float → Out Point
-curveOf book P n = pointOf (activityOf P (places n)) (pureLiquidsOf book (places n)) (places n)
+curveOf book P n = pointOf (activityOf book P (places n)) (pureLiquidsOf book (places n)) (places n)

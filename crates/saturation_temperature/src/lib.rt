@@ -207,10 +207,10 @@ fn bubble_point_at(
     x: &[f64; 8],
     t: Temperature,
 ) -> PointAnswer
-    ensures { λ r. ⌜ r ≡ pointAnswer (bubblePointAt (activityOf (now (parameters .entry)) (places n)) (pureLiquidsOf (now (book .entry)) (places n)) (places n) p (now (x .entry)) (t .0)) ⌝ }
+    ensures { λ r. ⌜ r ≡ pointAnswer (bubblePointAt (activityOf (now (book .entry)) (now (parameters .entry)) (places n)) (pureLiquidsOf (now (book .entry)) (places n)) (places n) p (now (x .entry)) (t .0)) ⌝ }
 {
     let mut table = [0.0; 512];
-    let s = thermo_models::tables(parameters, n, t, &mut table);
+    let s = thermo_models::tables(book, parameters, n, t, &mut table);
     let mut lg = [0.0; 8];
     let mut sl = [0.0; 8];
     let verdict = thermo_models::activity(&table, s, x, &mut lg, &mut sl);
@@ -314,7 +314,7 @@ fn dew_point_at(
     o: ActivityOptions,
     t: Temperature,
 ) -> PointAnswer
-    ensures { λ r. ⌜ r ≡ pointAnswer (dewPointAt (activityOf (now (parameters .entry)) (places n)) (pureLiquidsOf (now (book .entry)) (places n)) (places n) o p (now (y .entry)) (t .0)) ⌝ }
+    ensures { λ r. ⌜ r ≡ pointAnswer (dewPointAt (activityOf (now (book .entry)) (now (parameters .entry)) (places n)) (pureLiquidsOf (now (book .entry)) (places n)) (places n) o p (now (y .entry)) (t .0)) ⌝ }
 {
     let mut ps = [0.0; 8];
     let mut dps = [0.0; 8];
@@ -324,7 +324,7 @@ fn dew_point_at(
         Verdict::Passed => {}
     }
     let mut table = [0.0; 512];
-    let s = thermo_models::tables(parameters, n, t, &mut table);
+    let s = thermo_models::tables(book, parameters, n, t, &mut table);
     dew_point_from(&table, s, &ps, &dps, p, y, o)
 }
 
@@ -535,7 +535,7 @@ fn found_at(
     iterations: u64,
     t: Temperature,
 ) -> ActivitySaturation
-    ensures { λ r. ⌜ r ≡ saturationAnswer (foundOf (activityOf (now (parameters .entry)) (places n)) (pureLiquidsOf (now (book .entry)) (places n)) (places n) curve o p (now (z .entry)) iterations (t .0)) ⌝ }
+    ensures { λ r. ⌜ r ≡ saturationAnswer (foundOf (activityOf (now (book .entry)) (now (parameters .entry)) (places n)) (pureLiquidsOf (now (book .entry)) (places n)) (places n) curve o p (now (z .entry)) iterations (t .0)) ⌝ }
 {
     let mut ps = [0.0; 8];
     let mut dps = [0.0; 8];
@@ -545,7 +545,7 @@ fn found_at(
         Verdict::Passed => {}
     }
     let mut table = [0.0; 512];
-    let s = thermo_models::tables(parameters, n, t, &mut table);
+    let s = thermo_models::tables(book, parameters, n, t, &mut table);
     match curve {
         Curve::Bubble => bubble_with(&table, s, &ps, p, z, iterations),
         Curve::Dew => dew_with(&table, s, &ps, p, z, o, iterations),
@@ -562,7 +562,7 @@ fn curve_temperature(
     z: &[f64; 8],
     o: ActivityOptions,
 ) -> ActivitySaturation
-    ensures { λ r. ⌜ r ≡ saturationAnswer (saturationTemperature (curveOf (now (book .entry)) (now (parameters .entry)) n curve o p (now (z .entry))) (foundOf (activityOf (now (parameters .entry)) (places n)) (pureLiquidsOf (now (book .entry)) (places n)) (places n) curve o p (now (z .entry))) o p) ⌝ }
+    ensures { λ r. ⌜ r ≡ saturationAnswer (saturationTemperature (curveOf (now (book .entry)) (now (parameters .entry)) n curve o p (now (z .entry))) (foundOf (activityOf (now (book .entry)) (now (parameters .entry)) (places n)) (pureLiquidsOf (now (book .entry)) (places n)) (places n) curve o p (now (z .entry))) o p) ⌝ }
 {
     if !thermo_models::check_pressure(p) {
         return saturation::no_saturation(23);
@@ -592,7 +592,7 @@ pub fn activity_bubble_temperature(
     x: &[f64; 8],
     o: ActivityOptions,
 ) -> ActivitySaturation
-    ensures { λ r. ⌜ r ≡ saturationAnswer (bubbleTemperature (activityOf (now (parameters .entry)) (places n)) (pureLiquidsOf (now (book .entry)) (places n)) (places n) o (p .0) (now (x .entry))) ⌝ }
+    ensures { λ r. ⌜ r ≡ saturationAnswer (bubbleTemperature (activityOf (now (book .entry)) (now (parameters .entry)) (places n)) (pureLiquidsOf (now (book .entry)) (places n)) (places n) o (p .0) (now (x .entry))) ⌝ }
 {
     curve_temperature(Curve::Bubble, book, parameters, n, p.value(), x, o)
 }
@@ -606,7 +606,7 @@ pub fn activity_dew_temperature(
     y: &[f64; 8],
     o: ActivityOptions,
 ) -> ActivitySaturation
-    ensures { λ r. ⌜ r ≡ saturationAnswer (dewTemperature (activityOf (now (parameters .entry)) (places n)) (pureLiquidsOf (now (book .entry)) (places n)) (places n) o (p .0) (now (y .entry))) ⌝ }
+    ensures { λ r. ⌜ r ≡ saturationAnswer (dewTemperature (activityOf (now (book .entry)) (now (parameters .entry)) (places n)) (pureLiquidsOf (now (book .entry)) (places n)) (places n) o (p .0) (now (y .entry))) ⌝ }
 {
     curve_temperature(Curve::Dew, book, parameters, n, p.value(), y, o)
 }

@@ -69,12 +69,12 @@ module _ (rule : Rule) (book : List ℕ) (n : ℕ) (q : Question) (P : List Floa
   unfolding taskAt choose
   at-1 e h = at-task (rw e) h
 
-  pub at-2 : {s : ActivitySaturation} → q .task ≡ 2 → s ≡ saturationAnswer (bubblePressure (activityOf P n) (pureLiquidsOf book n) n t (q .fractions)) → Says rule (q .task) s r old new
+  pub at-2 : {s : ActivitySaturation} → q .task ≡ 2 → s ≡ saturationAnswer (bubblePressure (activityOf book P n) (pureLiquidsOf book n) n t (q .fractions)) → Says rule (q .task) s r old new
       → Answers (replied rule (q .task) (taskAt (mixtureWith book P n) q t)) r old new
   unfolding taskAt choose task2 activityOf
   at-2 e a h = at-task (rw e) (h .says _ a)
 
-  pub at-3 : {s : ActivitySaturation} → q .task ≡ 3 → s ≡ saturationAnswer (dewPressurePoint (activityOf P n) (pureLiquidsOf book n) n (q .options) t (q .fractions))
+  pub at-3 : {s : ActivitySaturation} → q .task ≡ 3 → s ≡ saturationAnswer (dewPressurePoint (activityOf book P n) (pureLiquidsOf book n) n (q .options) t (q .fractions))
       → Says rule (q .task) s r old new → Answers (replied rule (q .task) (taskAt (mixtureWith book P n) q t)) r old new
   unfolding taskAt choose task3 activityOf
   at-3 e a h = at-task (rw e) (h .says _ a)
@@ -88,12 +88,12 @@ module _ (rule : Rule) (book : List ℕ) (n : ℕ) (q : Question) (P : List Floa
   unfolding taskAt choose
   at-rest a b c d h = at-task (rw (ne-eqb (q .task) 1 a, ne-eqb (q .task) 2 b, ne-eqb (q .task) 3 c, ne-eqb (q .task) 6 d)) h
 
-  pub under-4 : {s : ActivitySaturation} → q .task ≡ 4 → s ≡ saturationAnswer (bubbleTemperature (activityOf P n) (pureLiquidsOf book n) n (q .options) t (q .fractions))
+  pub under-4 : {s : ActivitySaturation} → q .task ≡ 4 → s ≡ saturationAnswer (bubbleTemperature (activityOf book P n) (pureLiquidsOf book n) n (q .options) t (q .fractions))
       → Says rule (q .task) s r old new → Answers (replied rule (q .task) (taskUnder (mixtureWith book P n) q t)) r old new
   unfolding taskUnder task4 activityOf
   under-4 e a h = is-task rule (q .task) _ _ e (h .says _ a)
 
-  pub under-5 : {s : ActivitySaturation} → (q .task ≡ 4 → ⊥) → s ≡ saturationAnswer (dewTemperature (activityOf P n) (pureLiquidsOf book n) n (q .options) t (q .fractions))
+  pub under-5 : {s : ActivitySaturation} → (q .task ≡ 4 → ⊥) → s ≡ saturationAnswer (dewTemperature (activityOf book P n) (pureLiquidsOf book n) n (q .options) t (q .fractions))
       → Says rule (q .task) s r old new → Answers (replied rule (q .task) (taskUnder (mixtureWith book P n) q t)) r old new
   unfolding taskUnder task5 activityOf
   under-5 e a h = not-task rule (q .task) _ _ e (h .says _ a)

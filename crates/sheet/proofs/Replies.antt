@@ -155,13 +155,13 @@ module _ (rule : Rule) (task : ℕ) (t : Float) (w : Assessment) (o : Out Excess
       found (no m) g = let z : _≡_ {A = ℕ} 0 1 = cc (ap (λ (e : Energies). e .verdict) (g .energies), q) in absurd (omega arith)
 
 -- of the parameters, by a table made for t
-module _ (rule : Rule) (task : ℕ) {P : List Float} {n : ℕ} {t : Temperature} {s : Tabled} {table : List Float} (x : List Float) (h : Stands P n t s (replicate 512 0f) table) where
+module _ (rule : Rule) (task : ℕ) {book : List ℕ} {P : List Float} {n : ℕ} {t : Temperature} {s : Tabled} {table : List Float} (x : List Float) (h : Stands book P n t s (replicate 512 0f) table) where
   pub excess-asked : {u : Float} {v w : Assessment} {e : Energies} {lg sl : List Float} {r : ℕ} {old new : List ℕ} → Gives (excessOn table s x) e lg sl → u ≡ t .0 → v ≡ w
       → ((o : Out Excess) → Gives o e lg sl → Answers (replied rule task (bind o (excessFound u v))) r old new)
-      → Answers (replied rule task (bind (excessOf P n (t .0) x) (excessFound (t .0) w))) r old new
+      → Answers (replied rule task (bind (excessOf book P n (t .0) x) (excessFound (t .0) w))) r old new
   excess-asked g p q f =
-      let k : excessOn table s x ≡ excessOf P n (t .0) x = ap (λ (E : List Float → Out Excess). E x) (excess-fresh h) in
-      rw (p, q) at (f (excessOf P n (t .0) x) (rw k at g))
+      let k : excessOn table s x ≡ excessOf book P n (t .0) x = ap (λ (E : List Float → Out Excess). E x) (excess-fresh h) in
+      rw (p, q) at (f (excessOf book P n (t .0) x) (rw k at g))
 
 pub rice-alone : (o : RachfordRiceOutcome) (x y : List Float) → riceBlock o x y .state .trials ≡ 0
 unfolding riceBlock
@@ -218,21 +218,21 @@ module _ (rule : Rule) (task : ℕ) {r : ℕ} {old new : List ℕ} where
 
 -- ---- 6 and 7 of the book's mixture
 module _ (rule : Rule) (book : List ℕ) (n : ℕ) (q : Question) (P : List Float) (t : Temperature) {b : AnswerBlock} {r : ℕ} {old new : List ℕ} where
-  pub stability-says : {a : Tabled} {table : List Float} {s : LiquidStability} → Stands P (places n) t a (replicate 512 0f) table
+  pub stability-says : {a : Tabled} {table : List Float} {s : LiquidStability} → Stands book P (places n) t a (replicate 512 0f) table
       → s ≡ stabilityAnswer (stabilityOf (activityOn table a) (places (a .n)) (q .options) (q .fractions)) → b ≡ stabilityBlock (s .stable) (s .count)
       → Answers (onPassed (s .verdict) (answerBytes rule (q .task) (record { block = b; trials = s .trials }))) r old new
       → Answers (replied rule (q .task) (task6 (mixtureWith book P (places n)) q (t .0))) r old new
   unfolding task6 activityOf
-  stability-says h e d g = stability-replied rule (q .task) (stabilityOf (activityOf P (places n) (t .0)) (places n) (q .options) (q .fractions)) (rw (stands-fresh h, stands-places n h) at e) d g
+  stability-says h e d g = stability-replied rule (q .task) (stabilityOf (activityOf book P (places n) (t .0)) (places n) (q .options) (q .fractions)) (rw (stands-fresh h, stands-places n h) at e) d g
 
   pub flash-says : (p : Pressure) {f : ActivityTpFlash} {u v : Float}
-      → f ≡ flashAnswer (tpFlash (activityOf P (places n)) (pureLiquidsOf book (places n)) (temperatureInDomain book (places n)) (places n) (q .options) (t .0) (q .fractions) (p .0))
+      → f ≡ flashAnswer (tpFlash (activityOf book P (places n)) (pureLiquidsOf book (places n)) (temperatureInDomain book (places n)) (places n) (q .options) (t .0) (q .fractions) (p .0))
       → u ≡ t .0 → v ≡ p .0 → b ≡ flashBlock u v (foundFlash f) → Answers (onPassed (f .verdict) (answerBytes rule (q .task) (record { block = b; trials = f .trials }))) r old new
       → Answers (replied rule (q .task) (task7 (mixtureWith book P (places n)) q (t .0) (p .0))) r old new
   unfolding task7 activityOf
   flash-says p e a c d g =
       flash-replied rule (q .task)
-      (tpFlash (activityOf P (places n)) (pureLiquidsOf book (places n)) (temperatureInDomain book (places n)) (places n) (q .options) (t .0) (q .fractions) (p .0)) e a c d g
+      (tpFlash (activityOf book P (places n)) (pureLiquidsOf book (places n)) (temperatureInDomain book (places n)) (places n) (q .options) (t .0) (q .fractions) (p .0)) e a c d g
 
 -- ---- at most eight trials in an array of eight, refused or not
 stability-sized : (n : ℕ) (o : Out Trials) {s : LiquidStability} → Each (Few (places n)) o → s ≡ stabilityAnswer o → (s .count ≤ 8) × (length (s .trials) ≡ 8)

@@ -40,7 +40,7 @@ questionTo book version n question = questionOf (ruleOf book) question version (
 unfoldable pub sheetFrom : List ℕ → ℕ → ℕ → List ℕ → ℕ → Out (List ℕ)
 sheetFrom book version n question room = roomy room (bind (questionTo book version n question) (answerTo book n))
 
--- a book's questions (1 to 9, 35), then the others
+-- a book's questions (1 to 9, 35, 37, 38), then the others
 unfoldable pub sheetOf : List ℕ → List ℕ → ℕ → Out (List ℕ)
 sheetOf book question room = bind (bookOf book) (λ h. sheetFrom book (h .version) (h .n) question room)
 

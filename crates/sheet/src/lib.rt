@@ -149,7 +149,7 @@ fn task_1(
     let mut ln_gamma = [0.0; 8];
     let mut slopes = [0.0; 8];
     let mut table = [0.0; 512];
-    let at = thermo_models::tables(parameters, n, t, &mut table);
+    let at = thermo_models::tables(book, parameters, n, t, &mut table);
     let e = thermo_models::excess(&table, at, &x, &mut ln_gamma, &mut slopes);
     let v = thermo_models::validity(book, n, t, &x);
     reply_excess(rule, q.task, t.value(), v, e, ln_gamma, slopes, out)
@@ -179,7 +179,7 @@ fn task_6(
     let x = q.fractions;
     let o = q.options;
     let mut table = [0.0; 512];
-    let at = thermo_models::tables(parameters, n, t, &mut table);
+    let at = thermo_models::tables(book, parameters, n, t, &mut table);
     let s = liquid_stability::liquid_stability(&table, at, o, &x);
     let verdict = s.verdict;
     let trials = s.trials;

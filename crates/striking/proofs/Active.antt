@@ -67,3 +67,6 @@ cond-when b b' x y x' y' e f g = go b f g ∙ ap (λ (c : Bool). cond c x' y') e
     go : (b : Bool) → (T b → x ≡ x') → (T (not b) → y ≡ y') → cond b x y ≡ cond b x' y'
     go true f g = f tt
     go false f g = g tt
+
+pub cond-both : {X : Type 0} (a b : Bool) (x y z w : X) → a ≡ b → x ≡ z → y ≡ w → cond a x y ≡ cond b z w
+cond-both a b x y z w e p q = ap (λ (c : Bool). cond c x y) e ∙ ap (λ u. cond b u y) p ∙ ap (λ u. cond b z u) q

@@ -1,4 +1,4 @@
--- The shorter book is accepted where the longer one is (questions 1 to 9 and 35), with the count of kept solvents, and has their data. Assumes nothing.
+-- The shorter book is accepted where the longer one is (questions 1 to 9, 35, 37 and 38), with the count of kept solvents, and has their data. Assumes nothing.
 use mathlib.Core.Path.{_≡_, refl, sym, ap, _∙_, subst}
 use mathlib.Core.Logic.{_≢_}
 use Prim.Native.Nat.{ℕ, zero, suc, _+_, _-_, _/_, _%_, _≤_, _<_}
@@ -18,8 +18,10 @@ use Rattle.floats.specs.Outcome.{ok}
 use Rattle.floats.proofs.Folds.{all-at}
 use Rattle.floats.proofs.Outcomes.{need-yes}
 use Rattle.book.specs.Places.{words, pairCount, blockCount, rowFrom, pairPlace}
+use Rattle.book.specs.declared.Model.{Model}
+use Rattle.book.specs.declared.Model.the-variants.{Nrtl, Wilson}
 use Rattle.book.specs.declared.Head.{Head}
-use Rattle.book.specs.Book.{headIn, ruleIn, ruleOf, floatsFinite, versionRight, headRight, solventRight, rangeRight, termCount, recordRight, recordsRight, hasMasses, molarMass, massesRight, casNew, pairRight, rowRight, boundsFinite, pairFinite, alphasEqual, pairsOf, solventsOf, headOf, bookOf}
+use Rattle.book.specs.Book.{headIn, ruleIn, ruleOf, floatsFinite, versionRight, headRight, modelRight, modelIn, modelOf, solventRight, rangeRight, termCount, recordRight, recordsRight, hasMasses, molarMass, massesRight, casNew, pairRight, rowRight, parametersFinite, boundsFinite, pairFinite, alphasEqual, pairsOf, solventsOf, headOf, bookOf}
 use Rattle.book.proofs.Laws.{rule-sized}
 use Rattle.book.proofs.Unread.{floats-same}
 use Rattle.book.proofs.Accepted.{Accepted, accepted, opened-head, solvent-stands, records-stand, pair-stands, floats-stand, alphas-stand}
@@ -69,6 +71,10 @@ version-right : (w v : ℕ → ℕ) → ((k : ℕ) → k < 63 → k ≢ 2 → w 
 unfolding versionRight
 version-right w v e = rw (e 0 (omega arith) (λ (z : 0 ≡ 2). omega arith), e 1 (omega arith) (λ (z : 1 ≡ 2). omega arith))
 
+model-right : (w v : ℕ → ℕ) → ((k : ℕ) → k < 63 → k ≢ 2 → w k ≡ v k) → modelRight w ≡ modelRight v
+unfolding modelRight
+model-right w v e = rw (e 1 (omega arith) (λ (z : 1 ≡ 2). omega arith), e 3 (omega arith) (λ (z : 3 ≡ 2). omega arith))
+
 solvent-right : (w v : ℕ → ℕ) (i j : ℕ) → ((k : ℕ) → k < 63 → k ≢ 1 → w k ≡ v k) → v 1 ≡ j → solventRight w i ≡ true → solventRight v j ≡ true
 unfolding solventRight
 solvent-right w v i j e x h =
@@ -98,13 +104,19 @@ unfolding recordsRight
 records-same w v e = rw (record-same w v 3 (λ k a b. e k a (omega arith)), record-same w v 24 (λ k a b. e k (omega arith) b))
 
 module _ (w v : ℕ → ℕ) (e : (k : ℕ) → 3 ≤ k → k ≤ 18 → w k ≡ v k) where
-  finite-same : pairFinite w ≡ pairFinite v
-  unfolding pairFinite boundsFinite
-  finite-same = rw (floats-same w v 3 12 (λ k l. e (3 + k) (omega arith) (omega arith)), floats-same w v 16 2 (λ k l. e (16 + k) (omega arith) (omega arith)), e 15 (omega arith) (omega arith))
+  parameters-same : (m : Model) → parametersFinite m w ≡ parametersFinite m v
+  unfolding parametersFinite
+  parameters-same Nrtl = floats-same w v 3 12 (λ k l. e (3 + k) (omega arith) (omega arith))
+  parameters-same Wilson = floats-same w v 3 4 (λ k l. e (3 + k) (omega arith) (omega arith))
 
-  alphas-same : alphasEqual w ≡ alphasEqual v
+  finite-same : (m : Model) → pairFinite m w ≡ pairFinite m v
+  unfolding pairFinite boundsFinite
+  finite-same m = rw (parameters-same m, floats-same w v 16 2 (λ k l. e (16 + k) (omega arith) (omega arith)), e 15 (omega arith) (omega arith))
+
+  alphas-same : (m : Model) → alphasEqual m w ≡ alphasEqual m v
   unfolding alphasEqual
-  alphas-same = rw (e 11 (omega arith) (omega arith), e 12 (omega arith) (omega arith), e 13 (omega arith) (omega arith), e 14 (omega arith) (omega arith))
+  alphas-same Wilson = refl
+  alphas-same Nrtl = rw (e 11 (omega arith) (omega arith), e 12 (omega arith) (omega arith), e 13 (omega arith) (omega arith), e 14 (omega arith) (omega arith))
 
 pair-right : (w v : ℕ → ℕ) (i j i' j' : ℕ) → w 0 ≡ v 0 → ((k : ℕ) → 3 ≤ k → k ≤ 18 → w k ≡ v k) → v 1 ≡ i' → v 2 ≡ j' → pairRight w i j ≡ true → pairRight v i' j' ≡ true
 unfolding pairRight
@@ -166,6 +178,11 @@ module _ (keep : ℕ → Bool) (n : ℕ) where
     pub shorter-pairs : KeptPairs keep n s s'
     shorter-pairs = record { pair = λ i j l m p q k a b. h .pair i j l m p q k (omega arith) (λ (z : k ≡ 1). omega arith) (λ (z : k ≡ 2). omega arith) }
 
+    -- block 0 stands but for the count
+    pub model-same : modelOf s ≡ modelOf s'
+    unfolding modelIn
+    model-same = rw (h .head 3 (omega arith) (λ (z : 3 ≡ 2). omega arith))
+
     mass-kept : (i : ℕ) → i < n → T (keep i) → molarMass (words s) i ≡ molarMass (words s') (cnt keep i)
     mass-kept i l q = ap floatOf (h .solvent i l q 45 (omega arith) (λ (z : 45 ≡ 1). omega arith))
 
@@ -200,16 +217,16 @@ module _ (keep : ℕ → Bool) (n : ℕ) where
           let e : i + 1 + d - i - 1 ≡ d = omega arith in
           subst (λ (x : ℕ). pairRight (words s' (rowFrom (cnt keep n) i + x)) i (i + 1 + d) ≡ true) e (pair-places i (i + 1 + d) (omega arith) (omega arith)))
 
-      -- block 0 with its version
+      -- block 0 with its version, of the longer book's model
       abbrev headed : ℕ → Head
-      headed version = record { n = cnt keep n; version = version }
+      headed version = record { n = cnt keep n; version = version; model = modelOf s }
 
       pairs-open : (version : ℕ) → pairsOf (words s') (headed version) ≡ ok (headed version)
       unfolding pairsOf
       pairs-open version =
           need-yes 7 _ (all-true (λ i. rowRight (words s') i (rowFrom (cnt keep n) i) (cnt keep n - i - 1)) (cnt keep n) rows-right)
-          ∙ need-yes 8 _ (each-pair (λ b. pairFinite (words s' b)) (cnt keep n) few (at-pairs (λ i j. pairFinite (words s' (pairPlace (cnt keep n) i j)) ≡ true) (λ i j l u p q. sym (finite-same _ _ (shorter-pairs .pair i j l u p q)) ∙ floats-stand s n a i j l u)))
-          ∙ need-yes 9 _ (each-pair (λ b. alphasEqual (words s' b)) (cnt keep n) few (at-pairs (λ i j. alphasEqual (words s' (pairPlace (cnt keep n) i j)) ≡ true) (λ i j l u p q. sym (alphas-same _ _ (shorter-pairs .pair i j l u p q)) ∙ alphas-stand s n a i j l u)))
+          ∙ need-yes 8 _ (each-pair (λ b. pairFinite (modelOf s) (words s' b)) (cnt keep n) few (at-pairs (λ i j. pairFinite (modelOf s) (words s' (pairPlace (cnt keep n) i j)) ≡ true) (λ i j l u p q. sym (finite-same _ _ (shorter-pairs .pair i j l u p q) (modelOf s)) ∙ floats-stand s n a i j l u)))
+          ∙ need-yes 9 _ (each-pair (λ b. alphasEqual (modelOf s) (words s' b)) (cnt keep n) few (at-pairs (λ i j. alphasEqual (modelOf s) (words s' (pairPlace (cnt keep n) i j)) ≡ true) (λ i j l u p q. sym (alphas-same _ _ (shorter-pairs .pair i j l u p q) (modelOf s)) ∙ alphas-stand s n a i j l u)))
 
       masses-open : massesRight (words s') (headed (words s' 0 1)) ≡ true
       unfolding massesRight headIn
@@ -239,14 +256,18 @@ module _ (keep : ℕ → Bool) (n : ℕ) where
           ∙ need-yes 2 _ (subst (λ (c : ℕ). allTo (λ k. checkRight (ruleOf s') (words s' k)) c ≡ true) (sym blocks) (is-true _ (h .checks)))
           ∙ need-yes 3 _ (head-right (words s 0) (words s' 0) (h .head) (subst (λ (x : ℕ). 0 < x) (sym (h .count)) some) (subst (λ (x : ℕ). x ≤ 8) (sym (h .count)) few) (a .head))
           ∙ need-yes 3 _ (eq-eqb (length s' / 512) (blockCount (words s' 0 2)) (blocks ∙ ap (λ (x : ℕ). blockCount x) (sym (h .count))))
-          ∙ subst (λ (x : ℕ). solventsOf (words s') (record { n = x; version = words s' 0 1 }) ≡ ok (headed (words s' 0 1))) (sym (h .count)) (solvents-open (words s' 0 1) refl)
+          ∙ need-yes 37 _ (sym (model-right (words s 0) (words s' 0) (h .head)) ∙ a .model)
+          ∙ subst (λ (m : Model). solventsOf (words s') (record { n = words s' 0 2; version = words s' 0 1; model = m }) ≡ ok (headed (words s' 0 1))) model-same
+          (subst (λ (x : ℕ). solventsOf (words s') (record { n = x; version = words s' 0 1; model = modelOf s }) ≡ ok (headed (words s' 0 1))) (sym (h .count)) (solvents-open (words s' 0 1) refl))
 
--- questions 1 to 9 and 35; that some solvent is kept follows from a feed that sums to 1
+-- questions 1 to 9, 35, 37 and 38; that some solvent is kept follows from a feed that sums to 1
 pub strike-book : (keep : ℕ → Bool) (g : Head) (s s' : List ℕ) → ShorterBook keep (g .n) s s' → 0 < cnt keep (g .n) → bookOf s ≡ ok g → bookOf s' ≡ ok (shorterHead keep g)
 unfolding headIn shorterHead
 strike-book keep g s s' h some e =
     let version : words s' 0 1 ≡ g .version = sym (h .head 1 (omega arith) (λ (z : 1 ≡ 2). omega arith)) ∙ ap (λ (x : Head). x .version) (opened-head s e) in
-    opens keep (g .n) s s' h (accepted s e) some ∙ ap (λ (v : ℕ). ok (record { n = cnt keep (g .n); version = v })) version
+    opens keep (g .n) s s' h (accepted s e) some
+    ∙ ap (λ (v : ℕ). ok (record { n = cnt keep (g .n); version = v; model = modelOf s })) version
+    ∙ ap (λ (m : Model). ok (record { n = cnt keep (g .n); version = g .version; model = m })) (ap (λ (x : Head). x .model) (opened-head s e))
 
 -- the molar masses of the solvents kept, where the version has them; every one is positive
 pub record KeptMasses (keep : ℕ → Bool) (version n : ℕ) (m m' : ℕ → Float) : Type 0 where

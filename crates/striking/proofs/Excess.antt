@@ -1,10 +1,11 @@
 -- What of an excess state isn't its model's own is struck: where the longer call's jets are near the shorter's, an accepted state is accepted, with equal results for the
 -- solvents kept. Assumes nothing.
-use mathlib.Core.Path.{_≡_, refl, sym, _∙_, subst}
-use Prim.Native.Nat.{ℕ, zero, suc, _≤_, _<_}
-use native.Mathlib.Nat.{le-trans, le-refl}
+use mathlib.Core.Path.{_≡_, refl, sym, ap, _∙_, subst}
+use Prim.Native.Nat.{ℕ, zero, suc, _+_, _*_, _≤_, _<_}
+use native.Mathlib.Nat.{le-trans, le-refl, add-zero}
 use native.Mathlib.Omega.{arith}
 use mathlib.Core.Bool.{Bool, true, false, not}
+use mathlib.Core.List.{List}
 use lib.Dec.{T}
 use lib.Ieee.{Float, nan, inf, fin, binary64, neg, lt, ofBits}
 use lib.Ieee.Scale.{finite}
@@ -54,6 +55,14 @@ cnt-le keep (suc n) = go (keep n) (cnt-le keep n)
     go : (b : Bool) → cnt keep n ≤ n → tick b (cnt keep n) ≤ suc n
     go true h = omega arith
     go false h = omega arith
+
+-- parameters of pairs of two kept solvents: six of each
+pub record Params (keep : ℕ → Bool) (n : ℕ) (P P' : List Float) : Type 0 where
+  pub entry : (i j : ℕ) → i < n → T (keep i) → j < n → T (keep j) → (k : ℕ) → k < 6 → at P ((i * 8 + j) * 6 + k) ≡ at P' ((cnt keep i * 8 + cnt keep j) * 6 + k)
+
+-- the first of six
+pub first-entry : (P P' : List Float) (e e' : ℕ) → at P (e * 6 + 0) ≡ at P' (e' * 6 + 0) → at P (e * 6) ≡ at P' (e' * 6)
+first-entry P P' e e' h = ap (at P) (sym (add-zero (e * 6))) ∙ h ∙ ap (at P') (add-zero (e' * 6))
 
 module _ (keep : ℕ → Bool) (n : ℕ) (small : n ≤ 8) (x x' : ℕ → Float) (hx : Fractions keep n x x') where
   gone-zero : T (allFinite x n) → (k : ℕ) → k < n → T (not (keep k)) → Zero (x k)

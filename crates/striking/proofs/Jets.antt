@@ -7,9 +7,9 @@ use lib.Ieee.{Float, binary64, ofBits, fits}
 use Rattle.floats.specs.Arithmetic.{_⊕_, 0f, 2f}
 use Rattle.floats.specs.Fold.{foldTo, sumFrom}
 use Rattle.jet.specs.declared.Jet.{Jet}
-use Rattle.jet.specs.Jets.{constJ, addJ, subJ, mulJ, scaleJ, divJ, sumJetFrom, sumJetTo}
+use Rattle.jet.specs.Jets.{constJ, addJ, subJ, negJ, mulJ, scaleJ, divJ, lnWith, lnJ, sumJetFrom, sumJetTo}
 use Rattle.zeros.specs.Below.{_⊑_, _⊑!_}
-use Rattle.zeros.proofs.Below.{⊑-refl, ⊑-weaken, ⊑-add, ⊑-sub, ⊑-mul, ⊑-div, gone-add, gone-sub, gone-mul-l, gone-mul-r, gone-div}
+use Rattle.zeros.proofs.Below.{⊑-refl, ⊑-weaken, ⊑-add, ⊑-neg, ⊑-sub, ⊑-mul, ⊑-div, ⊑-ln, gone-add, gone-sub, gone-mul-l, gone-mul-r, gone-div}
 use Rattle.zeros.proofs.Numbers.{sum-fits}
 use Rattle.striking.specs.Places.{cnt}
 use Rattle.striking.proofs.Strike.{strike-from, strike-sum}
@@ -44,6 +44,10 @@ pub J-sub : {a a' b b' : Jet} → a ⊑J a' → b ⊑J b' → subJ a b ⊑J subJ
 unfolding subJ
 J-sub p q = record { v = ⊑-sub (p .v) (q .v); d = ⊑-sub (p .d) (q .d); dd = ⊑-sub (p .dd) (q .dd) }
 
+pub J-neg : {a a' : Jet} → a ⊑J a' → negJ a ⊑J negJ a'
+unfolding negJ
+J-neg p = record { v = ⊑-neg (p .v); d = ⊑-neg (p .d); dd = ⊑-neg (p .dd) }
+
 pub J-scale : {a a' : Jet} {x x' : Float} → a ⊑J a' → x ⊑ x' → scaleJ a x ⊑J scaleJ a' x'
 unfolding scaleJ
 J-scale p q = record { v = ⊑-mul (p .v) q; d = ⊑-mul (p .d) q; dd = ⊑-mul (p .dd) q }
@@ -62,6 +66,14 @@ J-div p q =
     let u = ⊑-div (p .v) (q .v) in
     let r = ⊑-div (⊑-sub (p .d) (⊑-mul u (q .d))) (q .v) in
     record { v = u; d = r; dd = ⊑-div (⊑-sub (⊑-sub (p .dd) (⊑-mul (⊑-mul (⊑-refl 2f) r) (q .d))) (⊑-mul u (q .dd))) (q .v) }
+
+pub J-ln : {a a' : Jet} → a ⊑D a' → lnJ a ⊑J lnJ a'
+unfolding lnWith
+J-ln p = record {
+  v = ⊑-ln (⊑-weaken (p .v));
+  d = ⊑-div (p .d) (p .v);
+  dd = ⊑-div (⊑-sub (p .dd) (⊑-div (⊑-mul (p .d) (p .d)) (p .v))) (p .v);
+}
 
 -- ---- jets that are NaN or zero, part by part
 pub J-gone-scale : (a : Jet) (x : Float) → x ⊑ 0f → scaleJ a x ⊑J zeroJ

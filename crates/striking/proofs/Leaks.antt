@@ -1,10 +1,12 @@
 -- The laws of striking refute the leaky definitions of crates/striking/specs/Leaks.antt. Each law is stated of any definition in the place of the core's; the core's has it, by
 -- the theorem cited, and the leaky one has it not, by one computed sheet: solvents 1 and 2 in halves, 0 and 3 absent. Assumes nothing.
 use mathlib.Core.Path.{_≡_, refl, sym, ap, _∙_, subst}
-use Prim.Native.Nat.{ℕ, zero, suc, _≤_, _<_}
+use Prim.Native.Nat.{ℕ, zero, suc, _+_, _*_, _≤_, _<_}
+use native.Mathlib.Nat.{le-trans}
 use native.Mathlib.Omega.{arith}
 use mathlib.Core.Bool.{Bool, true, false, not, _||_}
 use mathlib.Core.List.{List, [], _∷_}
+use lib.ListN.{replicate, getD-replicate}
 use lib.Dec.{T, eqb}
 use lib.Ieee.{Float, nan, inf, fin, binary64, fits, ofBits, add, sub, mul, div, neg, lt, le, eq, isNan, ofInt, toSigned, size}
 use Rattle.floats.specs.Arithmetic.{#, _⊕_, _⊖_, 0f, ½, 1f, 2f}
@@ -14,8 +16,13 @@ use Rattle.floats.specs.Vector.{at, fill, zeros8}
 use Rattle.floats.specs.Outcome.{Out, ok, bind, need, choose}
 use Rattle.numerics.specs.Numerics.{expOf, lnOf}
 use Rattle.thermo_types.specs.Quantities.{positiveOf}
-use Rattle.thermo_types.specs.Composition.{sumsToOne, sharesOf, normalizeOf}
+use Rattle.thermo_types.specs.Composition.{sumsToOne, withFractions, sharesOf, normalizeOf}
 use Rattle.thermo_types.specs.declared.ActivityOptions.{ActivityOptions}
+use Rattle.jet.specs.Jets.{constJ, addJ, subJ, negJ, scaleJ, divJ, expWith, lnWith}
+use Rattle.excess.specs.State.{Excess, gibbsOf, enthalpyOf, heatCapacityOf, entropyOf, stateWith, stateFrom, withState}
+use Rattle.wilson_tables.specs.Pair.{kelvinJ, lnLambdaJ, lambdaIJ}
+use Rattle.wilson.specs.Sums.{quotients, wilsonFrom, gibbsOfLn}
+use Rattle.wilson.specs.State.{wilsonOf}
 use Rattle.thermo_models.specs.Model.{Activity, Pures, Activities, Liquids, pressureInDomain}
 use Rattle.rachford_rice.specs.Rachford.{Solution, residualOf, slopeOf, kMax, kMin, validate, turnOf, liquidPart, vaporPart, solutionAt, iterate, between, negative}
 use Rattle.saturation.specs.Saturation.{Bubble, Saturation, bubbleFrom, gapAt, gapOf, residualWith, dewTerm, dewPressure, dewLiquid, dewTurn, dewPoint, dewLoop, dewAt}
@@ -26,17 +33,19 @@ use Rattle.liquid_stability.specs.Stability.{Trials, noTrials, noTrial, withTri
 use Rattle.tp_flash.specs.Split.{Split, kValues, phaseOf, splitGap, turnAt, splitTurn, splitFrom}
 use Rattle.zeros.specs.Same.{_≈_}
 use Rattle.zeros.specs.Below.{_⊑_}
-use Rattle.zeros.proofs.Congruence.{≈refl, ≈trans, same}
+use Rattle.zeros.proofs.Congruence.{≈refl, ≈trans, same, lt-≈}
 use Rattle.zeros.proofs.Below.{⊑-refl}
 use Rattle.zeros.proofs.Numbers.{ln-≈}
 use Rattle.striking.specs.Places.{cnt}
 use Rattle.striking.specs.Accepted.{Acc}
-use Rattle.striking.specs.Related.{Fractions}
+use Rattle.striking.specs.Related.{Fractions, SameExcess}
 use Rattle.striking.specs.Results.{SameActivity, SamePures, SameSolution, SameSaturation, SameTrials}
-use Rattle.striking.specs.Leaks.{leakyPartial, leakyBubble, leakyMax, leakyMin, leakyNegative, leakyChange, leakySplit, leakyTrials, leakyStability, leakySlope, leakyPoint, leakyTemperature}
-use Rattle.striking.proofs.Strike.{strike-fold}
+use Rattle.striking.specs.Leaks.{leakyPartial, leakyBubble, leakyMax, leakyMin, leakyNegative, leakyChange, leakySplit, leakyTrials, leakyStability, leakySlope, leakyPoint, leakyTemperature, leakyS, leakyWilson}
+use Rattle.striking.proofs.Strike.{strike-fold, cnt-lt}
 use Rattle.striking.proofs.Acc.{acc-ok}
 use Rattle.striking.proofs.Active.{max-≈}
+use Rattle.striking.proofs.Excess.{Params, cnt-le}
+use Rattle.striking.proofs.Wilson.{strike-wilson}
 use Rattle.striking.proofs.Rice.{strike-negative}
 use Rattle.striking.proofs.Saturation.{SameBubble, same-gapAt, strike-bubbleFrom}
 use Rattle.striking.proofs.Stability.{strike-stability}
@@ -310,3 +319,31 @@ unfolding cnt searched leakySlope leakyPoint leakyTemperature ideal flat steep l
 dew-leaks law =
     subst (λ (c : ℕ). T (eqb c 4))
     (law keep 4 (omega arith) steep flat same-steep liquids liquids' same-liquids searched (# 0x4060000000000000) feed feed' fractions .says .iterations) tt
+
+-- ---- 6. Wilson's S
+abbrev pub WilsonLaw : (List Float → ℕ → Float → (ℕ → Float) → Out Excess) → Type 0
+WilsonLaw excess =
+    (keep : ℕ → Bool) (n : ℕ) → n ≤ 8 → (P P' : List Float) → Params keep n P P' → (t : Float) (x x' : ℕ → Float) → Fractions keep n x x'
+    → Acc (SameExcess keep n) (excess P n t x) (excess P' (cnt keep n) t x')
+
+pub wilson-law : WilsonLaw wilsonOf
+wilson-law = strike-wilson
+
+-- a = b = 0 of every pair, so that each Λ is 1 at each T
+abbrev level : List Float
+level = replicate 384 0f
+
+level-at : (i j : ℕ) → i < 4 → j < 4 → (k : ℕ) → k < 6 → at level ((i * 8 + j) * 6 + k) ≡ 0f
+level-at i j l m k u = getD-replicate 384 ((i * 8 + j) * 6 + k) 0f nan (omega arith)
+
+same-level : Params keep 4 level level
+same-level = record {
+  entry = λ i j l p m q k u. level-at i j l m k u ∙ sym (level-at (cnt keep i) (cnt keep j) (le-trans (cnt-lt keep i 4 p l) (cnt-le keep 4)) (le-trans (cnt-lt keep j 4 q m) (cnt-le keep 4)) k u);
+}
+
+-- at 300 K g^E / RT is below 0 with the longer book, and 0 with the shorter
+pub wilson-leaks : WilsonLaw leakyWilson → ⊥
+unfolding cnt leakyS leakyWilson quotients wilsonFrom gibbsOfLn kelvinJ lnLambdaJ lambdaIJ constJ addJ subJ negJ scaleJ divJ expWith lnWith gibbsOf
+    enthalpyOf heatCapacityOf entropyOf stateWith stateFrom withState withFractions sumsToOne expOf lnOf ofBits add sub mul div neg lt le eq isNan ofInt toSigned size isFinite foldTo allTo fill need
+wilson-leaks law =
+    subst T (lt-≈ (law keep 4 (omega arith) level level same-level (# 0x4072c00000000000) (at feed) (at feed') fractions .says .reduced) (≈refl 0f)) tt

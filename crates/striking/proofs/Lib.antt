@@ -5,6 +5,8 @@ pub mod Jets
 pub mod Sums
 pub mod Excess
 pub mod Nrtl
+pub mod Wilson
+pub mod Models
 pub mod Active
 pub mod Vectors
 pub mod Rice

@@ -8,8 +8,9 @@ use lib.Dec.{T}
 use lib.Ieee.{Float, binary64, fits, ofBits}
 use Rattle.floats.specs.Vector.{at}
 use Rattle.thermo_types.specs.declared.ActivityOptions.{ActivityOptions}
-use Rattle.thermo_models.specs.Activity.{activityIn, excessOf}
+use Rattle.thermo_models.specs.Activity.{activityIn}
 use Rattle.thermo_models.specs.Mixture.{Mixture, activity, mixtureOf}
+use Rattle.book.specs.Book.{modelOf}
 use Rattle.rachford_rice.specs.Rachford.{constrained, negative}
 use Rattle.saturation.specs.Saturation.{bubblePressure, dewPressurePoint}
 use Rattle.saturation_temperature.specs.Boiling.{bubbleTemperature, dewTemperature}
@@ -31,7 +32,7 @@ use Rattle.striking.proofs.Boiling.{strike-bubbleTemperature, strike-de
 use Rattle.striking.proofs.Flash.{strike-flash}
 use Rattle.striking.proofs.Liquids.{strike-domain, strike-pureLiquids}
 use Rattle.striking.proofs.Validity.{strike-validity}
-use Rattle.striking.proofs.Nrtl.{strike-excessOf}
+use Rattle.striking.proofs.Models.{strike-excessOf}
 
 -- ---- feeds
 pub record SameFeed (keep : ℕ → Bool) (n : ℕ) (x x' : List Float) : Type 0 where
@@ -54,13 +55,12 @@ pub record SameMixture (keep : ℕ → Bool) (n : ℕ) (m m' : Mixture) : Type 0
   pub validity : (t : Float) (x x' : List Float) → SameFeed keep n x x' → m .validity t x ≡ m' .validity t x'
 
 -- of a longer and a shorter book
-pub strike-mixture : (keep : ℕ → Bool) (n : ℕ) → n ≤ 8 → (book book' : List ℕ) → KeptSolvents keep n book book' → KeptPairs keep n book book'
+pub strike-mixture : (keep : ℕ → Bool) (n : ℕ) → n ≤ 8 → (book book' : List ℕ) → modelOf book ≡ modelOf book' → KeptSolvents keep n book book' → KeptPairs keep n book book'
     → SameMixture keep n (mixtureOf book n) (mixtureOf book' (cnt keep n))
-unfolding excessOf
-strike-mixture keep n small book book' hs hp = record {
+strike-mixture keep n small book book' same-model hs hp = record {
   count = refl;
   count' = refl;
-  excess = strike-excessOf keep n small book book' hp;
+  excess = strike-excessOf keep n small book book' hp same-model;
   liquids = strike-pureLiquids keep n small book book' hs;
   domain = strike-domain keep n book book' hs;
   validity = λ t x x' s. strike-validity keep n book book' hp t x x' (λ i l q. same (s .fractions i l q)) (s .absent);

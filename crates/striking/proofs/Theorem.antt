@@ -31,7 +31,7 @@ use Rattle.striking.specs.Questions.{keptIn, ShorterQuestion, solvents, 
 use Rattle.striking.specs.Sheets.{SameEntries, SameHead, SameTrialBlock, SameSheet}
 use Rattle.striking.specs.Theorem.{Accepted, Demand3, Calls, Meet, EqualAnswer, EqualTrial, EqualSheet, SameDrum, Worded}
 use Rattle.striking.proofs.Acc.{acc-ok, acc-no, acc-bind, acc-passed, accepted}
-use Rattle.striking.proofs.Books.{shorter-solvents, shorter-pairs, strike-book, KeptMasses, strike-masses, rule-same}
+use Rattle.striking.proofs.Books.{model-same, shorter-solvents, shorter-pairs, strike-book, KeptMasses, strike-masses, rule-same}
 use Rattle.striking.proofs.Questions.{absent-zero, withFeed, SameQuestion, strike-question}
 use Rattle.striking.proofs.Tasks.{strike-mixture}
 use Rattle.striking.proofs.Answers.{SameAnswer, strike-task}
@@ -61,7 +61,7 @@ module _ (book question book' question' : List ℕ) (h : Head) (opened : bookOf 
   unfolding answerTo Alike withFeed
   answers q q' s =
       acc-bind (SameAnswer keep n) (taskOf (mixtureOf book n) q) (taskOf (mixtureOf book' (cnt keep n)) q') _ _
-      (strike-task keep n few _ _ (strike-mixture keep n few book book' (shorter-solvents keep n book book' hb) (shorter-pairs keep n book book' hb)) q q' s) (λ a a' t.
+      (strike-task keep n few _ _ (strike-mixture keep n few book book' (model-same keep n book book' hb) (shorter-solvents keep n book book' hb) (shorter-pairs keep n book book' hb)) q q' s) (λ a a' t.
       acc-ok (λ r r'. rw (← rule-same keep h book book' hb opened, ← same-task) (sheet-same keep n few (ruleOf book) (q .task) a a' t r r')))
     where
       same-task : q .task ≡ q' .task

@@ -18,7 +18,7 @@ use Rattle.striking.specs.Places.{cnt}
 pub record KeptSolvents (keep : ℕ → Bool) (n : ℕ) (book book' : List ℕ) : Type 0 where
   pub solvent : (i : ℕ) → i < n → T (keep i) → (k : ℕ) → 3 ≤ k → k ≤ 44 → words book (i + 1) k ≡ words book' (cnt keep i + 1) k
 
--- words 3 to 18 of a pair's block: tau, alpha, the interval
+-- words 3 to 18 of a pair's block: the model's parameters, the interval
 pub record KeptPairs (keep : ℕ → Bool) (n : ℕ) (book book' : List ℕ) : Type 0 where
   pub pair : (i j : ℕ) → i < j → j < n → T (keep i) → T (keep j) → (k : ℕ) → 3 ≤ k → k ≤ 18 → words book (pairPlace n i j) k ≡ words book' (pairPlace (cnt keep n) (cnt keep i) (cnt keep j)) k
 
@@ -37,4 +37,4 @@ pub record ShorterBook (keep : ℕ → Bool) (n : ℕ) (s s' : List ℕ) : Type 
 
 -- what its block 0 says: the count of kept solvents, all else as it was
 unfoldable pub shorterHead : (ℕ → Bool) → Head → Head
-shorterHead keep h = record { n = cnt keep (h .n); version = h .version }
+shorterHead keep h = record { n = cnt keep (h .n); version = h .version; model = h .model }

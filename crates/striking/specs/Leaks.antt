@@ -1,11 +1,11 @@
--- Five ways in which an absent solvent could show, each a definition of the core with one line changed. None is used: crates/striking/proofs/Leaks.antt refutes the law of
+-- Six ways in which an absent solvent could show, each a definition of the core with one line changed. None is used: crates/striking/proofs/Leaks.antt refutes the law of
 -- striking for each of them. Assumes nothing.
 use Prim.Native.Nat.{ℕ, zero, suc}
 use mathlib.Core.Bool.{not, cond}
 use mathlib.Core.List.{List}
 use lib.Dec.{ltb}
 use lib.Ieee.{Float, lt, le}
-use Rattle.floats.specs.Arithmetic.{_⊕_, _⊖_, _⊗_, _⊘_, 0f, ½, 1f, ∞, -∞}
+use Rattle.floats.specs.Arithmetic.{#, _⊕_, _⊖_, _⊗_, _⊘_, 0f, ½, 1f, ∞, -∞}
 use Rattle.floats.specs.Small.{isFinite, maxOf, minOf, absOf}
 use Rattle.floats.specs.Fold.{foldTo, sumTo}
 use Rattle.floats.specs.Vector.{at, vec}
@@ -13,6 +13,11 @@ use Rattle.floats.specs.Outcome.{Out, ok, no, bind, need, choose}
 use Rattle.numerics.specs.Numerics.{expOf, lnOf}
 use Rattle.thermo_types.specs.Quantities.{positiveOf}
 use Rattle.thermo_types.specs.declared.ActivityOptions.{ActivityOptions}
+use Rattle.jet.specs.declared.Jet.{Jet}
+use Rattle.jet.specs.Jets.{scaleJ, lnJ, sumJetTo}
+use Rattle.excess.specs.State.{Excess, stateFrom, withState}
+use Rattle.wilson_tables.specs.Pair.{lambdaIJ}
+use Rattle.wilson.specs.Sums.{wilsonFrom, gibbsOfLn}
 use Rattle.thermo_models.specs.Model.{Activity, Pures, Activities, Liquids}
 use Rattle.rachford_rice.specs.Rachford.{Solution, validate, iterate}
 use Rattle.saturation.specs.Saturation.{Bubble, Dew, Saturation, dewAt}
@@ -101,3 +106,16 @@ module _ (E : Activities) (L : Liquids) (n : ℕ) (o : ActivityOptions) (p : Flo
   -- `dewTemperature` over it
   unfoldable pub leakyTemperature : Out Saturation
   leakyTemperature = saturationTemperature leakyPoint (dewFound E L n o p y) o p
+
+-- ---- 6. a floor under the fractions in Wilson's sums, so that no S is 0 and every ln S is finite
+module _ (P : List Float) (n : ℕ) (t : Float) (x : ℕ → Float) where
+  -- `rowS` of Sums.antt, which has x_j alone in place of the larger of x_j and 2^-40
+  unfoldable pub leakyS : ℕ → Jet
+  leakyS i = sumJetTo (λ j. scaleJ (lambdaIJ P t i j) (maxOf (x j) (# 0x3d70000000000000))) n
+
+  abbrev pub leakyLnS : ℕ → Jet
+  leakyLnS i = lnJ (leakyS i)
+
+  -- `wilsonOf` over it
+  unfoldable pub leakyWilson : Out Excess
+  leakyWilson = withState t x n (stateFrom (gibbsOfLn leakyLnS x n) (wilsonFrom (lambdaIJ P t) leakyS leakyLnS x n) n t)

@@ -13,7 +13,7 @@ use Rattle.thermo_types.specs.declared.Verdict.the-variants.{Passed, Refused}
 use Rattle.thermo_types.specs.Verdicts.{verdictOf}
 use Rattle.thermo_models.specs.declared.Tabled.{Tabled}
 use Rattle.thermo_models.specs.Model.{Activity, Pures, ActivityIs, PuresAre, lnGammaOf, slopesOf, pressuresOf, pressureSlopesOf}
-use Rattle.thermo_models.specs.Activity.{activityIn, excessOn, activityOn, excessOf, activityOf, tabledOf, Stands}
+use Rattle.thermo_models.specs.Activity.{activityIn, excessOn, activityOn, excessOf, activityOf, tabledBy, Stands}
 
 module _ {v : Verdict} where
   -- of any outcome
@@ -48,22 +48,22 @@ module _ {v : Verdict} where
     pures-refused o h q = verdict-refused o (h .verdict) q
 
 -- on a table that `tables` made, excess state and activity are those of the parameters
-module _ {P : List Float} {n : ℕ} {t : Temperature} {r : Tabled} {new : List Float} where
-  pub stands-excess : {old : List Float} → Stands P n t r old new → length old ≡ 512 → excessOn new r ≡ excessOf P n (t .0)
+module _ {book : List ℕ} {P : List Float} {n : ℕ} {t : Temperature} {r : Tabled} {new : List Float} where
+  pub stands-excess : {old : List Float} → Stands book P n t r old new → length old ≡ 512 → excessOn new r ≡ excessOf book P n (t .0)
   stands-excess h l = fun-ext (h .agrees l)
 
-  pub stands-is : {old : List Float} → Stands P n t r old new → length old ≡ 512 → activityOn new r ≡ activityOf P n (t .0)
+  pub stands-is : {old : List Float} → Stands book P n t r old new → length old ≡ 512 → activityOn new r ≡ activityOf book P n (t .0)
   unfolding activityOn activityOf
   stands-is h l = fun-ext (λ x. ap activityIn (h .agrees l x))
 
   -- the owner's `[0.0; 512]`
-  pub excess-fresh : Stands P n t r (replicate 512 0f) new → excessOn new r ≡ excessOf P n (t .0)
+  pub excess-fresh : Stands book P n t r (replicate 512 0f) new → excessOn new r ≡ excessOf book P n (t .0)
   excess-fresh h = stands-excess h (length-replicate 512 0f)
 
-  pub stands-fresh : Stands P n t r (replicate 512 0f) new → activityOn new r ≡ activityOf P n (t .0)
+  pub stands-fresh : Stands book P n t r (replicate 512 0f) new → activityOn new r ≡ activityOf book P n (t .0)
   stands-fresh h = stands-is h (length-replicate 512 0f)
 
   -- the count beside it
-  pub stands-count : {old : List Float} → Stands P n t r old new → r .n ≡ n
-  unfolding tabledOf
-  stands-count h = ap (λ (s : Tabled). s .n) (h .said)
+  pub stands-count : {old : List Float} → Stands book P n t r old new → r .n ≡ n
+  unfolding tabledBy
+  stands-count h = ap (λ (s : Tabled). s .n) (h .made .said)

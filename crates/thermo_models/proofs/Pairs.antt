@@ -12,25 +12,21 @@ use Rattle.floats.specs.Fold.{foldTo}
 use Rattle.floats.specs.Vector.{at, places}
 use Rattle.floats.proofs.Folds.{fold-turn}
 use Rattle.book.specs.Places.{words, pairPlace}
+use Rattle.book.specs.Book.{modelOf}
 use Rattle.records.specs.declared.Pair.{Pair}
 use Rattle.records.specs.Records.{pairOf}
 use Rattle.thermo_models.specs.declared.Seen.{Seen}
-use Rattle.thermo_models.specs.Validity.{intervalOf, noted, visited, rowSeen}
+use Rattle.thermo_models.specs.Validity.{noted, visited, rowSeen}
 
-interval-is : (book : List ℕ) (n i j : ℕ) {r : Pair} → n ≤ 8 → i < n → j < n
-    → r ≡ pairOf (words book (pairPlace (places n) (places i) (places j))) → r .regression ≡ intervalOf book n i j
-unfolding pairOf
-interval-is book n i j a b c e =
+pub visited-yes : (book : List ℕ) (n : ℕ) (t : Float) (x : List Float) (i j : ℕ) (s : Seen) {r : Pair} {q : Seen} → n ≤ 8 → i < n → j < n
+    → (not (le (at x i) 0f) && not (le (at x j) 0f)) ≡ true → r ≡ pairOf (modelOf book) (words book (pairPlace (places n) (places i) (places j))) → q ≡ noted (r .regression) t s
+    → q ≡ visited book n t x i j s
+unfolding visited pairOf
+visited-yes book n t x i j s a b c e p h =
     let pn : places n ≡ n = omega arith in
     let pi : places i ≡ i = omega arith in
     let pj : places j ≡ j = omega arith in
-    ap (λ (p : Pair). p .regression) e ∙ rw (pn, pi, pj)
-
-pub visited-yes : (book : List ℕ) (n : ℕ) (t : Float) (x : List Float) (i j : ℕ) (s : Seen) {r : Pair} {q : Seen} → n ≤ 8 → i < n → j < n
-    → (not (le (at x i) 0f) && not (le (at x j) 0f)) ≡ true → r ≡ pairOf (words book (pairPlace (places n) (places i) (places j))) → q ≡ noted (r .regression) t s
-    → q ≡ visited book n t x i j s
-unfolding visited
-visited-yes book n t x i j s a b c e p h = rw (e, ← interval-is book n i j a b c p) h
+    rw e (h ∙ rw (p, pn, pi, pj))
 
 -- ---- the row i up to j
 module _ (book : List ℕ) (n : ℕ) (t : Float) (x : List Float) (i : ℕ) (s₀ : Seen) where

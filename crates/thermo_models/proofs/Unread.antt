@@ -6,10 +6,12 @@ use native.Mathlib.Omega.{arith}
 use lib.Ieee.{Float}
 use Rattle.floats.proofs.Folds.{fold-cong, all-cong}
 use Rattle.book.proofs.Unread.{AgreeBehind}
+use Rattle.records.specs.Parameters.{parametersOf}
 use Rattle.records.proofs.Unread.{vapor-pressure-unread, vapor-pressure-range-unread, density-range-unread, regression-unread, parameters-unread}
 use Rattle.thermo_models.specs.declared.Seen.{Seen}
 use Rattle.thermo_models.specs.Domain.{solventCovers, temperatureInDomain, puresTo, pureLiquidsOf}
 use Rattle.thermo_models.specs.Validity.{unseen, visited, rowSeen, allSeen, validityOf}
+use Rattle.thermo_models.specs.Activity.{excessOf}
 use Rattle.thermo_models.specs.Mixture.{mixtureOf}
 
 -- of two books of n solvents
@@ -48,5 +50,9 @@ module _ (s t : List ℕ) (n : ℕ) (a : AgreeBehind s t n) where
     unfolding validityOf
     validity-unread = rw all-same
 
+  excess-unread : (P : List Float) (T : Float) (x : List Float) → excessOf s P n T x ≡ excessOf t P n T x
+  unfolding excessOf
+  excess-unread P T x = rw (a .model)
+
   pub mixture-unread : mixtureOf s n ≡ mixtureOf t n
-  mixture-unread = rw (parameters-unread s t n a, fun-ext liquids-unread, fun-ext domain-unread, fun-ext (λ T. fun-ext (validity-unread T)))
+  mixture-unread = rw (parameters-unread s t n a, fun-ext (λ T. fun-ext (excess-unread (parametersOf t n) T)), fun-ext liquids-unread, fun-ext domain-unread, fun-ext (λ T. fun-ext (validity-unread T)))

@@ -27,7 +27,7 @@ activity m t x = activityIn (m .excess t x)
 abbrev pub mixtureWith : List ℕ → List Float → ℕ → Mixture
 mixtureWith book P n = record {
   n = n;
-  excess = excessOf P n;
+  excess = excessOf book P n;
   liquids = pureLiquidsOf book n;
   domain = temperatureInDomain book n;
   validity = validityOf book n;

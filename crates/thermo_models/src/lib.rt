@@ -9,12 +9,14 @@ ghost use Rattle.floats.specs.Small.{isFinite};
 ghost use Rattle.floats.specs.Fold.{allTo};
 ghost use Rattle.floats.specs.Vector.{at, vec, places};
 ghost use Rattle.numerics.specs.Numerics.{expOf};
+ghost use Rattle.book.specs.declared.Model.the-variants.{Nrtl, Wilson};
 ghost use Rattle.liquid.specs.Vapor.{vaporOf};
 ghost use Rattle.excess.specs.Answers.{Gives};
 ghost use Rattle.thermo_models.specs.Model.{ActivityIs, PuresAre, pressureInDomain};
 ghost use Rattle.thermo_models.specs.Domain.{vaporRecord, solventCovers, temperatureInDomain, puresTo, pureLiquidsOf};
-ghost use Rattle.thermo_models.specs.Activity.{excessOn, activityOn, Stands};
+ghost use Rattle.thermo_models.specs.Activity.{excessOn, activityOn, Made, Stands};
 ghost use Rattle.thermo_models.specs.Validity.{noted, visited, rowSeen, allSeen, statusOf, validityOf};
+use book::Model;
 use excess::Energies;
 use records::Regression;
 use thermo_types::HIGHEST_KELVIN;
@@ -161,10 +163,6 @@ pub fn pure_liquids(
 
 // ---- excess state and activity
 
-pub enum Model {
-    Nrtl,
-}
-
 // What a table stands for: the model, whether its parameters passed, n solvents, T.
 pub struct Tabled {
     pub model: Model,
@@ -173,9 +171,8 @@ pub struct Tabled {
     pub t: Temperature,
 }
 
-// The tables of the parameters at t, worked out once per temperature; "24" is carried in `alphas`.
-pub fn tables(parameters: &[f64; 384], n: usize, t: Temperature, table: &mut [f64; 512]) -> Tabled
-    ensures { λ r. ⌜ Stands (now (parameters .entry)) (places n) t r (now (table .entry)) (now (table .exit)) ⌝ }
+fn nrtl_table(parameters: &[f64; 384], n: usize, t: Temperature, table: &mut [f64; 512]) -> Tabled
+    ensures { λ r. ⌜ Made Nrtl (now (parameters .entry)) (places n) t r (now (table .entry)) (now (table .exit)) ⌝ }
 {
     let alphas = nrtl_tables::tables(parameters, n, t, table);
     Tabled {
@@ -183,6 +180,35 @@ pub fn tables(parameters: &[f64; 384], n: usize, t: Temperature, table: &mut [f6
         alphas: alphas,
         n: floats::places(n),
         t: t,
+    }
+}
+
+fn wilson_table(parameters: &[f64; 384], n: usize, t: Temperature, table: &mut [f64; 512]) -> Tabled
+    ensures { λ r. ⌜ Made Wilson (now (parameters .entry)) (places n) t r (now (table .entry)) (now (table .exit)) ⌝ }
+{
+    wilson_tables::tables(parameters, n, t, table);
+    Tabled {
+        model: Model::Wilson,
+        alphas: Verdict::Passed,
+        n: floats::places(n),
+        t: t,
+    }
+}
+
+// The tables of the parameters at t by the book's model, worked out once per temperature; "24" is carried in `alphas`.
+pub fn tables(
+    book: &[u8],
+    parameters: &[f64; 384],
+    n: usize,
+    t: Temperature,
+    table: &mut [f64; 512],
+) -> Tabled
+    ensures { λ r. ⌜ Stands (now (book .entry)) (now (parameters .entry)) (places n) t r (now (table .entry)) (now (table .exit)) ⌝ }
+{
+    let model = book::model_of(book);
+    match model {
+        Model::Nrtl => nrtl_table(parameters, n, t, table),
+        Model::Wilson => wilson_table(parameters, n, t, table),
     }
 }
 
@@ -200,6 +226,7 @@ pub fn excess(
     let alphas = s.alphas;
     match model {
         Model::Nrtl => nrtl::excess(table, alphas, s.n, s.t, x, lg, sl),
+        Model::Wilson => wilson::excess(table, s.n, s.t, x, lg, sl),
     }
 }
 

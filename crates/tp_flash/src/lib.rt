@@ -660,6 +660,7 @@ fn from_bubble(
 
 // The tables of the temperature, made once, then the phases.
 fn phases_of(
+    book: &[u8],
     parameters: &[f64; 384],
     n: usize,
     t: Temperature,
@@ -668,10 +669,10 @@ fn phases_of(
     p: Pressure,
     ps: &[f64; 8],
 ) -> ActivityTpFlash
-    ensures { λ r. ⌜ r ≡ flashAnswer (phasesOf (activityOf (now (parameters .entry)) (places n) (t .0)) (places n) o (now (z .entry)) (p .0) (now (ps .entry))) ⌝ }
+    ensures { λ r. ⌜ r ≡ flashAnswer (phasesOf (activityOf (now (book .entry)) (now (parameters .entry)) (places n) (t .0)) (places n) o (now (z .entry)) (p .0) (now (ps .entry))) ⌝ }
 {
     let mut table = [0.0; 512];
-    let at = thermo_models::tables(parameters, n, t, &mut table);
+    let at = thermo_models::tables(book, parameters, n, t, &mut table);
     from_bubble(&table, at, o, z, p, ps)
 }
 
@@ -686,7 +687,7 @@ pub fn activity_tp_flash(
     z: &[f64; 8],
     p: Pressure,
 ) -> ActivityTpFlash
-    ensures { λ r. ⌜ r ≡ flashAnswer (tpFlash (activityOf (now (parameters .entry)) (places n)) (pureLiquidsOf (now (book .entry)) (places n)) (temperatureInDomain (now (book .entry)) (places n)) (places n) o (t .0) (now (z .entry)) (p .0)) ⌝ }
+    ensures { λ r. ⌜ r ≡ flashAnswer (tpFlash (activityOf (now (book .entry)) (now (parameters .entry)) (places n)) (pureLiquidsOf (now (book .entry)) (places n)) (temperatureInDomain (now (book .entry)) (places n)) (places n) o (t .0) (now (z .entry)) (p .0)) ⌝ }
 {
     if !thermo_models::check_temperature(book, n, t) {
         return no_flash(22);
@@ -699,6 +700,6 @@ pub fn activity_tp_flash(
     let verdict = thermo_models::pure_liquids(book, n, t, &mut ps, &mut dps);
     match verdict {
         Verdict::Refused(number) => no_flash(number),
-        Verdict::Passed => phases_of(parameters, n, t, o, z, p, &ps),
+        Verdict::Passed => phases_of(book, parameters, n, t, o, z, p, &ps),
     }
 }

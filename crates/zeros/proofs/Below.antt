@@ -2,12 +2,14 @@
 -- zero is such a value again, whatever the other operand is. Assumes nothing.
 use mathlib.Core.Path.{_≡_}
 use lib.Dec.{T}
-use lib.Ieee.{Float, binary64, add, sub, mul, div, fits}
+use lib.Ieee.{Float, nan, inf, fin, binary64, neg, add, sub, mul, div, isNan, fits}
 use lib.Ieee.Scale.{finite}
+use Rattle.numerics.specs.Numerics.{lnOf}
 use Rattle.zeros.specs.Same.{plus0, _≈_}
 use Rattle.zeros.specs.Below.{Num, _⊑_, _⊑!_}
-use Rattle.zeros.proofs.Congruence.{same, ≈refl, ≈sym, ≈trans, add-≈, sub-≈, mul-≈, div-≈}
-use Rattle.zeros.proofs.Zero.{num-add-l, num-add-r, num-sub-l, num-sub-r, num-mul-l, num-mul-r, num-div-l, num-div-r, num-finite, Zero, zero-≈, zero-add≡, zero-sub, zero-mul-l, zero-mul-r, zero-div, zero-of-≈, add-zero≈, Plain, plain-≈}
+use Rattle.zeros.proofs.Congruence.{same, ≈refl, ≈sym, ≈trans, add-≈, neg-≈, sub-≈, mul-≈, div-≈}
+use Rattle.zeros.proofs.Zero.{num-add-l, num-add-r, num-neg, num-sub-l, num-sub-r, num-mul-l, num-mul-r, num-div-l, num-div-r, num-finite, Zero, zero-≈, zero-add≡, zero-sub, zero-mul-l, zero-mul-r, zero-div, zero-of-≈, add-zero≈, Plain, plain-≈}
+use Rattle.zeros.proofs.Numbers.{ln-≈}
 
 pub ⊑-of : {x y : Float} → x ≈ y → x ⊑ y
 ⊑-of p = record { at = λ h. p }
@@ -32,6 +34,9 @@ pub ⊑-plain : {x y : Float} → T (fits binary64 x) → T (fits binary64 y) �
 pub ⊑-add : {x x' y y' : Float} → x ⊑ x' → y ⊑ y' → add binary64 x y ⊑ add binary64 x' y'
 ⊑-add {x} {x'} {y} {y'} p q = record { at = λ h. add-≈ (p .at (num-add-l binary64 x y h)) (q .at (num-add-r binary64 x y h)) }
 
+pub ⊑-neg : {x x' : Float} → x ⊑ x' → neg x ⊑ neg x'
+⊑-neg {x} {x'} p = record { at = λ h. neg-≈ (p .at (num-neg x h)) }
+
 pub ⊑-sub : {x x' y y' : Float} → x ⊑ x' → y ⊑ y' → sub binary64 x y ⊑ sub binary64 x' y'
 ⊑-sub {x} {x'} {y} {y'} p q = record { at = λ h. sub-≈ (p .at (num-sub-l binary64 x y h)) (q .at (num-sub-r binary64 x y h)) }
 
@@ -40,6 +45,15 @@ pub ⊑-mul : {x x' y y' : Float} → x ⊑ x' → y ⊑ y' → mul binary64 x y
 
 pub ⊑-div : {x x' y y' : Float} → x ⊑ x' → y ⊑! y' → div binary64 x y ⊑ div binary64 x' y'
 ⊑-div {x} {x'} {y} {y'} p q = record { at = λ h. div-≈ (p .at (num-div-l binary64 x y h)) (q .at (num-div-r binary64 x y h)) }
+
+num-ln : (x : Float) → Num (lnOf x) → Num x
+unfolding lnOf isNan
+num-ln nan h = h
+num-ln (inf s) h = tt
+num-ln (fin s m e) h = tt
+
+pub ⊑-ln : {x x' : Float} → x ⊑ x' → lnOf x ⊑ lnOf x'
+⊑-ln {x} {x'} p = record { at = λ h. same (ln-≈ x x' (p .at (num-ln x h))) }
 
 -- ---- NaN or zero
 pub gone : {x : Float} → Zero x → x ⊑ plus0

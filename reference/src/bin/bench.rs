@@ -1,11 +1,11 @@
 //! Times of the core and of the reference on the same inputs in one run: nanoseconds a call, median of five.
 //!
-//! bench numbers|book|excess|rice|sheet|all
+//! bench numbers|book|excess|rice|sheet|wilson|all
 
 use std::hint::black_box;
 use std::process::ExitCode;
 
-use reference::generate::{books, feeds, mass, questions, Rng};
+use reference::generate::{books, feeds, mass, questions, wilson, Rng};
 use reference::helpers;
 use reference::named::rachford_rice::{rachford_rice, rachford_rice_negative, RachfordRiceOutcome};
 use reference::rattle;
@@ -23,17 +23,18 @@ const RUN: f64 = 2e7;
 
 fn main() -> ExitCode {
     let stage = std::env::args().nth(1).unwrap_or_default();
-    let stages: [(&str, fn()); 5] = [
+    let stages: [(&str, fn()); 6] = [
         ("numbers", bench_numbers),
         ("book", bench_book),
         ("excess", bench_excess),
         ("rice", bench_rice),
         ("sheet", bench_sheet),
+        ("wilson", bench_wilson),
     ];
     let chosen: Vec<_> = stages.iter().filter(|(name, _)| *name == stage || stage == "all").collect();
     chosen.iter().for_each(|(_, bench)| bench());
     if chosen.is_empty() {
-        eprintln!("usage: bench numbers|book|excess|rice|sheet|all");
+        eprintln!("usage: bench numbers|book|excess|rice|sheet|wilson|all");
         return ExitCode::from(2);
     }
     ExitCode::SUCCESS
@@ -221,14 +222,19 @@ fn running_sums_right(book: &[u8]) -> bool {
 }
 
 fn bench_excess() {
+    time_excess("", books::realistic);
+}
+
+/// Names of the lines begin with `model`.
+fn time_excess(model: &str, book: fn(&mut Rng, usize) -> books::Draft) {
     for n in SOLVENTS {
         let inputs = many(|rng| {
-            let book = books::realistic(rng, n).bytes();
+            let book = book(rng, n).bytes();
             (book, rng.range(280.0, 440.0), padded(&feeds::feed_with(rng, n, feeds::Absent::None)))
         });
         let mut out = [0.0; 23];
         line(
-            &format!("excess with its book, n = {n}"),
+            &format!("{model}excess with its book, n = {n}"),
             &inputs,
             |(book, t, x)| rattle::excess(book, *t, x, &mut out).map(drop_value),
             |(book, t, x)| drop_value(open_book(book).map(|book| book.model().nrtl().excess(*t, &x[..n]).is_ok())),
@@ -241,7 +247,10 @@ fn bench_excess() {
         };
         let [own, once, often] = medians([&mut alone, &mut || repeated(1), &mut || repeated(1 + REPEATS)]);
         let (own, core) = (own / INPUTS as f64, (often - once) / (REPEATS as f64 * INPUTS as f64));
-        println!("excess, n = {n}: core from its tables {core:.1} ns, reference {own:.1} ns, ratio {:.2}", core / own);
+        println!(
+            "{model}excess, n = {n}: core from its tables {core:.1} ns, reference {own:.1} ns, ratio {:.2}",
+            core / own
+        );
     }
 }
 
@@ -271,19 +280,27 @@ fn bench_rice() {
     }
 }
 
-fn bench_sheet() {
-    for task in 1..=9 {
-        for n in SOLVENTS {
-            let inputs = many(|rng| accepted(rng, n, task));
-            let (mut core_answer, mut own_answer) = ([0; ANSWER_BYTES], [0; ANSWER_BYTES]);
-            line(
-                &format!("task {task}, n = {n}"),
-                &inputs,
-                |(book, question)| rattle::answer(book, question, &mut core_answer).map(drop_value),
-                |(book, question)| drop_value(answer(book, question, &mut own_answer)),
-            );
-        }
+/// Excess and tasks 1 to 7 of Wilson books; the reference is plain Rust too.
+fn bench_wilson() {
+    time_excess("Wilson ", wilson::realistic);
+    (1..=7).for_each(|task| time_task("Wilson ", task, wilson::realistic));
+}
+
+fn time_task(model: &str, task: u64, book: fn(&mut Rng, usize) -> books::Draft) {
+    for n in SOLVENTS {
+        let inputs = many(|rng| accepted(rng, n, task, book));
+        let (mut core_answer, mut own_answer) = ([0; ANSWER_BYTES], [0; ANSWER_BYTES]);
+        line(
+            &format!("{model}task {task}, n = {n}"),
+            &inputs,
+            |(book, question)| rattle::answer(book, question, &mut core_answer).map(drop_value),
+            |(book, question)| drop_value(answer(book, question, &mut own_answer)),
+        );
     }
+}
+
+fn bench_sheet() {
+    (1..=9).for_each(|task| time_task("", task, books::realistic));
     let refused = [(Vec::new(), Vec::new())];
     line(
         "a refused sheet",
@@ -294,9 +311,9 @@ fn bench_sheet() {
 }
 
 /// A book and a question of the task that is answered.
-fn accepted(rng: &mut Rng, n: usize, task: u64) -> (Vec<u8>, Vec<u8>) {
+fn accepted(rng: &mut Rng, n: usize, task: u64, book: fn(&mut Rng, usize) -> books::Draft) -> (Vec<u8>, Vec<u8>) {
     loop {
-        let book = books::realistic(rng, n).bytes();
+        let book = book(rng, n).bytes();
         let opened = open_book(&book).expect("realistic");
         let question = questions::realistic(rng, &opened, task).question();
         if answer(&book, &question, &mut [0; ANSWER_BYTES]) == 0 {

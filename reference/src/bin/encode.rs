@@ -3,11 +3,12 @@
 //! `book` n; for each solvent its CAS number, then twice t_r, reducing value, low, high, count, coefficients, exponents;
 //! for each pair τ_ij t0 to t3, τ_ji t0 to t3, a0, a1, then interval flag, low, high, inferred flag.
 //! `massbook` is the same in version 2, with a molar mass behind each CAS number.
+//! `wilsonbook` is a `massbook` of Wilson pairs: for each a_ij, b_ij, a_ji, b_ji, then interval flag, low, high, inferred flag.
 //!
 //! `question` task, T, P, eight fractions, M, tolerance, temperature limit, energy tolerance, threshold, low, high, eight K.
 //! `massquestion` is the same by mass.
 //!
-//! `running` before any of these: checks are running sums, as version 3 has them, and `massbook` is of that version.
+//! `running` before any of these: checks are running sums, as version 3 has them, and books are of that version.
 
 use std::io::{stdin, BufRead};
 use std::process::ExitCode;
@@ -15,7 +16,7 @@ use std::str::{FromStr, SplitWhitespace};
 
 use reference::generate::small::sealed_by;
 use reference::sheet::blocks::{Rule, Words};
-use reference::sheet::book::{due_pairs, open_book, DENSITY, MOLAR_MASS, VAPOR_PRESSURE};
+use reference::sheet::book::{due_pairs, open_book, DENSITY, MOLAR_MASS, NRTL, VAPOR_PRESSURE, WILSON};
 use reference::sheet::question::{
     Question, BASIS, BRACKET, BY_MASS, BY_MOLES, ENERGY_TOLERANCE, FRACTIONS, K_VALUES, MAX_ITERATIONS,
     MAX_TEMPERATURE_ITERATIONS, PRESSURE, TASK, TEMPERATURE, TM_THRESHOLD, TOLERANCE,
@@ -42,8 +43,9 @@ fn encoded(line: &str) -> Option<Vec<u8>> {
     };
     let mut numbers = Numbers(line.split_whitespace());
     let blocks = match numbers.0.next()? {
-        "book" if rule == Rule::Plain => book(&mut numbers, 1)?,
-        "massbook" => book(&mut numbers, if rule == Rule::Plain { 2 } else { 3 })?,
+        "book" if rule == Rule::Plain => book(&mut numbers, 1, NRTL)?,
+        "massbook" => book(&mut numbers, if rule == Rule::Plain { 2 } else { 3 }, NRTL)?,
+        "wilsonbook" => book(&mut numbers, if rule == Rule::Plain { 2 } else { 3 }, WILSON)?,
         "question" => vec![question(&mut numbers, BY_MOLES)?],
         "massquestion" => vec![question(&mut numbers, BY_MASS)?],
         _ => return None,
@@ -68,16 +70,16 @@ impl Numbers<'_> {
     }
 }
 
-fn book(numbers: &mut Numbers, version: u64) -> Option<Vec<Words>> {
+fn book(numbers: &mut Numbers, version: u64, model: u64) -> Option<Vec<Words>> {
     let n: usize = numbers.next()?;
     let mut head = [0; 64];
-    head[..3].copy_from_slice(&[1, version, n as u64]);
+    head[..4].copy_from_slice(&[1, version, n as u64, model]);
     let mut blocks = vec![head];
     for i in 0..n {
         blocks.push(solvent(numbers, i as u64, version)?);
     }
     for (i, j) in due_pairs(n) {
-        blocks.push(pair(numbers, i as u64, j as u64)?);
+        blocks.push(pair(numbers, i as u64, j as u64, model)?);
     }
     Some(blocks)
 }
@@ -98,11 +100,15 @@ fn solvent(numbers: &mut Numbers, i: u64, version: u64) -> Option<Words> {
     Some(words)
 }
 
-fn pair(numbers: &mut Numbers, i: u64, j: u64) -> Option<Words> {
+fn pair(numbers: &mut Numbers, i: u64, j: u64, model: u64) -> Option<Words> {
     let mut words = [0; 64];
     words[..3].copy_from_slice(&[3, i, j]);
-    numbers.floats(&mut words, 3, 10)?;
-    words.copy_within(11..13, 13);
+    if model == WILSON {
+        numbers.floats(&mut words, 3, 4)?;
+    } else {
+        numbers.floats(&mut words, 3, 10)?;
+        words.copy_within(11..13, 13);
+    }
     words[15] = numbers.next()?;
     numbers.floats(&mut words, 16, 2)?;
     words[18] = numbers.next()?;

@@ -1,7 +1,8 @@
 //! Runs demand 3 on the core: generated sheets with absent solvents, and the same sheets with those struck. Every sheet asked is
 //! compared with the reference too.
 //!
-//! strike [--count N] [--seed S] [--task K]     N accepted sheets, as many of each task, or of task K
+//! strike [--count N] [--seed S] [--task K] [--wilson]     N accepted sheets, as many of each task, or of task K; of NRTL books, or of
+//! Wilson books and tasks 1 to 7
 
 use std::process::ExitCode;
 
@@ -34,8 +35,8 @@ struct Counts {
 }
 
 fn main() -> ExitCode {
-    let Some((count, seed, tasks)) = options() else {
-        eprintln!("usage: strike [--count N] [--seed S] [--task K]");
+    let Some(Options { count, seed, tasks, wilson }) = options() else {
+        eprintln!("usage: strike [--count N] [--seed S] [--task K] [--wilson]");
         return ExitCode::from(2);
     };
     if !Stage::Sheet.built_in() {
@@ -45,33 +46,46 @@ fn main() -> ExitCode {
     let mut rng = Rng::new(seed);
     let mut all = [0; 3];
     for task in &tasks {
-        let counts = run(&mut rng, *task, count.div_ceil(tasks.len()));
+        let counts = run(&mut rng, *task, wilson, count.div_ceil(tasks.len()));
         print(*task, &counts);
         all = [all[0] + counts.accepted, all[1] + counts.failures, all[2] + counts.differences];
     }
-    println!("strike: {} accepted with absent solvents, {} failures, {} differences", all[0], all[1], all[2]);
+    let model = if wilson { "Wilson" } else { "NRTL" };
+    println!("strike, {model}: {} accepted with absent solvents, {} failures, {} differences", all[0], all[1], all[2]);
     ExitCode::from(u8::from(all[1] + all[2] > 0))
 }
 
-/// Count, seed and tasks; `None` where a word is not understood.
-fn options() -> Option<(usize, u64, Vec<u64>)> {
-    let (mut count, mut seed, mut tasks) = (80_000, 1, TASKS.to_vec());
+struct Options {
+    count: usize,
+    seed: u64,
+    tasks: Vec<u64>,
+    /// Of Wilson books; of NRTL books otherwise.
+    wilson: bool,
+}
+
+/// `None` where a word is not understood.
+fn options() -> Option<Options> {
+    let (mut count, mut seed, mut task, mut wilson) = (80_000, 1, None, false);
     let mut words = std::env::args().skip(1);
     while let Some(word) = words.next() {
         match word.as_str() {
             "--count" => count = words.next()?.parse().ok()?,
             "--seed" => seed = words.next()?.parse().ok()?,
-            "--task" => tasks = vec![words.next()?.parse().ok().filter(|task| TASKS.contains(task))?],
+            "--task" => task = Some(words.next()?.parse().ok().filter(|task| TASKS.contains(task))?),
+            "--wilson" => wilson = true,
             _ => return None,
         }
     }
-    Some((count, seed, tasks))
+    // Tasks 8 and 9 have no model.
+    let all = if wilson { &TASKS[..7] } else { &TASKS };
+    Some(Options { count, seed, tasks: task.map_or(all.to_vec(), |task| vec![task]), wilson })
 }
 
-fn run(rng: &mut Rng, task: u64, wanted: usize) -> Counts {
+fn run(rng: &mut Rng, task: u64, wilson: bool, wanted: usize) -> Counts {
     let mut counts = Counts::default();
+    let draw = if wilson { Base::of_wilson } else { Base::draw };
     while counts.accepted < wanted {
-        let base = Base::draw(rng, task);
+        let base = draw(rng, task);
         for _ in 0..TRIES {
             let sheet = Sheet { book: base.aimed(rng), question: base.question() };
             counts.calls += 1;

@@ -4,7 +4,7 @@
 use super::books::{self, put, put_alphas, BOUNDS, COUNT, EXPONENTS, FLAG, HIGH, LOW, N, REDUCING, TAU};
 use super::feeds::{self, Absent};
 use super::questions::{self, Draft};
-use super::{mass, numbers, Rng};
+use super::{mass, numbers, wilson, Rng};
 use crate::helpers;
 use crate::named::solvers::{activity_dew_pressure, ActivityOptions};
 use crate::sheet::blocks::Words;
@@ -24,19 +24,34 @@ pub struct Base {
     absent: Vec<usize>,
     /// Task 5, built for a slope over all solvents.
     overflows: bool,
+    wilson: bool,
 }
 
 impl Base {
+    /// On an NRTL book.
     pub fn draw(rng: &mut Rng, task: u64) -> Self {
+        Self::of(rng, task, false)
+    }
+
+    /// On a Wilson book.
+    pub fn of_wilson(rng: &mut Rng, task: u64) -> Self {
+        Self::of(rng, task, true)
+    }
+
+    fn of(rng: &mut Rng, task: u64, wilson: bool) -> Self {
         let n = rng.pick(&[2, 3, 3, 3, 4, 4, 4, 5, 5, 6, 7, 8]);
         let feed = feed(rng, n);
         let absent: Vec<usize> = (0..n).filter(|i| feed[*i] == 0.0).collect();
         let mut book = book(rng, n);
         // Half of version 3, and half by mass.
-        let (version, by_mass) = rng.pick(&[(1, false), (2, true), (3, false), (3, true)]);
+        let first = if wilson { 2 } else { 1 };
+        let (version, by_mass) = rng.pick(&[(first, false), (2, true), (3, false), (3, true)]);
         if version > 1 {
             enter(rng, &mut book, &feed);
             book.blocks[0][1] = version;
+        }
+        if wilson {
+            wilson::pair(rng, &mut book);
         }
         let opened = open_book(&book.bytes()).expect("questions 1 to 9 and 35 pass");
         let question = if by_mass { mass::question } else { questions::with_feed };
@@ -54,7 +69,7 @@ impl Base {
             let extremes = [f64::from_bits(1), f64::MAX, 1.0, f64::MIN_POSITIVE, numbers::positive(rng)];
             question.put(K_VALUES + i, rng.pick(&extremes));
         }
-        Self { book, question, absent, overflows }
+        Self { book, question, absent, overflows, wilson }
     }
 
     pub fn question(&self) -> Vec<u8> {
@@ -64,7 +79,8 @@ impl Base {
     /// The book with other data for most absent solvents.
     pub fn aimed(&self, rng: &mut Rng) -> Vec<u8> {
         if self.overflows {
-            return self.overflowing(rng).unwrap_or_else(|| self.book.clone()).bytes();
+            let book = if self.wilson { self.overflowing_wilson(rng) } else { self.overflowing(rng) };
+            return book.unwrap_or_else(|| self.book.clone()).bytes();
         }
         let t = self.temperature();
         let mut book = self.book.clone();
@@ -76,7 +92,11 @@ impl Base {
                 put(words, MOLAR_MASS, mass::any_mass(rng));
             }
             for at in book.pairs_of(*i) {
-                aim_pair(rng, &mut book.blocks[at], t);
+                match self.wilson {
+                    true if rng.percent(80) => wilson::aim(rng, &mut book.blocks[at], Some(t)),
+                    true => {}
+                    false => aim_pair(rng, &mut book.blocks[at], t),
+                }
             }
         }
         book.bytes()
@@ -108,6 +128,28 @@ impl Base {
         let tried = -(f64::MAX / 16.0 / helpers::exp(b));
         let size = f64::MAX / put_tau(tried)?.abs();
         put_tau(tried * size * rng.range(0.9972, 0.9999));
+        Some(book)
+    }
+
+    /// The same with Wilson's ln γ_i = 1 − ln S_i − Σ_k x_k Λ_ki / S_k.
+    fn overflowing_wilson(&self, rng: &mut Rng) -> Option<books::Draft> {
+        let (t, i) = (self.temperature(), rng.pick(&self.absent));
+        let mut book = self.book.clone();
+        cancelling(&mut book.blocks[1 + i], rng.decade(20.0, 100.0), f64::MAX, 1);
+        // Λ_ki = exp(u) at t for every k, and about as large are its derivatives: b = −T².
+        let b = -t * t;
+        let mut put_exponent = |u: f64| {
+            for at in book.pairs_of(i) {
+                let words = &mut book.blocks[at];
+                let terms = [0.0, 0.0, u - b / t, b];
+                let first = words[1] == i as u64;
+                wilson::put_terms(words, &if first { terms } else { [terms[2], terms[3], 0.0, 0.0] });
+            }
+            self.slope(&book, t, i)
+        };
+        let tried = helpers::ln(f64::MAX / 16.0);
+        let size = f64::MAX / put_exponent(tried)?.abs();
+        put_exponent(tried + helpers::ln(size * rng.range(0.9972, 0.9999)));
         Some(book)
     }
 
@@ -167,7 +209,7 @@ fn feed(rng: &mut Rng, n: usize) -> Vec<f64> {
     }
 }
 
-fn aim_solvent(rng: &mut Rng, words: &mut Words) {
+pub(super) fn aim_solvent(rng: &mut Rng, words: &mut Words) {
     match rng.below(8) {
         // Pressures at both ends of the floats.
         0 => put(words, VAPOR_PRESSURE + REDUCING, rng.decade(-322.0, -310.0)),

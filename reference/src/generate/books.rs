@@ -2,7 +2,7 @@
 
 use super::{beside, numbers, Rng};
 use crate::sheet::blocks::{book_bytes, Words, BLOCK};
-use crate::sheet::book::{due_pairs, DENSITY, VAPOR_PRESSURE};
+use crate::sheet::book::{due_pairs, DENSITY, NRTL, VAPOR_PRESSURE};
 
 /// Places in a correlation record.
 pub(super) const REDUCING: usize = 1;
@@ -45,7 +45,7 @@ impl Draft {
         due.filter(|(_, (a, b))| *a == i || *b == i).map(|(k, _)| 1 + self.n + k).collect()
     }
 
-    fn any_pair(&self, rng: &mut Rng) -> Option<usize> {
+    pub(super) fn any_pair(&self, rng: &mut Rng) -> Option<usize> {
         let pairs = due_pairs(self.n).len();
         (pairs > 0).then(|| 1 + self.n + rng.below(pairs))
     }
@@ -63,7 +63,7 @@ fn get(words: &Words, at: usize) -> f64 {
 pub fn realistic(rng: &mut Rng, n: usize) -> Draft {
     let junk = rng.junk();
     let mut head = unread(rng, junk);
-    head[..3].copy_from_slice(&[1, 1, n as u64]);
+    head[..4].copy_from_slice(&[1, 1, n as u64, NRTL]);
     let mut blocks = vec![head];
     let first = rng.below(CAS.len());
     let polar = rng.one_in(4);

@@ -1,7 +1,7 @@
 //! The cases of each stage.
 
 use super::exchanged::Exchange;
-use super::{books, differences, exchanged, feeds, mass, numbers, questions, rice, small, Rng};
+use super::{books, differences, exchanged, feeds, mass, numbers, questions, rice, small, wilson, Rng};
 use crate::sheet::open_book;
 use crate::stage::{Case, Function, Stage};
 
@@ -52,6 +52,7 @@ impl Cases {
             }
             Stage::Mass if !compact => mass::borders().into_iter().map(|(case, _)| case).collect(),
             Stage::Exchanged if !compact => exchanged::borders().into_iter().map(|(case, _)| case).collect(),
+            Stage::Wilson if !compact => wilson::borders().into_iter().map(|(case, _)| case).collect(),
             _ => Vec::new(),
         };
         let rng = if compact { Rng::tidy(seed) } else { Rng::new(seed) };
@@ -89,11 +90,13 @@ impl Cases {
         if self.stage == Stage::Mass {
             return mass::draw(&mut self.rng, n);
         }
-        // The stored ones of versions 2 and 3 stand among the sheets.
-        if self.stage == Stage::Book && !self.compact && self.rng.one_in(3) {
-            return (Kind::Realistic, Case::Book { book: mass::book(&mut self.rng, n) });
+        if self.stage == Stage::Wilson {
+            return wilson::draw(&mut self.rng, n);
         }
-        (Kind::Realistic, plain(&mut self.rng, self.stage, n))
+        // The stored ones of versions 2 and 3 stand among the sheets.
+        let later = matches!(self.stage, Stage::Book | Stage::Excess) && !self.compact && self.rng.one_in(3);
+        let case = if later { later_versions } else { plain };
+        (Kind::Realistic, case(&mut self.rng, self.stage, n))
     }
 
     fn draw_sheet(&mut self, n: usize) -> (Kind, Case) {
@@ -121,8 +124,9 @@ impl Iterator for Cases {
 
 /// Book and question of sheets of the stages that have them, by turns.
 pub fn sheets(seed: u64) -> impl Iterator<Item = (Vec<u8>, Vec<u8>)> {
-    let mut stages = [Stage::Sheet, Stage::Mass, Stage::Exchanged].map(|stage| Cases::new(stage, seed, false));
-    (0usize..).map(move |turn| match stages[turn % 3].draw() {
+    let stages = [Stage::Sheet, Stage::Mass, Stage::Exchanged, Stage::Wilson];
+    let mut stages = stages.map(|stage| Cases::new(stage, seed, false));
+    (0usize..).map(move |turn| match stages[turn % 4].draw() {
         (_, Case::Sheet { book, question, .. }) => (book, question),
         _ => unreachable!("a sheet was asked for"),
     })
@@ -136,7 +140,16 @@ fn plain(rng: &mut Rng, stage: Stage, n: usize) -> Case {
         Stage::Book => Case::Book { book: book(rng, n) },
         Stage::Pressure => pressure(rng, n),
         Stage::Excess => excess(rng, n),
-        Stage::Rice | Stage::Sheet | Stage::Mass | Stage::Exchanged => split(rng, n),
+        Stage::Rice | Stage::Sheet | Stage::Mass | Stage::Exchanged | Stage::Wilson => split(rng, n),
+    }
+}
+
+/// On books of version 2 and 3.
+fn later_versions(rng: &mut Rng, stage: Stage, n: usize) -> Case {
+    match stage {
+        Stage::Excess => wilson::excess(rng, n),
+        _ if rng.one_in(2) => Case::Book { book: wilson::book(rng, n) },
+        _ => Case::Book { book: mass::book(rng, n) },
     }
 }
 

@@ -3,6 +3,7 @@
 
 use super::mass;
 use super::small::{blocks, book, bytes, constant, put, Ask};
+use super::wilson::entered;
 use crate::helpers::WRITTEN_NAN;
 use crate::sheet::blocks::{words_of, Words};
 use crate::sheet::ANSWER_BYTES;
@@ -52,7 +53,10 @@ impl Difference {
 
 /// In the order of the page.
 pub fn all() -> Vec<Difference> {
-    [books(), masses(), nrtl(), rachford_rice(), michelsen(), solvers(), vanishing()].into_iter().flatten().collect()
+    [books(), masses(), nrtl(), rachford_rice(), michelsen(), solvers(), vanishing(), wilson()]
+        .into_iter()
+        .flatten()
+        .collect()
 }
 
 pub fn cases() -> Vec<Case> {
@@ -183,6 +187,32 @@ fn vanishing() -> Vec<Difference> {
     let mut bad_alpha = small(1e-315);
     put(&mut bad_alpha[3], 11, &[-1.0, 0.0, -1.0, 0.0]);
     vec![dew(&small(1e-315)), dew(&small(4.5e-309)), dew(&bad_alpha)]
+}
+
+/// Wilson books at 350 K, with a_ij, b_ij (K), a_ji, b_ji (K): a pure solvent; an absent one whose Λ has derivatives of any size; ln γ of
+/// solvent 0 at infinite dilution, which the formula gives as −a_01; and trials of a liquid that is nearly two.
+fn wilson() -> Vec<Difference> {
+    let two = |terms, ask| Difference::new(bytes(&entered(&[0.06, 0.018], terms)), ask);
+    let absent = |b: f64| two([-b / 350.0, b, 0.0, 0.0], Ask::new(1, &[1.0, 0.0]));
+    let dilute = |a_01: f64| two([a_01, 0.0, 0.0, 0.0], Ask::new(1, &[0.0, 1.0]));
+    let nearly = |task, threshold: f64| {
+        let ask = Ask::new(task, &[0.5, 0.5]).float(16, threshold);
+        two([-25.0, 0.0, -25.0, 0.0], ask)
+    };
+    let ends = |found: Difference, trial, distance: f64| found.of_block(trial, 2, distance.to_bits());
+    let least = -f64::from_bits(1);
+    vec![
+        Difference::new(bytes(&entered(&[0.06], [0.0; 4])), Ask::new(1, &[1.0])).float(30, -0.0).float(31, -0.0),
+        absent(1e160).refused(25),
+        absent(1e150).float(14, 0.0),
+        dilute(-800.0).refused(25),
+        dilute(-744.9).float(14, 744.4400719213812),
+        dilute(-700.0).float(14, 700.0),
+        ends(ends(nearly(6, least).word(37, 0), 1, -2.211772431870429e-16), 2, -2.220446049250313e-16),
+        nearly(7, least).refused(29),
+        nearly(6, -1e-8).word(37, 1),
+        nearly(7, -1e-8).word(3, 1),
+    ]
 }
 
 /// Task 5 with an absent solvent that would show in a slope over all. At 350 K its ln γ has the slope −0.9985 and its ln p the

@@ -15,7 +15,7 @@ use crate::stage::{Case, Stage};
 pub const PLACES: usize = 62;
 
 /// Words that are not read stand from here on, in block 0, a solvent's, a pair's and a question.
-const UNREAD: [usize; 4] = [3, 46, 19, 28];
+const UNREAD: [usize; 4] = [4, 46, 19, 28];
 const QUESTION: usize = 3;
 
 /// Versions that are none: other counts, and 3.0 as a float.

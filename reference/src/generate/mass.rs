@@ -28,8 +28,8 @@ const NO_MASS: [f64; 8] = [
     f64::MIN, // the lowest float
 ];
 
-/// Words 27 that are neither 0 nor 1: other counts, and 1.0 and −0.0 as floats.
-const NO_BASIS: [u64; 9] =
+/// Words that are neither 0 nor 1: other counts, and 1.0 and −0.0 as floats.
+pub(super) const NEITHER: [u64; 9] =
     [2, 3, 1 << 32, 1 << 32 | 1, 1 << 63, 1 << 63 | 1, 0x3ff0_0000_0000_0000, u64::MAX, 0x0100_0000_0000_0000];
 
 /// Versions that are none: other counts, and 2.0 as a float.
@@ -149,10 +149,10 @@ fn sheet(rng: &mut Rng, n: usize, part: Part) -> Case {
             }
         }
         Part::NoBasis => {
-            question.words[BASIS] = no_basis(rng);
+            question.words[BASIS] = neither(rng);
             if rng.one_in(3) {
                 draft.blocks[0][1] = 1;
-                question.words[BASIS] = if rng.one_in(2) { BY_MASS } else { no_basis(rng) };
+                question.words[BASIS] = if rng.one_in(2) { BY_MASS } else { neither(rng) };
             }
             if rng.one_in(3) {
                 damage(rng, &mut question);
@@ -189,7 +189,7 @@ fn sheet(rng: &mut Rng, n: usize, part: Part) -> Case {
     Case::Sheet { book, question: question.question(), room: question.room }
 }
 
-fn damage(rng: &mut Rng, question: &mut Draft) {
+pub(super) fn damage(rng: &mut Rng, question: &mut Draft) {
     let number = rng.between(10, 23) as u32;
     questions::damage(rng, question, number);
 }
@@ -235,7 +235,7 @@ pub fn any_mass(rng: &mut Rng) -> f64 {
     }
 }
 
-fn no_mass(rng: &mut Rng) -> f64 {
+pub(super) fn no_mass(rng: &mut Rng) -> f64 {
     match rng.below(3) {
         0 => -any_mass(rng),
         1 => numbers::not_finite(rng),
@@ -243,16 +243,16 @@ fn no_mass(rng: &mut Rng) -> f64 {
     }
 }
 
-fn no_basis(rng: &mut Rng) -> u64 {
+pub(super) fn neither(rng: &mut Rng) -> u64 {
     if rng.one_in(4) {
         rng.bits().max(2)
     } else {
-        rng.pick(&NO_BASIS)
+        rng.pick(&NEITHER)
     }
 }
 
 /// Mass fractions; two feeds of three have absent solvents, +0 or −0, where there are several.
-fn masses(rng: &mut Rng, n: usize) -> Vec<f64> {
+pub(super) fn masses(rng: &mut Rng, n: usize) -> Vec<f64> {
     let absent = match rng.below(12) {
         0..=3 => Absent::None,
         4..=10 => Absent::Some,
@@ -266,7 +266,7 @@ fn masses(rng: &mut Rng, n: usize) -> Vec<f64> {
     }
 }
 
-fn without(rng: &mut Rng, n: usize, absent: usize) -> Vec<f64> {
+pub(super) fn without(rng: &mut Rng, n: usize, absent: usize) -> Vec<f64> {
     let mut w = feeds::feed_with(rng, n, Absent::None);
     w[absent] = 0.0;
     let mut w = helpers::shares(w);
@@ -275,7 +275,7 @@ fn without(rng: &mut Rng, n: usize, absent: usize) -> Vec<f64> {
 }
 
 /// Molar masses so small that a feed's moles, or their sum, overflow; or the next ones that don't.
-fn overflow(rng: &mut Rng, draft: &mut books::Draft, w: &[f64]) {
+pub(super) fn overflow(rng: &mut Rng, draft: &mut books::Draft, w: &[f64]) {
     let present: Vec<usize> = (0..w.len()).filter(|i| w[*i] > 0.0).collect();
     let i = rng.pick(&present);
     match rng.below(4) {
@@ -421,7 +421,7 @@ fn no_bases() -> Vec<Asked> {
     let mut first = plain();
     first[0][1] = 1;
     let mut asked: Vec<Asked> =
-        NO_BASIS.iter().map(|word| (plain(), ask(2, &[0.3, 0.7]).word(BASIS, *word), 36)).collect();
+        NEITHER.iter().map(|word| (plain(), ask(2, &[0.3, 0.7]).word(BASIS, *word), 36)).collect();
     for task in 1..=9 {
         asked.push((first.clone(), ask(task, &[0.3, 0.7]), 36));
     }

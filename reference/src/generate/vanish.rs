@@ -2,7 +2,8 @@
 
 use super::books::{self, put, Draft, REDUCING, TAU};
 use super::small::{bytes, constant, Ask};
-use super::{questions, Rng};
+use super::{questions, wilson, Rng};
+use crate::sheet::blocks::Words;
 use crate::sheet::book::VAPOR_PRESSURE;
 use crate::sheet::{open_book, ANSWER_BYTES};
 use crate::stage::Case;
@@ -17,10 +18,11 @@ pub fn case(rng: &mut Rng) -> Case {
     }
 }
 
-/// A realistic book with vapor pressures or activity coefficients at the ends of the floats.
+/// A realistic book with vapor pressures or activity coefficients at the ends of the floats; one in four is a Wilson book.
 fn extreme(rng: &mut Rng) -> Case {
     let n = rng.pick(&[1, 2, 2, 2, 3, 3, 4, 5, 6, 7, 8]);
-    let mut draft = books::realistic(rng, n);
+    let of_wilson = rng.one_in(4);
+    let mut draft = if of_wilson { wilson::realistic(rng, n) } else { books::realistic(rng, n) };
     let kind = rng.below(6);
     for i in 0..n {
         match kind {
@@ -31,12 +33,13 @@ fn extreme(rng: &mut Rng) -> Case {
                 reducing(rng, &mut draft, i, decades);
             }
             3 if rng.one_in(n) => books::make_extreme(rng, &mut draft, i),
+            4 if of_wilson => draft.pairs_of(i).into_iter().for_each(|at| small_lambdas(rng, &mut draft.blocks[at])),
             4 => strong_pairs(rng, &mut draft, i),
             _ => {}
         }
     }
     let book = draft.bytes();
-    let opened = open_book(&book).expect("questions 1 to 9 pass");
+    let opened = open_book(&book).expect("its questions pass");
     let task = rng.pick(&TASKS);
     let question = questions::realistic(rng, &opened, task);
     Case::Sheet { book, question: question.question(), room: ANSWER_BYTES }
@@ -53,6 +56,11 @@ fn strong_pairs(rng: &mut Rng, draft: &mut Draft, i: usize) {
             put(&mut draft.blocks[at], TAU + 4 * direction, rng.range(-60.0, 900.0));
         }
     }
+}
+
+/// Λ that bring ln γ of a trace to the ends of exp.
+fn small_lambdas(rng: &mut Rng, words: &mut Words) {
+    wilson::put_terms(words, &[rng.range(-745.0, 10.0), 0.0, rng.range(-745.0, 10.0), 0.0]);
 }
 
 fn asked(pressures: &[f64], tau: [f64; 2], ask: Ask) -> Case {

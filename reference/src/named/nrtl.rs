@@ -1,3 +1,5 @@
+mod wilson;
+
 use std::ops::{Add, Div, Mul, Neg, Sub};
 
 use super::composition::COMPOSITION_SUM_TOLERANCE;
@@ -7,7 +9,12 @@ use crate::types::{
     CalculationError as Error, ComponentId, InputError, Temperature, ValidityStatus, MOLAR_GAS_CONSTANT as R,
 };
 
+use wilson::Wilson;
+
 include!(concat!(env!("OUT_DIR"), "/nrtl.rs"));
+
+/// Regression interval (K) and whether it was inferred.
+pub type Interval = ([f64; 2], bool);
 
 /// One pair block: i < j, directed τ terms, α terms of both directions.
 #[derive(Debug, Clone, PartialEq)]
@@ -18,8 +25,17 @@ pub struct Pair {
     pub tau_ji: [f64; 4],
     pub alpha_ij: [f64; 2],
     pub alpha_ji: [f64; 2],
-    /// Regression interval (K) and whether it was inferred.
-    pub interval: Option<([f64; 2], bool)>,
+    pub interval: Option<Interval>,
+}
+
+/// One pair block of a Wilson book: a and b (K) of both directions.
+#[derive(Debug, Clone, PartialEq)]
+pub struct WilsonPair {
+    pub i: usize,
+    pub j: usize,
+    pub ij: [f64; 2],
+    pub ji: [f64; 2],
+    pub interval: Option<Interval>,
 }
 
 impl NrtlParameters {
@@ -39,6 +55,24 @@ impl NrtlParameters {
             regression[j][i] = interval;
         }
         Self::checked(ids, tau, alpha, regression)
+    }
+}
+
+impl NrtlModel {
+    /// The Wilson model of a book. Of the NRTL parameters only the intervals count.
+    pub fn of_wilson_book(ids: Vec<ComponentId>, pairs: &[WilsonPair]) -> Result<Self, Error> {
+        let wilson = Wilson::of_book(ids.len(), pairs);
+        let none = |pair: &WilsonPair| Pair {
+            i: pair.i,
+            j: pair.j,
+            tau_ij: [0.0; 4],
+            tau_ji: [0.0; 4],
+            alpha_ij: [0.0; 2],
+            alpha_ji: [0.0; 2],
+            interval: pair.interval,
+        };
+        let intervals: Vec<Pair> = pairs.iter().map(none).collect();
+        Ok(Self { wilson: Some(wilson), ..Self::new(NrtlParameters::of_book(ids, &intervals)?) })
     }
 }
 

@@ -1,10 +1,15 @@
-//! The book: questions 1 to 9, 35 and 38, and its records.
+//! The book: questions 1 to 9, 35, 37 and 38, and its records.
 
 use super::blocks::{bytes_check_right, rule_of, words_of, Rule, Words, BLOCK};
 use crate::named::liquid::{Correlation, PureLiquid};
 use crate::named::model::ActivityModel;
-use crate::named::nrtl::{NrtlModel, NrtlParameters, Pair};
+use crate::named::nrtl::{Interval, NrtlModel, NrtlParameters, Pair, WilsonPair};
 use crate::types::ComponentId;
+
+/// Word of block 0 that names the model, and the models; version 1 has only NRTL.
+pub const MODEL: usize = 3;
+pub const NRTL: u64 = 0;
+pub const WILSON: u64 = 1;
 
 /// First word of a solvent's two correlation records.
 pub const VAPOR_PRESSURE: usize = 3;
@@ -20,6 +25,13 @@ pub struct Solvent {
     pub density: Correlation,
 }
 
+/// The pair blocks, (0,1), (0,2) and on, as the model reads them.
+#[derive(Debug, Clone, PartialEq)]
+pub enum Pairs {
+    Nrtl(Vec<Pair>),
+    Wilson(Vec<WilsonPair>),
+}
+
 #[derive(Debug, Clone, PartialEq)]
 pub struct Book {
     /// By which its checks were made.
@@ -27,20 +39,22 @@ pub struct Book {
     pub solvents: Vec<Solvent>,
     /// kg/mol; a version 1 book has none.
     pub molar_masses: Option<Vec<f64>>,
-    /// (0,1), (0,2) and on.
-    pub pairs: Vec<Pair>,
+    pub pairs: Pairs,
 }
 
 impl Book {
     pub fn model(&self) -> ActivityModel {
         let ids: Vec<ComponentId> = self.solvents.iter().map(|s| ComponentId(s.cas)).collect();
         let liquids = self.solvents.iter().map(|s| PureLiquid::of_book(&s.vapor_pressure, &s.density)).collect();
-        let parameters = NrtlParameters::of_book(ids.clone(), &self.pairs).expect("questions 1 to 9 were put");
-        ActivityModel::of_book(ids, liquids, NrtlModel::new(parameters))
+        let activity = match &self.pairs {
+            Pairs::Nrtl(pairs) => NrtlParameters::of_book(ids.clone(), pairs).map(NrtlModel::new),
+            Pairs::Wilson(pairs) => NrtlModel::of_wilson_book(ids.clone(), pairs),
+        };
+        ActivityModel::of_book(ids, liquids, activity.expect("questions 1 to 9 were put"))
     }
 }
 
-/// The accepted book, or a number from 1 to 9, 35 or 38. Each question is put to all blocks before the next.
+/// The accepted book, or a number from 1 to 9, 35, 37 or 38. Each question is put to all blocks before the next.
 pub fn open_book(book: &[u8]) -> Result<Book, u32> {
     need(!book.is_empty() && book.len().is_multiple_of(BLOCK), 1)?;
     need(version_known(&words_of(&book[..BLOCK])), 38)?;
@@ -48,6 +62,9 @@ pub fn open_book(book: &[u8]) -> Result<Book, u32> {
     need(book.chunks_exact(BLOCK).all(|block| bytes_check_right(block, rule)), 2)?;
     let blocks: Vec<Words> = book.chunks_exact(BLOCK).map(words_of).collect();
     let (version, n) = head(&blocks).ok_or(3u32)?;
+    let model = blocks[0][MODEL];
+    need(model == NRTL || (version != 1 && model == WILSON), 37)?;
+    let wilson = model == WILSON;
     let (solvents, pairs) = blocks[1..].split_at(n);
     let due = due_pairs(n);
     need(solvents.iter().enumerate().all(|(i, w)| is_solvent(w, i)), 4)?;
@@ -56,14 +73,15 @@ pub fn open_book(book: &[u8]) -> Result<Book, u32> {
     need(molar_masses.iter().flatten().all(|mass| is_positive(*mass)), 35)?;
     need((0..n).all(|i| solvents[..i].iter().all(|w| w[2] != solvents[i][2])), 6)?;
     need(pairs.iter().zip(&due).all(|(w, &(i, j))| is_pair(w, i, j)), 7)?;
-    need(pairs.iter().all(pair_is_finite), 8)?;
-    need(pairs.iter().all(alphas_are_equal), 9)?;
-    Ok(Book {
-        rule,
-        solvents: solvents.iter().map(solvent).collect(),
-        molar_masses,
-        pairs: pairs.iter().zip(&due).map(|(w, &(i, j))| pair(w, i, j)).collect(),
-    })
+    need(pairs.iter().all(|w| pair_is_finite(w, if wilson { 6 } else { 14 })), 8)?;
+    need(wilson || pairs.iter().all(alphas_are_equal), 9)?;
+    let pairs = || pairs.iter().zip(&due);
+    let pairs = if wilson {
+        Pairs::Wilson(pairs().map(|(w, &(i, j))| wilson_pair(w, i, j)).collect())
+    } else {
+        Pairs::Nrtl(pairs().map(|(w, &(i, j))| pair(w, i, j)).collect())
+    };
+    Ok(Book { rule, solvents: solvents.iter().map(solvent).collect(), molar_masses, pairs })
 }
 
 fn need(yes: bool, number: u32) -> Result<(), u32> {
@@ -133,10 +151,10 @@ fn is_pair(words: &Words, i: usize, j: usize) -> bool {
     words[..3] == [3, i as u64, j as u64] && words[15] <= 1 && words[18] <= 1
 }
 
-/// Bounds only if flagged.
-fn pair_is_finite(words: &Words) -> bool {
+/// Words 3 to `last`, and bounds only if flagged.
+fn pair_is_finite(words: &Words, last: usize) -> bool {
     let finite = |from: usize, to: usize| (from..=to).all(|at| float(words, at).is_finite());
-    finite(3, 14) && (words[15] == 0 || finite(16, 17))
+    finite(3, last) && (words[15] == 0 || finite(16, 17))
 }
 
 fn alphas_are_equal(words: &Words) -> bool {
@@ -166,6 +184,14 @@ fn pair(words: &Words, i: usize, j: usize) -> Pair {
         tau_ji: floats(words, 7),
         alpha_ij: floats(words, 11),
         alpha_ji: floats(words, 13),
-        interval: (words[15] == 1).then(|| (floats(words, 16), words[18] == 1)),
+        interval: interval(words),
     }
+}
+
+fn wilson_pair(words: &Words, i: usize, j: usize) -> WilsonPair {
+    WilsonPair { i, j, ij: floats(words, 3), ji: floats(words, 5), interval: interval(words) }
+}
+
+fn interval(words: &Words) -> Option<Interval> {
+    (words[15] == 1).then(|| (floats(words, 16), words[18] == 1))
 }

@@ -4,8 +4,8 @@ use Rattle.book.specs.Book.{pairFinite}
 use Rattle.book.proofs.pair_finite.Statement.{statement}
 use Rattle.book.proofs.pair_finite.Tie as tie
 
-floats-finite-requires : tie.Need-floats-finite-requires
-floats-finite-requires c κs = search needs
+parameters-finite-requires : tie.Need-parameters-finite-requires
+parameters-finite-requires c κs = search needs
 
 bounds-finite-requires : tie.Need-bounds-finite-requires
 bounds-finite-requires c κs = search needs
@@ -15,4 +15,4 @@ unfolding pairFinite
 returns c = cc
 
 pub pair-finite-spec : {M : Type 1} → statement M
-pair-finite-spec = tie.close (tie.spec floats-finite-requires bounds-finite-requires returns)
+pair-finite-spec = tie.close (tie.spec parameters-finite-requires bounds-finite-requires returns)

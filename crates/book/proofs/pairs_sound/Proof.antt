@@ -12,10 +12,11 @@ use Rattle.book.proofs.pairs_sound.Statement.{statement}
 use Rattle.book.proofs.pairs_sound.Tie as tie
 
 abbrev Inv-loop : tie.InvT-loop
-Inv-loop book from count d₀ d = (d ≤ count) × (allTo (λ k. pairFinite (words book (from + k)) && alphasEqual (words book (from + k))) d ≡ true)
+Inv-loop model book from count d₀ d =
+    (d ≤ count) × (allTo (λ k. pairFinite model (words book (from + k)) && alphasEqual model (words book (from + k))) d ≡ true)
 
 abbrev μ-loop : tie.MeasureT-loop
-μ-loop book from count d₀ d = count - d
+μ-loop model book from count d₀ d = count - d
 
 loop-holds : tie.Need-loop-holds Inv-loop μ-loop
 unfolding allTo

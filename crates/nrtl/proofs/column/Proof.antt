@@ -7,7 +7,7 @@ use Rattle.floats.specs.Fold.{foldTo}
 use Rattle.floats.specs.Vector.{at}
 use Rattle.jet.proofs.Sums.{sumJet-turn, sumJet-done}
 use Rattle.nrtl.specs.Columns.{colS}
-use Rattle.nrtl.specs.On.{jets}
+use Rattle.jet.specs.Planes.{jets}
 use Rattle.nrtl.proofs.column.Statement.{statement}
 use Rattle.nrtl.proofs.column.Tie as tie
 

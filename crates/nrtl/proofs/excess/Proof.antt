@@ -1,6 +1,6 @@
 -- `nrtl::excess` meets its contract. Assumes nothing.
 use borrow.Author.Needs.{needs}
-use Rattle.nrtl.proofs.Tests.{asked-passed, asked-refused}
+use Rattle.nrtl.proofs.Tests.{state-asked, state-refused}
 use Rattle.nrtl.proofs.excess.Statement.{statement}
 use Rattle.nrtl.proofs.excess.Tie as tie
 
@@ -23,10 +23,10 @@ refuse-requires : tie.Need-refuse-requires
 refuse-requires c κs = search needs
 
 returns : tie.Need-returns
-returns c = search asked-passed
+returns c = search state-asked
 
 returns-2 : tie.Need-returns-2
-returns-2 c = search asked-refused
+returns-2 c = search state-refused
 
 pub excess-spec : {M : Type 1} → statement M
 excess-spec =

@@ -5,10 +5,9 @@ use native.Mathlib.Omega.{arith}
 use borrow.Author.Needs.{needs}
 use Rattle.floats.specs.Fold.{foldTo}
 use Rattle.floats.specs.Vector.{at}
-use Rattle.nrtl.proofs.Turns.{sums-turn, sums-done}
-use Rattle.nrtl.specs.Columns.{gibbsFrom}
+use Rattle.excess.proofs.Steps.{sums-turn, sums-done}
 use Rattle.nrtl.specs.On.{sOn, rOn}
-use Rattle.nrtl.specs.Steps.{SumsTo}
+use Rattle.excess.specs.Steps.{SumsTo}
 use Rattle.nrtl.proofs.fill_sums.Statement.{statement}
 use Rattle.nrtl.proofs.fill_sums.Tie as tie
 
@@ -22,7 +21,7 @@ constant-requires : tie.Need-constant-requires Inv-loop μ-loop
 constant-requires c κs = search needs
 
 loop-holds : tie.Need-loop-holds Inv-loop μ-loop
-unfolding gibbsFrom foldTo
+unfolding foldTo
 loop-holds c = (omega arith, record { total = c .constant .ensures; kept = refl })
 
 sum-at-requires : tie.Need-sum-at-requires Inv-loop μ-loop

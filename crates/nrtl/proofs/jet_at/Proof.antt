@@ -1,7 +1,7 @@
 -- `nrtl::jet_at` meets its contract. Assumes nothing.
 use mathlib.Core.Path.{refl}
 use native.Mathlib.Omega.{arith}
-use Rattle.nrtl.specs.On.{jetAt}
+use Rattle.jet.specs.Planes.{jetAt}
 use Rattle.nrtl.proofs.jet_at.Statement.{statement}
 use Rattle.nrtl.proofs.jet_at.Tie as tie
 

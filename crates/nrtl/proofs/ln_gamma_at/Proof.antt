@@ -8,8 +8,8 @@ use Rattle.floats.specs.Vector.{at}
 use Rattle.jet.proofs.Sums.{sumJet-turn, sumJet-done}
 use Rattle.nrtl_tables.specs.Table.{gPlane, tauPlane}
 use Rattle.nrtl.specs.Columns.{lnFrom}
-use Rattle.nrtl.specs.On.{twos}
-use Rattle.nrtl.specs.Steps.{sIn, rIn}
+use Rattle.jet.specs.Planes.{twos}
+use Rattle.excess.specs.Steps.{sIn, rIn}
 use Rattle.nrtl.proofs.ln_gamma_at.Statement.{statement}
 use Rattle.nrtl.proofs.ln_gamma_at.Tie as tie
 

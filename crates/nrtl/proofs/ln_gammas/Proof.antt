@@ -5,11 +5,11 @@ use native.Mathlib.Omega.{arith}
 use borrow.Author.Needs.{needs}
 use Rattle.floats.specs.Fold.{allTo}
 use Rattle.floats.specs.Vector.{at, fill}
-use Rattle.nrtl.proofs.Turns.{gammas-turn, gammas-done}
+use Rattle.excess.proofs.Steps.{gammas-turn, gammas-done}
 use Rattle.nrtl_tables.specs.Table.{gPlane, tauPlane}
 use Rattle.nrtl.specs.Columns.{lnFrom}
-use Rattle.nrtl.specs.On.{twos}
-use Rattle.nrtl.specs.Steps.{sIn, rIn, GammasTo}
+use Rattle.jet.specs.Planes.{twos}
+use Rattle.excess.specs.Steps.{sIn, rIn, GammasTo}
 use Rattle.nrtl.proofs.ln_gammas.Statement.{statement}
 use Rattle.nrtl.proofs.ln_gammas.Tie as tie
 

@@ -1,7 +1,7 @@
 -- `nrtl::sum_at` meets its contract. Assumes nothing.
 use native.Mathlib.Omega.{arith}
 use borrow.Author.Needs.{needs}
-use Rattle.nrtl.proofs.Turns.{sum-turn}
+use Rattle.nrtl.proofs.Whole.{nrtl-turn}
 use Rattle.nrtl.proofs.sum_at.Statement.{statement}
 use Rattle.nrtl.proofs.sum_at.Tie as tie
 
@@ -72,7 +72,7 @@ add-requires : tie.Need-add-requires
 add-requires c κs = search needs
 
 returns : tie.Need-returns
-returns c = search sum-turn
+returns c = search nrtl-turn
 
 pub sum-at-spec : {M : Type 1} → statement M
 sum-at-spec =

@@ -10,10 +10,10 @@ use Rattle.records.proofs.fill.Statement.{statement}
 use Rattle.records.proofs.fill.Tie as tie
 
 abbrev Inv-loop : tie.InvT-loop
-Inv-loop book n plane₀ i₀ plane i = (i ≤ n) × (plane ≡ parameterRows (parameter (words book) n) n i)
+Inv-loop model book n plane₀ i₀ plane i = (i ≤ n) × (plane ≡ parameterRows (parameter model (words book) n) n i)
 
 abbrev μ-loop : tie.MeasureT-loop
-μ-loop book n plane₀ i₀ plane i = n - i
+μ-loop model book n plane₀ i₀ plane i = n - i
 
 loop-holds : tie.Need-loop-holds Inv-loop μ-loop
 loop-holds c = (omega arith, rows-holds _ _)

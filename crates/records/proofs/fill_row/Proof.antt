@@ -10,10 +10,10 @@ use Rattle.records.proofs.fill_row.Statement.{statement}
 use Rattle.records.proofs.fill_row.Tie as tie
 
 abbrev Inv-loop : tie.InvT-loop
-Inv-loop book n i plane₀ j₀ plane j = (j ≤ n) × (plane ≡ parameterRow (parameter (words book) n i) j i plane₀)
+Inv-loop model book n i plane₀ j₀ plane j = (j ≤ n) × (plane ≡ parameterRow (parameter model (words book) n i) j i plane₀)
 
 abbrev μ-loop : tie.MeasureT-loop
-μ-loop book n i plane₀ j₀ plane j = n - j
+μ-loop model book n i plane₀ j₀ plane j = n - j
 
 loop-holds : tie.Need-loop-holds Inv-loop μ-loop
 loop-holds c = (omega arith, row-holds _ _ _)

@@ -4,11 +4,11 @@ use Rattle.records.specs.Records.{pairOf}
 use Rattle.records.proofs.pair_at.Statement.{statement}
 use Rattle.records.proofs.pair_at.Tie as tie
 
-terms-at-requires : tie.Need-terms-at-requires
-terms-at-requires c κs = search needs
+upper-terms-requires : tie.Need-upper-terms-requires
+upper-terms-requires c κs = search needs
 
-terms-at-requires-2 : tie.Need-terms-at-requires-2
-terms-at-requires-2 c κs = search needs
+lower-terms-requires : tie.Need-lower-terms-requires
+lower-terms-requires c κs = search needs
 
 regression-at-requires : tie.Need-regression-at-requires
 regression-at-requires c κs = search needs
@@ -18,4 +18,4 @@ unfolding pairOf
 returns c = cc
 
 pub pair-at-spec : {M : Type 1} → statement M
-pair-at-spec = tie.close (tie.spec terms-at-requires terms-at-requires-2 regression-at-requires returns)
+pair-at-spec = tie.close (tie.spec upper-terms-requires lower-terms-requires regression-at-requires returns)

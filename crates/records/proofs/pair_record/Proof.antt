@@ -4,6 +4,9 @@ use Rattle.records.proofs.Rows.{pair-placed}
 use Rattle.records.proofs.pair_record.Statement.{statement}
 use Rattle.records.proofs.pair_record.Tie as tie
 
+model-of-requires : tie.Need-model-of-requires
+model-of-requires c κs = search needs
+
 places-requires : tie.Need-places-requires
 places-requires c κs = search needs
 
@@ -26,6 +29,7 @@ pub pair-record-spec : {M : Type 1} → statement M
 pair-record-spec =
     tie.close
     (tie.spec
+    model-of-requires
     places-requires
     places-requires-2
     places-requires-3

@@ -1,9 +1,9 @@
--- `records::terms_at` meets its contract. From what the callees ensure. Assumes nothing.
+-- `records::nrtl_terms` meets its contract. From what the callees ensure. Assumes nothing.
 use native.Mathlib.Nat.{add-zero}
 use borrow.Author.Needs.{needs}
 use Rattle.records.specs.Parameters.{termsOf, termIn}
-use Rattle.records.proofs.terms_at.Statement.{statement}
-use Rattle.records.proofs.terms_at.Tie as tie
+use Rattle.records.proofs.nrtl_terms.Statement.{statement}
+use Rattle.records.proofs.nrtl_terms.Tie as tie
 
 float-at-requires : tie.Need-float-at-requires
 float-at-requires c κs = search needs
@@ -36,8 +36,8 @@ returns : tie.Need-returns
 unfolding termsOf termIn
 returns c = rw add-zero (cc)
 
-pub terms-at-spec : {M : Type 1} → statement M
-terms-at-spec =
+pub nrtl-terms-spec : {M : Type 1} → statement M
+nrtl-terms-spec =
     tie.close
     (tie.spec
     float-at-requires

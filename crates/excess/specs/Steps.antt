@@ -1,4 +1,4 @@
--- What the private functions leave: S and C / S in one array of 32, four numbers for each solvent, and the partial sums. Assumes nothing.
+-- What a model's private functions leave: of each solvent a sum S and a Jet R in one array of 32, and the partial sums of x_i R_i. Assumes nothing.
 use Prim.Native.Nat.{ℕ, _+_, _*_}
 use mathlib.Core.Path.{_≡_}
 use mathlib.Core.Bool.{Bool, _&&_}
@@ -8,10 +8,9 @@ use Rattle.floats.specs.Small.{isFinite}
 use Rattle.floats.specs.Fold.{foldTo, allTo}
 use Rattle.floats.specs.Vector.{at, fill, fillFrom}
 use Rattle.jet.specs.declared.Jet.{Jet}
-use Rattle.jet.specs.Jets.{addJ, scaleJ, twoJ}
-use Rattle.nrtl.specs.Columns.{gibbsFrom}
+use Rattle.jet.specs.Jets.{addJ, scaleJ, twoJ, sumJetTo}
 
--- kept of a solvent: S and R = C / S without second derivatives
+-- kept of a solvent: S and R without second derivatives
 unfoldable pub sumsKept : Jet → Jet → ℕ → Float
 sumsKept s r k = at (s .v ∷ s .d ∷ r .v ∷ r .d ∷ []) k
 
@@ -28,14 +27,14 @@ sIn l j = twoOf l (j * 4)
 abbrev pub rIn : List Float → ℕ → Jet
 rIn l j = twoOf l (j * 4 + 2)
 
--- turn i of the sums: the next partial sum of g^E / RT, and the array
+-- turn i of the sums: the next partial sum of x_i R_i, and the array
 pub record SumTurn (S R : ℕ → Jet) (x : ℕ → Float) (i : ℕ) (e r : Jet) (old new : List Float) : Type 0 where
   pub next : r ≡ addJ e (scaleJ (R i) (x i))
   pub kept : new ≡ fillFrom (sumsKept (S i) (R i)) (i * 4) 4 old
 
 -- the sums up to k
 pub record SumsTo (S R : ℕ → Jet) (x : ℕ → Float) (k : ℕ) (r : Jet) (old new : List Float) : Type 0 where
-  pub total : r ≡ gibbsFrom R x k
+  pub total : r ≡ sumJetTo (λ i. scaleJ (R i) (x i)) k
   pub kept : new ≡ sumsIn S R k old
 
 -- ln γ up to k, and whether all of it is finite

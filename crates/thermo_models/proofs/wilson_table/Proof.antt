@@ -1,0 +1,17 @@
+-- `thermo_models::wilson_table` meets its contract. Assumes nothing.
+use borrow.Author.Needs.{needs}
+use Rattle.thermo_models.proofs.Stands.{wilson-made}
+use Rattle.thermo_models.proofs.wilson_table.Statement.{statement}
+use Rattle.thermo_models.proofs.wilson_table.Tie as tie
+
+tables-requires : tie.Need-tables-requires
+tables-requires c κs = search needs
+
+places-requires : tie.Need-places-requires
+places-requires c κs = search needs
+
+returns : tie.Need-returns
+returns c = search wilson-made
+
+pub wilson-table-spec : {M : Type 1} → statement M
+wilson-table-spec = tie.close (tie.spec tables-requires places-requires returns)

@@ -1,0 +1,3 @@
+-- The definitions that the contracts of wilson_tables cite. Assumes nothing.
+pub mod Pair
+pub mod Table
