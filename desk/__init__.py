@@ -15,13 +15,14 @@ docs/LINKING.md has more of this, docs/FORMAT.md what the words of an answer hol
 from pathlib import Path
 from typing import Union
 
-from . import answer, refusals
+from . import answer, pool, refusals
 from .answer import Blocks
 from .book import Book, Correlation, Interval, Model, Pair, Solvent, WilsonPair, encode
 from .core import Core
 from .errors import DeskError
 from .library import Library, find
 from .openbook import open_book, open_yard
+from .pool import Drum
 from .question import Options, Question
 from .tasks import BUBBLE_PRESSURE, BUBBLE_TEMPERATURE, DEW_PRESSURE, DEW_TEMPERATURE, FLASH, STABILITY, TASKS, Task
 
@@ -36,8 +37,8 @@ def open_core(book: bytes) -> Union[Library, Core]:
 
 
 __all__ = [
-    "Blocks", "Book", "Core", "Correlation", "DeskError", "Interval", "Library", "Model", "Options", "Pair", "Question",
-    "Solvent", "Task", "WilsonPair", "BUBBLE_PRESSURE", "BUBBLE_TEMPERATURE", "DEW_PRESSURE", "DEW_TEMPERATURE",
-    "EXCESS", "FLASH", "RACHFORD_RICE", "RACHFORD_RICE_NEGATIVE", "STABILITY", "TASKS", "answer", "encode", "find",
-    "open_book", "open_core", "open_yard", "refusals",
+    "Blocks", "Book", "Core", "Correlation", "DeskError", "Drum", "Interval", "Library", "Model", "Options", "Pair",
+    "Question", "Solvent", "Task", "WilsonPair", "BUBBLE_PRESSURE", "BUBBLE_TEMPERATURE", "DEW_PRESSURE",
+    "DEW_TEMPERATURE", "EXCESS", "FLASH", "RACHFORD_RICE", "RACHFORD_RICE_NEGATIVE", "STABILITY", "TASKS", "answer",
+    "encode", "find", "open_book", "open_core", "open_yard", "pool", "refusals",
 ]  # fmt: skip

@@ -30,7 +30,8 @@ EXAMPLES = {
 
 
 DRUM_HELP = (
-    "mole fractions by name or CAS number, or weights of all with their units (kg, g, t); other solvents are absent"
+    "mole fractions by name or CAS number, or weights of all with their units (kg, g, t); other solvents are absent. "
+    "Several --drum are pooled into one charge, by amounts in mol or kg"
 )
 MASS_HELP = "mass fractions in place of --drum"
 TEMPERATURE_HELP = "with its unit: 351.44K, 78.29C or 78.29°C"
@@ -44,6 +45,7 @@ LAYERS = (
 WEIGHED = (
     "./sheet flash --drum ethanol=40kg,water=12kg --temperature 80C --pressure 1atm",
     "./sheet bubble-temperature --mass ethanol=0.7,water=0.3 --pressure 1atm",
+    "./sheet flash --drum ethanol=40kg,water=12kg --drum ethanol=9kmol,acetone=7mol --temperature 78C --pressure 1atm",
 )
 STATUSES = (
     "exit status: 0 an answer, 1 a refusal (of the core, or no layers that can be shown), 2 bad usage,\n"

@@ -46,7 +46,7 @@ def ask(arguments: argparse.Namespace) -> int:
     feed = feed_of(book, arguments.drum, arguments.mass, arguments.normalize)
     question = _question(arguments, book, feed)
     with core.Core(book.content, arguments.program) as program:
-        blocks = program.ask(question)
+        blocks = program.ask_pooled(question, feed.charge.counts) if feed.charge else program.ask(question)
         sheet = Sheet(book, feed, question, blocks, judged(program, book, question, blocks, feed=feed))
         sheet = replace(sheet, ranges=_ranges(program, sheet), label=_label(arguments), date=today())
     if arguments.strike:

@@ -5,11 +5,12 @@ import select
 import subprocess
 import tempfile
 from pathlib import Path
-from typing import Dict
+from typing import Dict, Sequence
 
 from . import answer
 from .blocks import rule_of
 from .errors import DeskError
+from .pool import Drum, ask_plainly
 from .question import Question
 
 ROOT = Path(__file__).resolve().parent.parent
@@ -40,6 +41,10 @@ class Core:
 
     def ask(self, question: Question) -> answer.Blocks:
         return self.ask_block(question.block(self.rule))
+
+    def ask_pooled(self, question: Question, drums: Sequence[Drum]) -> answer.Blocks:
+        """With the pool of the drums as the feed."""
+        return ask_plainly(self, question, drums)
 
     def ask_block(self, block: bytes) -> answer.Blocks:
         if block not in self._answers:

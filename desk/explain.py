@@ -13,6 +13,7 @@ from .sheet import NamedBook, Sheet, drum_words
 FRACTIONS_DO_NOT_SUM, SUM_TOLERANCE = 18, 1e-10
 OUT_OF_DOMAIN, NOT_CONVERGED = 22, 27
 NOT_NORMALIZABLE, MOLAR_MASS, MODEL = 34, 35, 37
+DRUMS, TOTAL = 31, 32
 
 
 def detail(sheet: Sheet) -> str:
@@ -28,6 +29,10 @@ def detail(sheet: Sheet) -> str:
     if number == NOT_NORMALIZABLE:
         split = ", or a phase of the flash" if sheet.question.task == tasks.FLASH else ""
         return f": the dew point's liquid{split}"
+    if number == DRUMS and sheet.feed.charge:
+        return f": {len(sheet.feed.charge.drums)} were given"
+    if number == TOTAL and sheet.feed.charge:
+        return f": {sheet.feed.charge.total} in all"
     if number == MOLAR_MASS:
         return _listed(f"{name} {mass:g} kg/mol" for name, mass in _masses(sheet.book) if not 0 < mass < math.inf)
     if number == MODEL:

@@ -1,27 +1,39 @@
-"""What a drum holds: mole fractions, mass fractions, or weights, which are divided by their sum. The core converts a
-feed by mass; here are its steps once more, and the way back, for what a sheet shows beside the core's numbers."""
+"""What a drum holds: mole fractions, mass fractions, or weights, which are divided by their sum; or what several drums
+pool to. The core converts a feed by mass; here are its steps once more, and the way back, for what a sheet shows beside
+the core's numbers."""
 
 import math
 from dataclasses import dataclass
-from typing import Optional, Tuple
+from typing import TYPE_CHECKING, Optional, Tuple
+
+if TYPE_CHECKING:
+    from .charge import Charge
 
 Fractions = Tuple[float, ...]
 
-RECKONED = (
-    "this tool: the drum's mole fractions, in the core's steps; mass fractions and kg, from the core's mole fractions "
-    "and the book's molar masses"
-)
+MASSES = "mass fractions and kg, from the core's mole fractions and the book's molar masses"
+RECKONED = f"this tool: the drum's mole fractions, in the core's steps; {MASSES}"
 
 
 @dataclass(frozen=True)
 class Feed:
     """`fractions` go to the core as they are, of moles or of mass; `given` are those before --normalize, and
-    `kilograms` the weights that they come from."""
+    `kilograms` the weights that they come from. Of a `charge` both are its pool's."""
 
     fractions: Fractions
     by_mass: bool = False
     given: Optional[Fractions] = None
     kilograms: Optional[Fractions] = None
+    charge: Optional["Charge"] = None
+
+    @property
+    def called(self) -> str:
+        return "pool" if self.charge and len(self.charge.drums) > 1 else "drum"
+
+    @property
+    def reckoned(self) -> str:
+        """Who is behind the numbers by mass."""
+        return f"this tool: {MASSES}" if self.charge else RECKONED
 
     @property
     def kind(self) -> str:
@@ -73,6 +85,9 @@ class ByMass:
 
 
 def by_mass(masses: Optional[Fractions], feed: Feed) -> Optional[ByMass]:
-    """None of a drum by moles, and of one that the core can't convert."""
-    moles = moles_of(masses, feed.fractions) if feed.by_mass and masses else None
+    """None of a drum by moles, of one that the core can't convert, and of a pool without weights or that it refuses."""
+    if feed.charge:
+        moles = feed.fractions if feed.kilograms and not feed.charge.refusal else None
+    else:
+        moles = moles_of(masses, feed.fractions) if feed.by_mass and masses else None
     return ByMass(masses, moles, feed.total) if moles else None

@@ -6,9 +6,9 @@ import json
 import math
 from typing import Any, Dict, Iterable, List, Optional, Sequence
 
-from . import answer, explain, refusals, units
+from . import answer, charge, explain, refusals, units
 from .blocks import bits_of, float_of, floats_at
-from .feed import RECKONED, ByMass, Feed
+from .feed import ByMass, Feed
 from .ranges import Ranges
 from .report import phase_amounts
 from .sheet import NamedBook, Sheet
@@ -50,7 +50,7 @@ class Numbers:
 
     def __init__(self, names: Sequence[str], present: Sequence[int], details: bool):
         self.names, self.details = names, details
-        self._places = range(len(names)) if details else present
+        self.places = range(len(names)) if details else present
 
     def number(self, value: Optional[float]) -> Any:
         if value is None:
@@ -59,7 +59,7 @@ class Numbers:
         return {"value": finite, "bits": f"{bits_of(value):016x}"} if self.details else finite
 
     def by_name(self, values: Sequence[float]) -> Dict[str, Any]:
-        return {self.names[i]: self.number(values[i]) for i in self._places}
+        return {self.names[i]: self.number(values[i]) for i in self.places}
 
 
 def render(sheet: Sheet, details: bool = False) -> str:
@@ -188,13 +188,18 @@ class Document:
 
 
 def feed_document(feed: Feed, numbers: Numbers) -> Dict[str, Any]:
-    """What goes to the core, and what that comes from."""
-    return {
+    """What goes to the core, and what that comes from; `pool` is there where drums were pooled, and of drums that the
+    core refuses nothing else."""
+    found = {
         "feed": "mass" if feed.by_mass else "moles",
         "fractions": numbers.by_name(feed.fractions),
         "fractions_given": numbers.by_name(feed.given) if feed.given else None,
-        "kilograms": numbers.by_name(feed.kilograms) if feed.kilograms else None,
+        "kilograms": numbers.by_name(feed.kilograms) if feed.kilograms and not feed.charge else None,
     }
+    if not feed.charge:
+        return found
+    found["fractions"] = None if feed.charge.refusal else found["fractions"]
+    return {**found, "pool": charge.document(feed, numbers)}
 
 
 def mass_document(
@@ -214,7 +219,7 @@ def mass_document(
         }
 
     return {
-        "reckoned_by": RECKONED,
+        "reckoned_by": feed.reckoned,
         "molar_masses_kg_per_mol": numbers.by_name(mass.masses),
         "drum_mole_fractions": numbers.by_name(mass.moles),
         **{name: phase(name, moles) if moles is not None else None for name, moles in phases.items()},

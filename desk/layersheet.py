@@ -34,7 +34,7 @@ def layers_sheet(
     feed = feed or Feed(splitting(liquids, len(book.names), pair, kelvin, pascals, bracket))
     mass = by_mass(book.molar_masses, feed)
     drum = mass.moles if mass else feed.fractions
-    refused = _feed_refused(core, feed, bracket[0] if kelvin is None else kelvin) if feed.by_mass else ""
+    refused = _feed_refused(core, feed, bracket[0] if kelvin is None else kelvin)
     found = {"reason": refused} if refused else _found(liquids, drum, kelvin, pascals, bracket)
     if f"number {FRACTIONS_DO_NOT_SUM}:" in found.get("reason", "") and to_paste(book, feed):
         found["reason"] += f"; add --normalize, or paste {to_paste(book, feed)}"
@@ -45,8 +45,14 @@ def layers_sheet(
 
 
 def _feed_refused(core: Core, feed: Feed, kelvin: float) -> str:
-    """The core's own questions to a feed by mass, which the search below it is asked in moles."""
-    blocks = core.ask(Question(tasks.EXCESS, feed.fractions, kelvin, by_mass=True))
+    """The core's own questions to a feed by mass or to drums, which the search below it is asked in moles."""
+    question = Question(tasks.EXCESS, feed.fractions, kelvin, by_mass=feed.by_mass)
+    if feed.charge:
+        blocks = core.ask_pooled(question, feed.charge.counts)
+    elif feed.by_mass:
+        blocks = core.ask(question)
+    else:
+        return ""
     return _refused(blocks) if blocks.refusal else ""
 
 

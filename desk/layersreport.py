@@ -3,7 +3,7 @@
 from dataclasses import dataclass
 from typing import Any, Dict, List, Optional, Tuple
 
-from . import jsonsheet, ranges, text
+from . import charge, jsonsheet, ranges, text
 from .feed import ByMass, Feed, by_mass
 from .layers import Boiling, Layers
 from .ranges import Ranges
@@ -93,7 +93,8 @@ def _head(sheet: LayersSheet, details: bool) -> Lines:
         rows.append(("T asked", text.temperature(sheet.kelvin, details)))
     if sheet.pascals is not None:
         rows.append(("p asked", text.pressure(sheet.pascals, details)))
-    return ["LAYERS: the two liquids that a drum splits in, and where they boil"] + text.fields(rows)
+    lines = ["LAYERS: the two liquids that a drum splits in, and where they boil"] + text.fields(rows)
+    return lines + (charge.table(sheet.feed, sheet.book.names, details) if sheet.feed.charge else [])
 
 
 def _one_layer(sheet: LayersSheet, details: bool) -> Lines:
@@ -159,14 +160,15 @@ def _boiling_rows(sheet: LayersSheet, boiling: Boiling, details: bool) -> List[T
 
 
 def _compositions(sheet: LayersSheet, layers: Layers, details: bool) -> Lines:
-    columns: List[Tuple[str, Fractions]] = [] if sheet.is_pair else [("drum", sheet.drum)]
+    columns: List[Tuple[str, Fractions]] = [] if sheet.is_pair else [(sheet.feed.called, sheet.drum)]
     columns += [("layer 1", layers.first), ("layer 2", layers.second)]
     columns += [("first bubble", sheet.boiling.vapor)] if sheet.boiling else []
     rows = []
-    amounts = {} if sheet.is_pair else {"drum": 1.0, "layer 1": 1 - layers.amount, "layer 2": layers.amount}
+    whole = sheet.feed.called
+    amounts = {} if sheet.is_pair else {whole: 1.0, "layer 1": 1 - layers.amount, "layer 2": layers.amount}
     if amounts:
         rows.append(
-            ["moles per mole of drum"]
+            [f"moles per mole of {whole}"]
             + [text.fraction(amounts[name], details) if name in amounts else "" for name, _ in columns]
         )
     rows += [

@@ -3,12 +3,13 @@
 import ctypes
 import os
 from pathlib import Path
-from typing import Callable, Optional
+from typing import Callable, Optional, Sequence
 
 from . import answer
 from .blocks import BLOCK, rule_of, sealed, words_of
 from .core import ROOT
 from .errors import DeskError
+from .pool import Drum, bytes_of
 from .question import Question
 
 NAME = "libzektonk.so"
@@ -55,9 +56,21 @@ class Library:
 
     def ask_bytes(self, block: bytes) -> bytes:
         """What the program `still` writes: the answer's blocks, or one block with the refusal's number."""
+        return self._written(self._call, block)
+
+    def ask_pooled(self, question: Question, drums: Sequence[Drum]) -> answer.Blocks:
+        """With the pool of the drums as the feed."""
+        return answer.read(self.pooled_bytes(question.block(self.rule), bytes_of(drums)), self.rule)
+
+    def pooled_bytes(self, block: bytes, drums: bytes) -> bytes:
+        """The same as `ask_bytes` with drums, 64 bytes each."""
+        return self._written(_loaded(self.path, "zektonk_pooled"), block, drums)
+
+    def _written(self, call: Callable[..., int], block: bytes, *drums: bytes) -> bytes:
         asked = block[:QUESTION_MOST]
         room = ctypes.create_string_buffer(ANSWER_ROOM)
-        number = self._call(self.book, len(self.book), asked, len(asked), room, ANSWER_ROOM)
+        slices = [part for lent in (self.book, asked, *drums) for part in (lent, len(lent))]
+        number = call(*slices, room, ANSWER_ROOM)
         if number:
             task = 0 if number in WITHOUT_TASK else words_of(asked)[answer.TASK]
             return sealed([answer.KIND_ANSWER, task, number], self.rule)
@@ -65,12 +78,12 @@ class Library:
         return room[: BLOCK * (1 + trials)]
 
 
-def _loaded(path: Path) -> Callable[..., int]:
-    """zektonk_answer of bindings/c/zektonk.h. ctypes lets other threads run during the call."""
+def _loaded(path: Path, name: str = "zektonk_answer") -> Callable[..., int]:
+    """A call of bindings/c/zektonk.h. ctypes lets other threads run during it."""
     try:
-        call = ctypes.CDLL(str(path)).zektonk_answer
+        call = ctypes.CDLL(str(path))[name]
     except (OSError, AttributeError) as error:
         raise DeskError(f"the library {path} can't be called: {error}") from None
-    call.argtypes = [ctypes.c_char_p, ctypes.c_size_t] * 3
+    call.argtypes = [ctypes.c_char_p, ctypes.c_size_t] * (4 if name == "zektonk_pooled" else 3)
     call.restype = ctypes.c_uint64
     return call

@@ -6,6 +6,8 @@ from typing import Any, Callable, Dict, List, NamedTuple, Optional, Tuple
 from . import core, files, units
 from .blocks import BLOCK
 from .book import cas_numbers, common_range, decode, encode, version_of
+from .charge import charged
+from .charge import option as option_of
 from .errors import DeskError, quoted, suggestion
 from .feed import Feed, Fractions, normalized
 from .question import Options
@@ -113,6 +115,11 @@ def _amounts(book: NamedBook, text: str, option: str) -> Dict[int, Amount]:
     return found
 
 
+def _values(text: str) -> List[str]:
+    """What stands behind the names."""
+    return [part.partition("=")[2] for part in text.split(",")]
+
+
 def _numbers(book: NamedBook, amounts: Dict[int, Amount], option: str, otherwise: float = 0.0) -> Fractions:
     """One for each solvent of the book, in its order."""
     read = {place: units.number(given.value, f"{option}: {given.name}") for place, given in amounts.items()}
@@ -137,7 +144,10 @@ def fractions_of(book: NamedBook, drum: str) -> Tuple[float, ...]:
 
 
 def feed_of(book: NamedBook, drum: Optional[List[str]], mass: Optional[List[str]], normalize: bool = False) -> Feed:
-    """From --drum, mole fractions or weights, or from --mass, mass fractions."""
+    """From --drum, mole fractions, weights or drums to pool, or from --mass, mass fractions."""
+    if drum is not None and (len(drum) > 1 or any(map(units.in_moles, _values(drum[0])))):
+        parts = enumerate(drum)
+        return charged(book, [_amounts(book, words, option_of(place, len(drum))) for place, words in parts])
     option, words = ("--drum", drum) if drum is not None else ("--mass", mass or [])
     amounts = _amounts(book, ",".join(words), option)
     with_unit = [given for given in amounts.values() if units.has_unit(given.value)]
@@ -146,7 +156,7 @@ def feed_of(book: NamedBook, drum: Optional[List[str]], mass: Optional[List[str]
         raise DeskError(f"--mass: {name} {value}: mass fractions have no unit; weights go to --drum {name}={value}")
     weighed = _weighed(book, amounts) if with_unit else None
     if weighed or option == "--mass":
-        _expect_masses(book)
+        book.expect_masses()
     if weighed:
         return weighed
     numbers = _numbers(book, amounts, option)
@@ -171,20 +181,6 @@ def _weighed(book: NamedBook, amounts: Dict[int, Amount]) -> Feed:
             raise DeskError(f"--drum: {amounts[place].name} {amounts[place].value} is too little beside the others")
     everything = [weights.get(place, 0) for place in range(len(book.names))]
     return Feed(tuple(float(w / total) for w in everything), True, None, tuple(map(float, everything)))
-
-
-def _expect_masses(book: NamedBook) -> None:
-    """The core takes a feed by mass where every solvent of the book has a molar mass, absent ones too."""
-    if book.lacking:
-        raise DeskError(
-            f"a drum by mass needs the molar mass of every solvent of {book.file}, which lacks that of "
-            f"{', '.join(book.lacking)}: add 'molar mass = ... g/mol' there, or give mole fractions"
-        )
-    if book.molar_masses is None:
-        raise DeskError(
-            f"a drum by mass needs molar masses, and {book.file} is a book of version 1, which has none: make it again "
-            "with ./sheet book from a text that has them, or give mole fractions"
-        )
 
 
 def k_values_of(book: NamedBook, text: str, fractions: Tuple[float, ...]) -> Tuple[float, ...]:

@@ -97,6 +97,14 @@ REFUSALS: Dict[int, Refusal] = {
     30: Refusal(
         "the split's vapor fraction lies outside (0, 1)", "the drum is at its bubble or dew point; move T or p a little"
     ),
+    31: Refusal(
+        "there are not 1 to 64 whole drums to pool",
+        "give two drums of one kind as one, with the sum of their amounts, until 64 are left",
+    ),
+    32: Refusal(
+        "the drums hold nothing at all, or more than 2^53 micromoles",
+        "look at the amounts and units of each --drum; 2^53 micromoles are about 9,007,199,255 mol",
+    ),
     34: Refusal(
         "a composition inside the calculation, or a drum by mass, can't be brought to fractions that sum to 1",
         "the drum is not to blame: vapor pressures or activity coefficients are so extreme that all parts vanish or "
@@ -106,7 +114,8 @@ REFUSALS: Dict[int, Refusal] = {
         "a solvent's molar mass is not finite and positive", "correct it in the yard text, and make the book again"
     ),
     36: Refusal(
-        "the fractions are neither of moles nor of mass, or they are of mass and the book has no molar masses",
+        "the fractions are neither of moles nor of mass, or they are of mass and the book has no molar masses or drums "
+        "are pooled",
         "add 'molar mass = ... g/mol' to every solvent of the yard text and make the book again, or ask by moles",
     ),
     37: Refusal(

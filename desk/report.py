@@ -3,9 +3,9 @@
 import math
 from typing import Callable, Dict, List, Optional, Sequence, Tuple
 
-from . import answer, explain, ranges, refusals, text
+from . import answer, charge, explain, ranges, refusals, text
 from .blocks import float_of, floats_at
-from .feed import RECKONED, ByMass, Feed, Fractions
+from .feed import ByMass, Feed, Fractions
 from .sheet import Sheet, book_words
 from .tasks import BUBBLE_PRESSURE, BUBBLE_TEMPERATURE, DEW_PRESSURE, DEW_TEMPERATURE, FLASH, NEGATIVE_SPLIT, SPLIT
 
@@ -67,7 +67,8 @@ class Report:
         if question.k_values is not None:
             rows.append(("K", self._listed(question.k_values)))
         rows += [("Task", f"{task.number}, {task.function}")] if self.details else []
-        return [f"{task.title.upper()}: {task.about}"] + text.fields(rows)
+        lines = [f"{task.title.upper()}: {task.about}"] + text.fields(rows)
+        return lines + (charge.table(sheet.feed, sheet.book.names, self.details) if sheet.feed.charge else [])
 
     def _listed(self, values: Sequence[float], unit: str = "") -> str:
         written = text.exact if self.details else text.plain
@@ -151,7 +152,7 @@ class Report:
         mass fractions too, and the kg of a flash's phases where the drum was weighed."""
         sheet, task = self.sheet, self.sheet.question.task
         liquid, vapor = answer.phases(task, sheet.blocks)
-        columns = [("drum", sheet.moles)]
+        columns = [(sheet.feed.called, sheet.moles)]
         if liquid and task not in BUBBLE_POINTS:
             columns.append(("first drop" if task in DEW_POINTS else "liquid", sheet.entries(answer.LIQUID)))
         if vapor and task not in DEW_POINTS:
@@ -173,7 +174,8 @@ class Report:
     def flash(self) -> Lines:
         blocks = self.sheet.blocks
         outcome = blocks.head[answer.OUTCOME]
-        fraction = self.fraction(blocks.real(answer.VAPOR_FRACTION)) + " (moles of vapor per mole of drum)"
+        fraction = self.fraction(blocks.real(answer.VAPOR_FRACTION))
+        fraction += f" (moles of vapor per mole of {self.sheet.feed.called})"
         phases = answer.OUTCOMES.get(outcome, str(outcome)) + (" (as one liquid)" if self.sheet.judgement.mark else "")
         rows = [("phases", phases), ("vapor fraction", fraction)]
         rows += [self._bound("bubble"), self._bound("dew")] + self._effort()
@@ -239,6 +241,8 @@ class Report:
 
 def drum_rows(feed: Feed, mass: Optional[ByMass], listed: Callable[..., str]) -> List[Tuple[str, str]]:
     """The drum as it was given, and what goes to the core; of a drum by mass also its mole fractions."""
+    if feed.charge:
+        return charge.rows(feed.charge)
     rows = [("Given", f"{listed(feed.given)}, which sums to {math.fsum(feed.given):.12g}")] if feed.given else []
     sent = listed(feed.fractions) + (", normalized" if feed.given else "") + f" ({feed.kind})"
     if feed.kilograms:
@@ -254,7 +258,7 @@ def phase_amounts(sheet: Sheet) -> List[Tuple[str, float]]:
     fraction = sheet.blocks.real(answer.VAPOR_FRACTION)
     if sheet.question.task not in (FLASH, SPLIT, NEGATIVE_SPLIT) or not 0 <= fraction <= 1:
         return []
-    return [("drum", 1.0), ("liquid", 1 - fraction), ("vapor", fraction)]
+    return [(sheet.feed.called, 1.0), ("liquid", 1 - fraction), ("vapor", fraction)]
 
 
 def mass_tables(
@@ -269,16 +273,18 @@ def mass_tables(
     """Mass fractions of the columns' phases, and their kg where a phase's amount and the drum's weight are known."""
     if mass is None:
         return []
-    found = [(name, feed.fractions if name == "drum" else mass.fractions(moles)) for name, moles in columns]
+    sent = "drum" if feed.by_mass else None
+    found = [(name, feed.fractions if name == sent else mass.fractions(moles)) for name, moles in columns]
     rows = [[name] + [text.fraction(values[i], details) for _, values in found] for i, name in zip(places, names)]
     lines = [""] + text.table(["mass fractions"] + [name for name, _ in found], rows)
     weighed = [(name, moles) for name, moles in columns if name in amounts] if feed.kilograms else []
     if weighed:
-        kilograms = [feed.kilograms if name == "drum" else mass.kilograms(x, amounts[name]) for name, x in weighed]
+        whole = feed.called
+        kilograms = [feed.kilograms if name == whole else mass.kilograms(x, amounts[name]) for name, x in weighed]
         rows = [["all"] + [text.plain(math.fsum(values), details) for values in kilograms]]
         rows += [[name] + [text.plain(values[i], details) for values in kilograms] for i, name in zip(places, names)]
         lines += [""] + text.table(["kg"] + [name for name, _ in weighed], rows)
-    return lines + text.wrapped(f"Reckoned by {RECKONED}.")
+    return lines + text.wrapped(f"Reckoned by {feed.reckoned}.")
 
 
 def marked(line: str) -> Lines:

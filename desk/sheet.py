@@ -9,6 +9,7 @@ from typing import TYPE_CHECKING, List, Optional, Sequence, Tuple
 from .answer import Blocks
 from .blocks import floats_at
 from .book import Model, model_of, model_word, molar_masses
+from .errors import DeskError
 from .feed import ByMass, Feed, Fractions, by_mass
 from .question import Question
 from .text import counted
@@ -38,6 +39,19 @@ class NamedBook:
     def molar_masses(self) -> Optional[Fractions]:
         """In kg/mol; None of a book that has none."""
         return molar_masses(self.content)
+
+    def expect_masses(self, otherwise: str = "mole fractions") -> None:
+        """A drum by mass needs the molar mass of every solvent of the book, absent ones too."""
+        if self.lacking:
+            raise DeskError(
+                f"a drum by mass needs the molar mass of every solvent of {self.file}, which lacks that of "
+                f"{', '.join(self.lacking)}: add 'molar mass = ... g/mol' there, or give {otherwise}"
+            )
+        if self.molar_masses is None:
+            raise DeskError(
+                f"a drum by mass needs molar masses, and {self.file} is a book of version 1, which has none: make it "
+                f"again with ./sheet book from a text that has them, or give {otherwise}"
+            )
 
     @property
     def model(self) -> Optional[Model]:
@@ -120,6 +134,8 @@ class Sheet:
 
 def feed_words(book: NamedBook, feed: Feed) -> str:
     """The option that gives a drum again."""
+    if feed.charge:
+        return " ".join(drum.option for drum in feed.charge.drums)
     if feed.kilograms:
         return f"--drum {drum_words(book, feed.kilograms, unit='kg')}"
     return f"{'--mass' if feed.by_mass else '--drum'} {drum_words(book, feed.fractions)}"

@@ -1,11 +1,11 @@
-"""Temperatures, pressures, weights, molar masses and molar volumes with their units, read as decimals and rounded once
-to a float; CAS numbers."""
+"""Temperatures, pressures, weights, amounts, molar masses and molar volumes with their units, read as decimals and
+rounded once to a float; CAS numbers."""
 
 import math
 import re
 from decimal import Decimal
 from fractions import Fraction
-from typing import Dict
+from typing import Dict, Optional
 
 from .errors import DeskError, quoted, suggestion
 
@@ -32,12 +32,15 @@ MOLAR_VOLUME_UNITS: Dict[str, Fraction] = {
     "mL/mol": Fraction(1, 10**6),
 }  # m3/mol
 WEIGHT_UNITS: Dict[str, Fraction] = {"kg": Fraction(1), "g": Fraction(1, 1000), "t": Fraction(1000)}  # kg
+MOLE_UNITS: Dict[str, Fraction] = {
+    "mol": Fraction(1), "kmol": Fraction(1000), "mmol": Fraction(1, 1000), "umol": Fraction(1, 10**6)
+}  # mol
 KELVIN_UNITS = ("K",)
 CELSIUS_UNITS = ("C", "°C", "degC")
 TEMPERATURES = "K, C or °C"
-PRESSURES, MOLAR_MASSES, MOLAR_VOLUMES, WEIGHTS = (
+PRESSURES, MOLAR_MASSES, MOLAR_VOLUMES, WEIGHTS, AMOUNTS = (
     ", ".join(list(units)[:-1]) + f" or {list(units)[-1]}"
-    for units in (PRESSURE_UNITS, MOLAR_MASS_UNITS, MOLAR_VOLUME_UNITS, WEIGHT_UNITS)
+    for units in (PRESSURE_UNITS, MOLAR_MASS_UNITS, MOLAR_VOLUME_UNITS, WEIGHT_UNITS, {**MOLE_UNITS, **WEIGHT_UNITS})
 )
 
 _NUMBER = r"[+-]?(?:\d+(?:\.\d*)?|\.\d+)(?:[eE][+-]?\d{1,4})?"
@@ -113,8 +116,6 @@ def molar_volume(text: str, what: str = "molar volume") -> Fraction:
 def weight(text: str, what: str = "weight") -> Fraction:
     """In kg, exactly, from a number with one of WEIGHT_UNITS."""
     value, unit = _quantity(text, what, f"{WEIGHTS}, as in 40kg")
-    if unit in ("mol", "kmol"):
-        raise DeskError(f"{what}: {quoted(text)}: moles go in as fractions, without a unit; weights in {WEIGHTS}")
     if unit not in WEIGHT_UNITS:
         raise DeskError(
             f"{what}: unit {quoted(unit)} in {quoted(text)} is not {WEIGHTS}{suggestion(unit, WEIGHT_UNITS)}"
@@ -122,6 +123,37 @@ def weight(text: str, what: str = "weight") -> Fraction:
     found = Fraction(value) * WEIGHT_UNITS[unit]
     _rounded(found, text, what)
     return found
+
+
+def moles(text: str, what: str, molar_mass: Optional[float]) -> Fraction:
+    """Exactly, from a number with one of MOLE_UNITS, or from a weight by the molar mass (kg/mol)."""
+    value, unit = _quantity(text, what, f"{AMOUNTS}, as in 300mol")
+    if unit in MOLE_UNITS:
+        found = Fraction(value) * MOLE_UNITS[unit]
+    elif unit in WEIGHT_UNITS:
+        found = weight(text, what) / Fraction(molar_mass)
+    else:
+        known = suggestion(unit, (*MOLE_UNITS, *WEIGHT_UNITS))
+        raise DeskError(f"{what}: unit {quoted(unit)} in {quoted(text)} is not {AMOUNTS}{known}")
+    _rounded(found, text, what)
+    return found
+
+
+def in_moles(text: str) -> bool:
+    """Whether a number has one of MOLE_UNITS."""
+    match = _QUANTITY.fullmatch(text)
+    return bool(match and match.group(2) in MOLE_UNITS)
+
+
+def spaced(text: str) -> str:
+    """A number and its unit with one blank between them."""
+    return " ".join(_QUANTITY.fullmatch(text).groups())
+
+
+def is_bare(text: str) -> bool:
+    """Whether a number has no unit."""
+    match = _QUANTITY.fullmatch(text)
+    return bool(match and not match.group(2))
 
 
 def has_unit(text: str) -> bool:

@@ -1,7 +1,8 @@
 /*
  * SPDX-License-Identifier: MIT
  *
- * The core as a C program calls it: a book, a question and room for an answer in, the answer's blocks or a number out.
+ * The core as a C program calls it: a book, a question and room for an answer in, the answer's blocks or a number out;
+ * by a second call with drums besides, whose pool is the feed.
  * docs/FORMAT.md says what each word holds, docs/LINKING.md has the commands. Link with libzektonk.a, for x86-64 Linux.
  *
  * A block is 512 bytes: 64 little-endian words of 64 bits, a float as its bits. Word 63 is the check of words 0 to 62,
@@ -32,14 +33,19 @@ extern "C" {
 #define ZEKTONK_ANSWER_ROOM 4608   /* an answer slice has these or more: the answer block and eight trials */
 #define ZEKTONK_BOOK_LARGEST 18944 /* a book of eight solvents and their 28 pairs */
 #define ZEKTONK_BOOK_MOST 19456    /* one block more than any book has: reading up to here shows one that is too long */
+#define ZEKTONK_DRUM_BYTES 64      /* a drum: eight words, each a count of micromoles */
 
 /* Counts. */
 #define ZEKTONK_WORDS 64         /* of a block */
 #define ZEKTONK_SOLVENTS_MOST 8  /* of a book, and so entries of a row: fractions, K, liquid, vapor */
 #define ZEKTONK_TERMS_MOST 8     /* of a correlation */
+#define ZEKTONK_DRUMS_MOST 64    /* that pool into one charge */
 #define ZEKTONK_FORMAT_VERSION 1 /* word 1 of block 0 of a book without molar masses, */
 #define ZEKTONK_FORMAT_VERSION_MASS 2 /* of a book with them, which takes feeds by mass too, */
 #define ZEKTONK_FORMAT_VERSION_RUNNING 3 /* and of one whose checks are running sums besides */
+
+/* Micromoles that a pool may hold, 2^53: up to here every count is a float. */
+#define ZEKTONK_POOL_MOST 9007199254740992
 
 /* Options that suit most questions. */
 #define ZEKTONK_DEFAULT_MAX_ITERATIONS 500
@@ -204,7 +210,7 @@ enum zektonk_validity { ZEKTONK_UNASSESSED = 0, ZEKTONK_WITHIN = 1, ZEKTONK_EXTR
 /*
  * The first question that was answered no: 1 to 21 in this order, with 38 between 1 and 2, 37 after 3, 35 after 5, 36
  * after 12 and, of a feed by mass, 34 after 18; the others, and 15 to 18 and 34 once more, where the calculation puts
- * them.
+ * them. 31 and 32 are zektonk_pooled's alone, after 12 and ahead of 36.
  */
 enum zektonk_refusal {
     ZEKTONK_ANSWERED = 0,
@@ -238,10 +244,12 @@ enum zektonk_refusal {
     ZEKTONK_K_ONE_SIDED = 28,             /* K values are not on both sides of 1 */
     ZEKTONK_LIQUID_UNSTABLE = 29,         /* a trial of the flash's liquid found a lower tangent plane */
     ZEKTONK_VAPOR_FRACTION_OUTSIDE = 30,  /* of (0,1) */
+    ZEKTONK_DRUMS_LENGTH = 31,            /* not 1 to 64 drums of 64 bytes */
+    ZEKTONK_DRUMS_TOTAL = 32,             /* the counts read sum to 0, or to more than 2^53 */
     ZEKTONK_NOT_NORMALIZABLE = 34,        /* the sum of a composition's parts is not finite and positive; of a feed by
                                              mass too */
     ZEKTONK_MOLAR_MASS = 35,              /* not finite and positive, in a book of version 2 or 3 */
-    ZEKTONK_FEED_KIND = 36,               /* neither moles nor mass, or mass with a book of version 1 */
+    ZEKTONK_FEED_KIND = 36,               /* neither moles nor mass, or mass with a book of version 1 or with drums */
     ZEKTONK_BOOK_MODEL = 37,              /* neither NRTL nor, from version 2 on, Wilson */
     ZEKTONK_BOOK_VERSION = 38             /* block 0 has kind 1 and a version other than 1 to 3 */
 };
@@ -268,6 +276,22 @@ enum zektonk_refusal {
  */
 uint64_t zektonk_answer(const uint8_t *book, size_t book_len, const uint8_t *question, size_t question_len,
                         uint8_t *answer, size_t answer_len);
+
+/*
+ * The same with the pool of 1 to 64 drums as the feed, for every task. A drum is ZEKTONK_DRUM_BYTES bytes: the counts
+ * of micromoles of eight solvents (zektonk_put_word writes one), of which as many are read as the book has solvents.
+ * The pool's count of a solvent is the sum over the drums, and its fraction that count over the total, rounded once.
+ * Words 4 to 11 of the question are not read, but are under its check, and its word 27 says moles.
+ *
+ * - All that holds of zektonk_answer holds of this call, of `drums` what holds of `book` and `question`: it is only
+ *   read, any alignment and length will do, and `answer` doesn't overlap it. Not 1 to 64 whole drums is number 31.
+ * - No sum of counts wraps: a total past 2^53 is 32, whatever the counts. Up to there all sums are exact, so that the
+ *   order of the drums doesn't matter, and a solvent is absent just where every drum has 0 of it.
+ * - Where 11, 12, 31, 32 and 36 pass, the call answers, byte for byte, as zektonk_answer does on the question with the
+ *   pool's fractions in words 4 to 11.
+ */
+uint64_t zektonk_pooled(const uint8_t *book, size_t book_len, const uint8_t *question, size_t question_len,
+                        const uint8_t *drums, size_t drums_len, uint8_t *answer, size_t answer_len);
 
 /* Word `at` of a block, 0 to 63, copied: x86-64 has the lowest byte first, as blocks have. */
 static inline uint64_t zektonk_get_word(const uint8_t *block, size_t at)

@@ -52,6 +52,16 @@ class Examples(InFolder):
         self.assert_stored("ask.txt", self.run_in_folder(program, "answer").stdout.decode("ascii"))
         self.assertEqual((self.folder / "answer").read_bytes(), (STILL / "stdout").read_bytes())
 
+    def test_pool_tips_two_drums_together(self):
+        """As much of both, as the stored question has it."""
+        program = self.compiled(C / "pool.c")
+        self.assert_stored("pool.txt", self.run_in_folder(program, BOOK, QUESTION).stdout.decode("ascii"))
+        with desk.Core(BOOK.read_bytes()) as core:
+            due = core.ask_block(QUESTION.read_bytes()).real(desk.answer.VAPOR_FRACTION)
+        self.assertIn(f"vapor fraction {due:.17g}\n", (C / "pool.txt").read_text(encoding="ascii"))
+        run = self.run_in_folder("sh", "-c", f'"{program}" nowhere "{QUESTION}"; echo "status $?"')
+        self.assertTrue(run.stdout.endswith(b"refused: 1\nstatus 1\n"))
+
     def test_header_alone(self):
         self.compiled(C / "ask.c")
         strict = ("-fsyntax-only", "-Wsign-conversion", *WARNINGS)

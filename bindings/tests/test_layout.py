@@ -8,6 +8,7 @@ from typing import Dict
 import desk.answer
 import desk.blocks
 import desk.book
+import desk.pool
 import desk.question
 import desk.refusals
 import desk.tasks
@@ -199,8 +200,23 @@ class Definitions(unittest.TestCase):
             self.assertEqual(numbers_of(question), {REFUSAL[name]}, name)
         self.assertEqual({number for _, number in spent()}, {REFUSAL["NOT_CONVERGED"]})
         self.assertEqual(set(REFUSAL) - set(QUESTIONS), {"ANSWERED", "NOT_CONVERGED"})
-        self.assertEqual(sorted(REFUSAL.values()), [*range(31), *range(34, 39)])
+        self.assertEqual(sorted(REFUSAL.values()), [*range(33), *range(34, 39)])
         self.assertIn(f"numberOf (ok bs) = {REFUSAL['ANSWERED']}", stated("sheet::numberOf"))
+
+
+    def test_drums(self):
+        """64 bytes of eight counts; 31, 32 and 36 in this order, ahead of what the feed is asked."""
+        size, most, total = (macros()[f"ZEKTONK_{name}"] for name in ("DRUM_BYTES", "DRUMS_MOST", "POOL_MOST"))
+        self.assertEqual((int(size), int(total)), (8 * MOST, 2**53))
+        self.assertEqual(body("drumCount"), f"length drums / {size}")
+        self.assertEqual(body("countIn"), f"word drums ({MOST} * d + i)")
+        self.assertEqual(body("drumsRight"), f"eqb (length drums % {size}) 0 && within 1 {most} (drumCount drums)")
+        self.assertEqual(body("totalRight"), "within 1 (2 ^ 53) (poolTotal drums n)")
+        moles = f"eqb (word question {QUESTION['FEED']}) {FEED['MOLES']}"
+        tests = {"DRUMS_LENGTH": "drumsRight drums", "DRUMS_TOTAL": "totalRight drums n", "FEED_KIND": moles}
+        asked = " (".join(f"need ({test}) {REFUSAL[name]}" for name, test in tests.items())
+        self.assertTrue(body("drumsTo").startswith(f"{asked} (bind (poolFeed drums n)"), body("drumsTo"))
+        self.assertRegex(body("pooledFrom"), r"^roomy room \(bind \(taskIn .*\) \(λ task\. drumsTo ")
 
 
 def summed(name: str) -> int:
@@ -251,6 +267,8 @@ QUESTIONS = {
     "K_ONE_SIDED": r"le kMax 1f",
     "LIQUID_UNSTABLE": r"s \.stable",
     "VAPOR_FRACTION_OUTSIDE": r"inside \(s \.vaporFraction\)",
+    "DRUMS_LENGTH": r"drumsRight",
+    "DRUMS_TOTAL": r"totalRight",
     "NOT_NORMALIZABLE": r"(?:lt 0f|positive) \(sumTo x n\)",
     "MOLAR_MASS": r"massesRight",
     "FEED_KIND": r"kindRight",
@@ -341,6 +359,12 @@ class Desk(unittest.TestCase):
         for bit, (name, _) in enumerate(there.NOTE_WORDS):
             notes = short("zektonk_note", "ZEKTONK_NOTE_")
             self.assertEqual(notes[name[len("A7-") :].replace("-", "_")], 1 << bit)
+
+    def test_drums(self):
+        found = (desk.pool.DRUM_BYTES, desk.pool.MOST_DRUMS, desk.pool.MOST_TOTAL)
+        self.assertEqual(found, tuple(int(macros()[f"ZEKTONK_{n}"]) for n in ("DRUM_BYTES", "DRUMS_MOST", "POOL_MOST")))
+        numbers = (desk.pool.DRUMS, desk.pool.TOTAL, desk.pool.NOT_MOLES)
+        self.assertEqual(numbers, tuple(REFUSAL[name] for name in ("DRUMS_LENGTH", "DRUMS_TOTAL", "FEED_KIND")))
 
     def test_tasks_and_refusals(self):
         functions = {task.function.replace("activity_", "").upper(): task.number for task in desk.tasks.TASKS}

@@ -1,11 +1,14 @@
 //! How often the generator's sheets are accepted, and refused by each number.
 
+pub mod drums;
+
 use std::collections::BTreeMap;
 
 use crate::generate::cases::{Cases, Kind};
 use crate::generate::exchanged::{Exchange, PLACES};
 use crate::sheet::blocks::{rule_of, words_of, Rule, BLOCK};
 use crate::sheet::book::WILSON;
+use crate::sheet::pool::pool;
 use crate::sheet::question::{BASIS, BY_MASS, FRACTIONS, TASK};
 use crate::stage::{Case, Stage};
 
@@ -67,10 +70,10 @@ pub struct SheetCounts {
 
 impl SheetCounts {
     pub fn add(&mut self, kind: Kind, case: &Case, refusal: u32) {
-        let Case::Sheet { book, question, .. } = case else { return };
+        let Some((book, question)) = case.sheet() else { return };
         let words = if question.len() == BLOCK { words_of(question) } else { [0; 64] };
         let task = task_of(question);
-        let absent = refusal == 0 && has_absent(&words, words_of(&book[..BLOCK])[2] as usize);
+        let absent = refusal == 0 && has_absent(case, &words, words_of(&book[..BLOCK])[2] as usize);
         let mut tallies = vec![self.all.entry(task).or_default()];
         *self.ordinary.entry(task).or_default() += usize::from(kind.is_ordinary());
         if kind == Kind::Realistic {
@@ -221,7 +224,10 @@ fn is_wilson(book: &[u8]) -> bool {
     book.get(..BLOCK).is_some_and(|head| matches!(words_of(head)[1..4], [2 | 3, _, WILSON]))
 }
 
-fn has_absent(question: &[u64; 64], n: usize) -> bool {
+fn has_absent(case: &Case, question: &[u64; 64], n: usize) -> bool {
+    if let Case::Pooled { drums, .. } = case {
+        return pool(drums, n).is_ok_and(|counts| counts.contains(&0));
+    }
     question[FRACTIONS..FRACTIONS + n].iter().any(|word| f64::from_bits(*word) == 0.0)
 }
 

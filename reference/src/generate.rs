@@ -8,6 +8,7 @@ pub mod exchanged;
 pub mod feeds;
 pub mod mass;
 pub mod numbers;
+pub mod pooled;
 pub mod questions;
 pub mod rice;
 pub mod small;

@@ -65,6 +65,17 @@ extern "C" {
         answer: *mut u8,
         answer_len: usize,
     ) -> u64;
+    /// The same with drums.
+    pub fn zektonk_pooled(
+        book: *const u8,
+        book_len: usize,
+        question: *const u8,
+        question_len: usize,
+        drums: *const u8,
+        drums_len: usize,
+        answer: *mut u8,
+        answer_len: usize,
+    ) -> u64;
 }
 
 /// `Some` of the call where its stage is built in.
@@ -164,5 +175,21 @@ pub fn answer(book: &[u8], question: &[u8], answer: &mut [u8]) -> Option<u64> {
     offered!(
         "sheet",
         zektonk_answer(book.as_ptr(), book.len(), question.as_ptr(), question.len(), answer.as_mut_ptr(), answer.len())
+    )
+}
+
+pub fn pooled(book: &[u8], question: &[u8], drums: &[u8], answer: &mut [u8]) -> Option<u64> {
+    offered!(
+        "pooled",
+        zektonk_pooled(
+            book.as_ptr(),
+            book.len(),
+            question.as_ptr(),
+            question.len(),
+            drums.as_ptr(),
+            drums.len(),
+            answer.as_mut_ptr(),
+            answer.len()
+        )
     )
 }

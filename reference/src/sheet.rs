@@ -2,6 +2,7 @@
 
 pub mod blocks;
 pub mod book;
+pub mod pool;
 pub mod question;
 pub mod reply;
 
@@ -15,7 +16,12 @@ pub const ANSWER_BYTES: usize = 9 * BLOCK;
 
 /// 0 and the blocks written to the front of `answer`, or the refusal number and `answer` untouched.
 pub fn answer(book: &[u8], question: &[u8], answer: &mut [u8]) -> u32 {
-    match blocks_of(book, question, answer.len()) {
+    let found = blocks_of(book, question, answer.len());
+    written(answer, found)
+}
+
+fn written(answer: &mut [u8], found: Result<Vec<Words>, u32>) -> u32 {
+    match found {
         Ok(blocks) => {
             for (place, block) in answer.chunks_exact_mut(BLOCK).zip(&blocks) {
                 place.copy_from_slice(&bytes_of(block));
@@ -27,17 +33,26 @@ pub fn answer(book: &[u8], question: &[u8], answer: &mut [u8]) -> u32 {
 }
 
 fn blocks_of(book: &[u8], question: &[u8], room: usize) -> Result<Vec<Words>, u32> {
+    let (book, question) = opened(book, question, room)?;
+    let feed = question.ask(&book)?;
+    replied(&book, &question, &feed)
+}
+
+/// Questions 1 to 12 and those put among them.
+fn opened(book: &[u8], question: &[u8], room: usize) -> Result<(Book, Question), u32> {
     let book = open_book(book)?;
     if room < ANSWER_BYTES {
         return Err(10);
     }
     let question = Question::read(question, book.rule)?;
-    let task = question.task();
-    if !(1..=9).contains(&task) {
+    if !(1..=9).contains(&question.task()) {
         return Err(12);
     }
-    let feed = question.ask(&book)?;
-    let mut blocks = reply::reply(&book, &question, &feed).map_err(|error| error.number())?;
+    Ok((book, question))
+}
+
+fn replied(book: &Book, question: &Question, feed: &[f64]) -> Result<Vec<Words>, u32> {
+    let mut blocks = reply::reply(book, question, feed).map_err(|error| error.number())?;
     blocks.iter_mut().for_each(|block| seal(block, book.rule));
     Ok(blocks)
 }

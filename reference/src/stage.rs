@@ -8,7 +8,7 @@ use crate::named::rachford_rice::{rachford_rice, rachford_rice_negative, Rachfor
 use crate::rattle;
 use crate::sheet::blocks::Rule;
 use crate::sheet::book::{Pairs, Solvent};
-use crate::sheet::{self, open_book, Book};
+use crate::sheet::{self, open_book, pool, Book};
 use crate::types::Temperature;
 
 #[derive(Debug, Clone, Copy, PartialEq, Eq)]
@@ -26,9 +26,11 @@ pub enum Stage {
     Exchanged,
     /// Sheets of Wilson books.
     Wilson,
+    /// Sheets with drums.
+    Pooled,
 }
 
-pub const STAGES: [Stage; 10] = [
+pub const STAGES: [Stage; 11] = [
     Stage::Numbers,
     Stage::Fractions,
     Stage::Book,
@@ -39,6 +41,7 @@ pub const STAGES: [Stage; 10] = [
     Stage::Mass,
     Stage::Exchanged,
     Stage::Wilson,
+    Stage::Pooled,
 ];
 
 impl Stage {
@@ -54,6 +57,7 @@ impl Stage {
             Stage::Mass => "mass",
             Stage::Exchanged => "exchanged",
             Stage::Wilson => "wilson",
+            Stage::Pooled => "pooled",
         }
     }
 
@@ -77,11 +81,12 @@ impl Stage {
             Stage::Mass => cfg!(feature = "mass"),
             Stage::Exchanged => cfg!(feature = "exchanged"),
             Stage::Wilson => cfg!(feature = "wilson"),
+            Stage::Pooled => cfg!(feature = "pooled"),
         }
     }
 
     pub fn has_sheets(self) -> bool {
-        matches!(self, Stage::Sheet | Stage::Mass | Stage::Exchanged | Stage::Wilson)
+        matches!(self, Stage::Sheet | Stage::Mass | Stage::Exchanged | Stage::Wilson | Stage::Pooled)
     }
 }
 
@@ -140,6 +145,13 @@ pub enum Case {
         question: Vec<u8>,
         room: usize,
     },
+    /// A sheet whose feed is the pool of the drums.
+    Pooled {
+        book: Vec<u8>,
+        question: Vec<u8>,
+        drums: Vec<u8>,
+        room: usize,
+    },
 }
 
 /// One side's result: the refusal number (0 for an answer) and all words that were returned or written.
@@ -171,6 +183,19 @@ impl Case {
                 let number = sheet::answer(book, question, &mut answer);
                 refused_or(number, bytes_as_words(&answer))
             }
+            Case::Pooled { book, question, drums, room } => {
+                let mut answer = unwritten(*room);
+                let number = pool::answer(book, question, drums, &mut answer);
+                refused_or(number, bytes_as_words(&answer))
+            }
+        }
+    }
+
+    /// Book and question, where the case is a sheet.
+    pub fn sheet(&self) -> Option<(&[u8], &[u8])> {
+        match self {
+            Case::Sheet { book, question, .. } | Case::Pooled { book, question, .. } => Some((book, question)),
+            _ => None,
         }
     }
 
@@ -206,6 +231,11 @@ impl Case {
                 let number = rattle::answer(book, question, &mut answer)?;
                 Some(with_number(number, bytes_as_words(&answer)))
             }
+            Case::Pooled { book, question, drums, room } => {
+                let mut answer = unwritten(*room);
+                let number = rattle::pooled(book, question, drums, &mut answer)?;
+                Some(with_number(number, bytes_as_words(&answer)))
+            }
         }
     }
 
@@ -238,6 +268,12 @@ impl Case {
                 hex_bytes(&mut line, question);
                 hex(&mut line, &[*room as u64]);
             }
+            Case::Pooled { book, question, drums, room } => {
+                for bytes in [book, question, drums] {
+                    hex_bytes(&mut line, bytes);
+                }
+                hex(&mut line, &[*room as u64]);
+            }
         }
         line
     }
@@ -247,7 +283,7 @@ impl Case {
         let mut words = self.expected().words;
         let kept = match self {
             // Word 12 of the answer block is the number of trials.
-            Case::Sheet { .. } if words[0] == 0 => 1 + 64 * (1 + words[1 + 12] as usize),
+            Case::Sheet { .. } | Case::Pooled { .. } if words[0] == 0 => 1 + 64 * (1 + words[1 + 12] as usize),
             Case::Normalize { .. } | Case::Pressure { .. } | Case::Excess { .. } if words[0] == 0 => words.len(),
             Case::Rice { .. } if words[0] == 3 => words.len(),
             Case::Number { .. } | Case::Fractions { .. } | Case::Book { .. } => words.len(),
@@ -278,6 +314,7 @@ impl Case {
             Case::Rice { negative: false, .. } => "rachford_rice",
             Case::Rice { negative: true, .. } => "rachford_rice_negative",
             Case::Sheet { .. } => "answer",
+            Case::Pooled { .. } => "pooled",
         }
     }
 }

@@ -1,4 +1,4 @@
-//! The one call of the core.
+//! The two calls of the core.
 
 use crate::Refusal;
 
@@ -8,6 +8,17 @@ extern "C" {
         book_len: usize,
         question: *const u8,
         question_len: usize,
+        answer: *mut u8,
+        answer_len: usize,
+    ) -> u64;
+
+    fn zektonk_pooled(
+        book: *const u8,
+        book_len: usize,
+        question: *const u8,
+        question_len: usize,
+        drums: *const u8,
+        drums_len: usize,
         answer: *mut u8,
         answer_len: usize,
     ) -> u64;
@@ -55,8 +66,63 @@ pub fn answer_bytes(book: &[u8], question: &[u8], answer: &mut [u8]) -> Result<(
     let number = unsafe {
         zektonk_answer(book.as_ptr(), book.len(), question.as_ptr(), question.len(), answer.as_mut_ptr(), answer.len())
     };
+    ended(number)
+}
+
+/// The same with the pool of drums as the feed. Each is 64 bytes, eight little-endian counts of micromoles, of which as
+/// many are read as the book has solvents; words 4 to 11 of the question are not read, and its word 27 says moles. What
+/// is said of [`answer_bytes`] holds of this call too.
+///
+/// Where 11, 12, 31, 32 and 36 pass, it answers, byte for byte, as [`answer_bytes`] does on the question with the pool's
+/// mole fractions in words 4 to 11.
+///
+/// # Errors
+///
+/// The core's number, as a [`Refusal`]; 31 where there are not 1 to 64 whole drums, 32 where the total of the counts
+/// read is 0 or above 2^53.
+///
+/// # Panics
+///
+/// Where the core gives a number that is no refusal, which it is proved not to.
+///
+/// ```
+/// use zektonk::{pooled_bytes, Refusal, ANSWER_ROOM};
+///
+/// let book = include_bytes!("../../../crates/still/data/book.bin");
+/// let question = include_bytes!("../../../crates/still/stdin");
+/// let expected = include_bytes!("../../../crates/still/stdout");
+/// // 3 and 1, then 1 and 3: as much of both, as the question itself has it.
+/// let mut drums = [0; 128];
+/// for (at, count) in [(0, 3), (8, 1), (64, 1), (72, 3)] {
+///     drums[at] = count;
+/// }
+/// let mut room = [0; ANSWER_ROOM];
+/// pooled_bytes(book, question, &drums, &mut room)?;
+/// assert_eq!(&room[..expected.len()], expected);
+/// assert_eq!(pooled_bytes(book, question, &drums[1..], &mut room), Err(Refusal::DrumsLength));
+/// # Ok::<(), Refusal>(())
+/// ```
+pub fn pooled_bytes(book: &[u8], question: &[u8], drums: &[u8], answer: &mut [u8]) -> Result<(), Refusal> {
+    // SAFETY: as above.
+    #[allow(unsafe_code)]
+    let number = unsafe {
+        zektonk_pooled(
+            book.as_ptr(),
+            book.len(),
+            question.as_ptr(),
+            question.len(),
+            drums.as_ptr(),
+            drums.len(),
+            answer.as_mut_ptr(),
+            answer.len(),
+        )
+    };
+    ended(number)
+}
+
+fn ended(number: u64) -> Result<(), Refusal> {
     match number {
         0 => Ok(()),
-        _ => Err(Refusal::from_number(number).expect("the core refuses with 1 to 30 or 34 to 38")),
+        _ => Err(Refusal::from_number(number).expect("the core refuses with 1 to 32 or 34 to 38")),
     }
 }

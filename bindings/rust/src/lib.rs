@@ -21,6 +21,8 @@
 //! Who learns the task at run time asks a [`Question`], a [`Task`] put to a feed, by [`answer`], and gets an
 //! [`Answer`]. Who holds bytes already calls [`answer_bytes`], which copies nothing.
 //!
+//! Drums that are tipped into one charge are [`Drum`]s, counts of micromoles: [`pooled`] puts a task to their pool.
+//!
 //! This side tests that feed and K values have an entry for each solvent of the book, and nothing else: what a question
 //! says goes to the core as it is, and the core answers it or refuses with one of its numbers. What a changed rounding
 //! mode does is said at [`answer_bytes`]. [`format`](mod@format) names the words of the blocks.
@@ -31,6 +33,7 @@ mod answer;
 mod block;
 mod book;
 mod call;
+mod drum;
 pub mod format;
 mod question;
 mod refusal;
@@ -44,7 +47,8 @@ pub use block::{Block, Rule, Words, BLOCK};
 pub use book::{
     Book, Builder, Correlation, Incomplete, Interval, Model, Pair, Solvent, Term, WilsonPair, BOOK_LARGEST, BOOK_MOST,
 };
-pub use call::answer_bytes;
+pub use call::{answer_bytes, pooled_bytes};
+pub use drum::{pooled, Drum, DRUMS_MOST, DRUM_BYTES, POOL_MOST};
 pub use question::{Feed, Kelvin, Options, Pascal, Question, Task};
 pub use refusal::Refusal;
 pub use tasks::{
@@ -90,8 +94,12 @@ pub fn answer(book: &Book<'_>, question: &Question) -> Result<Answer, Refusal> {
         question.fits(solvents)?;
     }
     let mut room = [0; ANSWER_ROOM];
-    let rule = book.rule();
-    answer_bytes(book.bytes(), &question.encode_by(rule), &mut room)?;
+    answer_bytes(book.bytes(), &question.encode_by(book.rule()), &mut room)?;
+    decoded(book, &room)
+}
+
+/// What the core wrote about an accepted book.
+fn decoded(book: &Book<'_>, room: &[u8]) -> Result<Answer, Refusal> {
     let solvents = book.solvents().expect("an accepted book counts its solvents");
-    Answer::decode_by(rule, &room, solvents).expect("the core's own blocks are right")
+    Answer::decode_by(book.rule(), room, solvents).expect("the core's own blocks are right")
 }

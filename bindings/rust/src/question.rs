@@ -130,6 +130,16 @@ impl Task {
             Self::RachfordRiceNegative { .. } => task::RACHFORD_RICE_NEGATIVE,
         }
     }
+
+    /// Whether there is a K value for each solvent of a book.
+    pub(crate) fn fits(&self, solvents: usize) -> Result<(), Refusal> {
+        match self {
+            Self::RachfordRice { k, .. } | Self::RachfordRiceNegative { k, .. } if k.len() != solvents => {
+                Err(Refusal::KLength { entries: k.len(), solvents })
+            }
+            _ => Ok(()),
+        }
+    }
 }
 
 /// Fractions of a feed, one for each solvent of the book in its order, 0 for one that is absent. A plain row is of moles.
@@ -199,12 +209,7 @@ impl Question {
         if entries != solvents {
             return Err(Refusal::FeedLength { entries, solvents });
         }
-        match &self.task {
-            Task::RachfordRice { k, .. } | Task::RachfordRiceNegative { k, .. } if k.len() != solvents => {
-                Err(Refusal::KLength { entries: k.len(), solvents })
-            }
-            _ => Ok(()),
-        }
+        self.task.fits(solvents)
     }
 
     /// The question's block to a book of version 1 or 2. Words that the task doesn't read are 0.

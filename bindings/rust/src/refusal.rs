@@ -1,4 +1,4 @@
-//! The numbers that a call is refused with, 1 to 30 and 34 to 38, and what this crate refuses before it.
+//! The numbers that a call is refused with, 1 to 32 and 34 to 38, and what this crate refuses before it.
 
 use std::fmt;
 
@@ -30,9 +30,9 @@ macro_rules! refusals {
 
         impl Refusal {
             /// The core's, in order.
-            pub const ALL: [Self; 35] = [$(Self::$name),*];
+            pub const ALL: [Self; 37] = [$(Self::$name),*];
 
-            /// The core's number, 1 to 30 or 34 to 38; none of what this crate refuses before the call.
+            /// The core's number, 1 to 32 or 34 to 38; none of what this crate refuses before the call.
             #[must_use]
             pub fn number(self) -> Option<u64> {
                 match self {
@@ -48,7 +48,7 @@ macro_rules! refusals {
             ///
             /// assert_eq!(Refusal::from_number(18), Some(Refusal::FractionSum));
             /// assert_eq!(Refusal::FractionSum.number(), Some(18));
-            /// assert_eq!((Refusal::from_number(0), Refusal::from_number(31)), (None, None));
+            /// assert_eq!((Refusal::from_number(0), Refusal::from_number(33)), (None, None));
             /// ```
             #[must_use]
             pub fn from_number(number: u64) -> Option<Self> {
@@ -106,9 +106,11 @@ refusals! {
     28 KOneSided "the K values are not on both sides of 1"
     29 LiquidUnstable "a trial of the liquid found a lower tangent plane"
     30 VaporFractionOutside "the vapor fraction is outside (0, 1)"
+    31 DrumsLength "there are not 1 to 64 whole drums"
+    32 DrumsTotal "the drums hold nothing, or more than 2^53 micromoles"
     34 NotNormalizable "a composition's parts, or the moles of a feed by mass, have a sum that is not finite and positive"
     35 MolarMass "a solvent's molar mass is not finite and positive"
-    36 FeedKind "the feed is by mass and the book has no molar masses, or by neither moles nor mass"
+    36 FeedKind "the feed is by mass and the book has no molar masses or there are drums, or by neither moles nor mass"
     37 BookModel "the book's model is neither NRTL nor, from version 2 on, Wilson"
     38 BookVersion "the book's version is none of 1 to 3"
 }
@@ -120,12 +122,12 @@ mod tests {
     use super::*;
 
     #[test]
-    fn numbers_are_1_to_30_and_34_to_38() {
-        for (number, refusal) in (1..=30).chain(34..=38).zip(Refusal::ALL) {
+    fn numbers_are_1_to_32_and_34_to_38() {
+        for (number, refusal) in (1..=32).chain(34..=38).zip(Refusal::ALL) {
             assert_eq!(refusal.number(), Some(number));
             assert_eq!(Refusal::from_number(number), Some(refusal));
         }
-        assert!([0, 31, 32, 33, 39, u64::MAX].iter().all(|number| Refusal::from_number(*number).is_none()));
+        assert!([0, 33, 39, u64::MAX].iter().all(|number| Refusal::from_number(*number).is_none()));
     }
 
     #[test]

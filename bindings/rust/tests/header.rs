@@ -2,7 +2,9 @@
 //! and size.
 
 use zektonk::format;
-use zektonk::{Options, Refusal, ANSWER_ROOM, BLOCK, BOOK_LARGEST, BOOK_MOST, VERSION};
+use zektonk::{
+    Options, Refusal, ANSWER_ROOM, BLOCK, BOOK_LARGEST, BOOK_MOST, DRUMS_MOST, DRUM_BYTES, POOL_MOST, VERSION,
+};
 
 const HEADER: &str = include_str!("../../c/zektonk.h");
 
@@ -91,9 +93,12 @@ fn sizes_and_version() {
         ("WORDS", BLOCK / 8),
         ("SOLVENTS_MOST", 8),
         ("TERMS_MOST", 8),
+        ("DRUM_BYTES", DRUM_BYTES),
+        ("DRUMS_MOST", DRUMS_MOST),
     ] {
         assert_eq!(defined(name), value.to_string(), "{name}");
     }
+    assert_eq!(defined("POOL_MOST"), POOL_MOST.to_string());
     assert_eq!(defined("FORMAT_VERSION"), format::VERSION.to_string());
     assert_eq!(defined("FORMAT_VERSION_MASS"), format::VERSION_MASS.to_string());
     assert_eq!(defined("FORMAT_VERSION_RUNNING"), format::VERSION_RUNNING.to_string());

@@ -1,4 +1,4 @@
--- Mass fractions over molar masses and their shares: f64s that pass 15, 16 and 18, and that their bits give back. Assumes nothing.
+-- The shares of numbers, as of mass fractions over molar masses: f64s that pass 15, 16 and 18, and that their bits give back. Assumes nothing.
 use Prim.Native.Nat.{ℕ, zero, suc, compare, _+_, _-_, _*_, _/_, _%_, _^_, _<_, _≤_}
 use mathlib.Core.Path.{_≡_, refl, sym, ap, _∙_}
 use mathlib.Core.Bool.{Bool, true, false, cond, not, true≢false}
@@ -6,10 +6,10 @@ use mathlib.Core.List.{List}
 use native.Mathlib.Nat.{zero-lt-suc, zero-mul, mul-pos}
 use native.Mathlib.Omega.{arith}
 use borrow.Author.Tests.{lt-ltb, le-ltb, ne-eqb}
-use lib.Dec.{ltb}
+use lib.Dec.{T, ltb}
 use lib.IntN.{ℤ, pos}
 use lib.Count.{trailingZeros}
-use lib.Ieee.{Float, nan, inf, fin, binary64, up, down, minus, add, div, lt, size, nearest, odd, units, round, ofBits}
+use lib.Ieee.{Float, nan, inf, fin, binary64, up, down, minus, add, div, lt, fits, size, nearest, odd, units, round, ofBits}
 use lib.Ieee.Fits.{up-pos, down-pos, and-l, and-r, div-fits}
 use lib.Ieee.Bits.{is-true, ofBits-toBits}
 use Rattle.floats.specs.Arithmetic.{_⊕_, _⊖_, _⊘_, 0f, 1f}
@@ -101,11 +101,8 @@ quotient-plus x (fin true b d) h p = absurd (true≢false (sym p))
 quotient-plus x (fin false zero d) h p = absurd (true≢false (sym p ∙ le-ltb (0 * down d) (0 * up d * 1) (omega arith)))
 quotient-plus x (fin false (suc b) d) h p = over x b d h
 
--- ---- z, the shares of the x i over the m i
-module _ (x m : ℕ → Float) (n : ℕ) (l : n ≤ 8) (z : List Float) (e : normalizeOf (λ i. x i ⊘ m i) n ≡ ok z) where
-  abbrev f : ℕ → Float
-  f i = x i ⊘ m i
-
+-- ---- z, the shares of the f i
+module _ (f : ℕ → Float) (n : ℕ) (l : n ≤ 8) (z : List Float) (e : normalizeOf f n ≡ ok z) where
   normal : (positive (sumTo f n) ≡ true) × (z ≡ sharesOf f n)
   unfolding normalizeOf
   normal =
@@ -113,30 +110,36 @@ module _ (x m : ℕ → Float) (n : ℕ) (l : n ≤ 8) (z : List Float) (e : nor
       let s : sharesOf f n ≡ z = cc in
       (is-true (positive (sumTo f n)) (q .0), sym s)
 
-  share-at : (i : ℕ) → i < n → at z i ≡ shareOf f n i
+  pub share-at : (i : ℕ) → i < n → at z i ≡ shareOf f n i
   unfolding sharesOf
   share-at i k = rw (normal .1) (vec-at (shareOf f n) n i l k)
 
-  pub moles-pass : noneNegative x n ≡ true → allTo (λ i. positive (m i)) n ≡ true
+  pub fractions-pass : ((i : ℕ) → T (fits binary64 (f i))) → noneNegative f n ≡ true
       → (allFinite (at z) n ≡ true) × (noneNegative (at z) n ≡ true) × (sumsToOne (at z) n ≡ true)
   unfolding positive sumsToOne
-  moles-pass h p =
+  fractions-pass h b =
       let a = normal .0 in
       let c : isFinite (sumTo f n) ≡ true = is-true _ (and-l (isFinite (sumTo f n)) (lt 0f (sumTo f n)) (rw a tt)) in
       let d : lt 0f (sumTo f n) ≡ true = is-true _ (and-r (isFinite (sumTo f n)) (lt 0f (sumTo f n)) (rw a tt)) in
-      let b =
-      all-of (λ i. not (lt (f i) 0f)) n (λ i k.
-      quotient-plus (x i) (m i) (all-at (λ i. not (lt (x i) 0f)) n i k h) (all-at (λ i. positive (m i)) n i k p)) in
-      let s = shares-pass f n (omega arith) (λ i k. div-fits binary64 (x i) (m i)) (terms-finite f n c) b c d in (
+      let s = shares-pass f n (omega arith) (λ i k. h i) (terms-finite f n c) b c d in (
         all-cong n (λ i k. ap isFinite (share-at i k)) ∙ s .0,
         all-cong n (λ i k. ap (λ (v : Float). not (lt v 0f)) (share-at i k)) ∙ s .1,
         ap (λ (v : Float). not (lt sumTolerance (absOf (v ⊖ 1f)))) (sum-cong 0f n share-at) ∙ s .2,
       )
 
   -- words with the bits of the z i
-  pub moles-read : (w : ℕ → ℕ) → ((i : ℕ) → i < n → w i ≡ bitsOf (at z i)) → vec (λ i. floatOf (w i)) n ≡ z
+  pub fractions-read : (w : ℕ → ℕ) → ((i : ℕ) → i < n → w i ≡ bitsOf (at z i)) → vec (λ i. floatOf (w i)) n ≡ z
   unfolding sharesOf
-  moles-read w h =
+  fractions-read w h =
       fill-cong _ (shareOf f n) n zeros8 (λ i k.
       ap floatOf (h i k ∙ ap bitsOf (share-at i k)) ∙ ofBits-toBits binary64 (shareOf f n i) (div-fits binary64 (f i) (sumTo f n)))
       ∙ sym (normal .1)
+
+-- ---- of the x i over the m i
+pub moles-pass : (x m : ℕ → Float) (n : ℕ) → n ≤ 8 → (z : List Float) → normalizeOf (λ i. x i ⊘ m i) n ≡ ok z
+    → noneNegative x n ≡ true → allTo (λ i. positive (m i)) n ≡ true
+    → (allFinite (at z) n ≡ true) × (noneNegative (at z) n ≡ true) × (sumsToOne (at z) n ≡ true)
+moles-pass x m n l z e h p =
+    fractions-pass (λ i. x i ⊘ m i) n l z e (λ i. div-fits binary64 (x i) (m i))
+    (all-of (λ i. not (lt (x i ⊘ m i) 0f)) n (λ i k.
+    quotient-plus (x i) (m i) (all-at (λ i. not (lt (x i) 0f)) n i k h) (all-at (λ i. positive (m i)) n i k p)))

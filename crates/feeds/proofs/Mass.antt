@@ -17,7 +17,7 @@ use Rattle.blocks.specs.Words.{word, checkRight}
 use Rattle.book.specs.Book.{hasMasses}
 use Rattle.question.specs.Asked.{taskIn, kindRight, feedOf, inputsRight, molesOf, restOf, questionOf}
 use Rattle.feeds.specs.Feeds.{InMoles}
-use Rattle.feeds.proofs.Fractions.{moles-pass, moles-read}
+use Rattle.feeds.proofs.Fractions.{moles-pass, fractions-read}
 use Rattle.feeds.proofs.Moles.{kind-moles, moles-moles}
 use Rattle.feeds.proofs.Rest.{restIn, rest-alike}
 
@@ -45,7 +45,7 @@ module _ (n : ℕ) (l : n ≤ 8) (z : List Float) (q r : List ℕ) (a : InMoles 
         → restOf q m n (feedOf q n) ≡ restOf r m n (feedOf r n)
     unfolding restOf restIn inputsRight
     rest-mass f g h =
-        let y : feedOf r n ≡ z = moles-read (at (feedOf q n)) m n l z e (λ i. word r (4 + i)) (a .fraction) in
+        let y : feedOf r n ≡ z = fractions-read (λ i. at (feedOf q n) i ⊘ m i) n l z e (λ i. word r (4 + i)) (a .fraction) in
         let s = moles-pass (at (feedOf q n)) m n l z e g p in
         let b = rest-alike q r n l front middle z (ok z) in
         rw (y, moles-mass (word q) m n (feedOf q n) (a .kind), moles-moles (word r) m n z (a .kind'), e, f, g, h, ← b, s .0, s .1, s .2)

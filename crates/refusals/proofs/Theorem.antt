@@ -37,13 +37,21 @@ unfolding pairsOf alphasEqual hasAlphas need
 num-pairs Nrtl w h e = search numbers depth 8
 num-pairs Wilson w h e = rw (e, all-yes _) (search numbers depth 8)
 
-num-book : (book : List ℕ) → Numbered (modelOf book) (bookOf book)
+pub num-book : (book : List ℕ) → Numbered (modelOf book) (bookOf book)
 unfolding bookOf headOf solventsOf headIn
 num-book book = search (numbers, num-pairs) depth 14
 
+pub num-taskIn : {M : Model} (rule : Rule) (question : List ℕ) → Numbered M (taskIn rule question)
+unfolding taskIn
+num-taskIn rule question = search numbers
+
+pub num-rest : {M : Model} (question : List ℕ) (m : ℕ → Float) (n : ℕ) (x : List Float) → Numbered M (restOf question m n x)
+unfolding restOf inputsRight limitsRight molesOf
+num-rest question m n x = search (numbers, num-normalize) depth 16
+
 num-question : {M : Model} (rule : Rule) (question : List ℕ) (version : ℕ) (m : ℕ → Float) (n : ℕ) → Numbered M (questionOf rule question version m n)
-unfolding questionOf taskIn restOf inputsRight limitsRight molesOf
-num-question rule question version m n = search (numbers, num-normalize) depth 16
+unfolding questionOf
+num-question rule question version m n = search (numbers, num-taskIn, num-rest)
 
 ruleset solvers = (num-bubblePressure, num-dewPressure, num-bubbleTemperature, num-dewTemperature, num-stability, num-flash, num-constrained, num-negative)
 
@@ -57,7 +65,7 @@ module _ {M : Model} (m : Mixture) (h : (t : Float) (x : List Float) → Numbere
   unfolding taskOf taskAt taskUnder taskSplit task1 excessFound saturated task2 task3 task4 task5 task6 task7 task8 task9
   num-task q = search (numbers, solvers, num-positive, num-activity) depth 12
 
-num-answer : (book : List ℕ) (n : ℕ) (q : Question) → Numbered (modelOf book) (answerTo book n q)
+pub num-answer : (book : List ℕ) (n : ℕ) (q : Question) → Numbered (modelOf book) (answerTo book n q)
 unfolding answerTo
 num-answer book n q = search (numbers, num-task, num-excess, num-liquids)
 

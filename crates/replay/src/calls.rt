@@ -204,6 +204,16 @@ fn put_blocks(slice: &[u8; 32768], out: &mut [u64; 640]) -> usize {
     1 + count
 }
 
+// The number and, of an answer, its blocks: how many words.
+fn put_answer(number: u64, slice: &[u8; 32768], out: &mut [u64; 640]) -> usize {
+    put(out, 0, number);
+    if number == 0 {
+        put_blocks(slice, out)
+    } else {
+        1
+    }
+}
+
 // A book, a question, each with its size first, and the length of the answer slice.
 fn answer_sizes(
     words: &[u64; 4096],
@@ -222,17 +232,9 @@ fn answer_sizes(
     fill_bytes(words, 1, count, &mut book);
     fill_bytes(words, 2 + count, more, &mut question);
     let number = answer_bytes(&book, size, &question, asked, &mut slice, room);
-    put(out, 0, number);
-    let inputs = 3 + count + more;
-    if number != 0 {
-        return Called {
-            inputs: inputs,
-            results: 1,
-        };
-    }
     Called {
-        inputs: inputs,
-        results: put_blocks(&slice, out),
+        inputs: 3 + count + more,
+        results: put_answer(number, &slice, out),
     }
 }
 
@@ -255,6 +257,119 @@ fn answer(words: &[u64; 4096], out: &mut [u64; 640]) -> Called {
         return none;
     }
     answer_sizes(words, size as usize, asked as usize, room as usize, out)
+}
+
+fn pooled_first(
+    book: &[u8],
+    size: usize,
+    question: &[u8],
+    asked: usize,
+    drums: &[u8],
+    held: usize,
+    slice: &mut [u8],
+    room: usize,
+) -> u64 {
+    if book.len() < size {
+        return 0;
+    }
+    if question.len() < asked {
+        return 0;
+    }
+    if drums.len() < held {
+        return 0;
+    }
+    if slice.len() < room {
+        return 0;
+    }
+    pool::answer(
+        &book[0..size],
+        &question[0..asked],
+        &drums[0..held],
+        &mut slice[0..room],
+    )
+}
+
+fn pooled_bytes(
+    book: &[u8; 32768],
+    size: usize,
+    question: &[u8; 32768],
+    asked: usize,
+    drums: &[u8; 32768],
+    held: usize,
+    slice: &mut [u8; 32768],
+    room: usize,
+) -> u64 {
+    pooled_first(book, size, question, asked, drums, held, slice, room)
+}
+
+// A book, a question and drums, each with its size first, and the length of the answer slice.
+fn pooled_sizes(
+    words: &[u64; 4096],
+    size: usize,
+    asked: usize,
+    held: usize,
+    room: usize,
+    out: &mut [u64; 640],
+) -> Called
+    requires { ⌜ (size ≤ 24576) × (asked ≤ 4096) × (held ≤ 8192) ⌝ }
+{
+    let count = (size + 7) / 8;
+    let more = (asked + 7) / 8;
+    let last = (held + 7) / 8;
+    let mut book = [0u8; 32768];
+    let mut question = [0u8; 32768];
+    let mut drums = [0u8; 32768];
+    let mut slice = [0u8; 32768];
+    fill_bytes(words, 1, count, &mut book);
+    fill_bytes(words, 2 + count, more, &mut question);
+    fill_bytes(words, 3 + count + more, last, &mut drums);
+    let number = pooled_bytes(
+        &book,
+        size,
+        &question,
+        asked,
+        &drums,
+        held,
+        &mut slice,
+        room,
+    );
+    Called {
+        inputs: 4 + count + more + last,
+        results: put_answer(number, &slice, out),
+    }
+}
+
+fn pooled(words: &[u64; 4096], out: &mut [u64; 640]) -> Called {
+    let none = Called {
+        inputs: 0,
+        results: 0,
+    };
+    let size = word(words, 0);
+    if 24576 < size {
+        return none;
+    }
+    let count = (size as usize + 7) / 8;
+    let asked = word(words, 1 + count);
+    if 4096 < asked {
+        return none;
+    }
+    let more = (asked as usize + 7) / 8;
+    let held = word(words, 2 + count + more);
+    if 8192 < held {
+        return none;
+    }
+    let room = word(words, 3 + count + more + (held as usize + 7) / 8);
+    if 32768 < room {
+        return none;
+    }
+    pooled_sizes(
+        words,
+        size as usize,
+        asked as usize,
+        held as usize,
+        room as usize,
+        out,
+    )
 }
 
 // Exact for every count below 2^32.
@@ -342,6 +457,7 @@ pub(crate) fn call(k: usize, words: &[u64; 4096], out: &mut [u64; 640]) -> Calle
         12 => rice(false, words, out),
         13 => rice(true, words, out),
         14 => answer(words, out),
+        15 => pooled(words, out),
         _ => Called {
             inputs: 0,
             results: 0,

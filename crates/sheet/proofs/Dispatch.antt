@@ -141,7 +141,7 @@ pub roomed : {o : Out (List ℕ)} {r : ℕ} {old new : List ℕ} → answerRoom 
 unfolding roomy
 roomed {old = old} l h = says-yes 10 (le-leb answerRoom (length old) l) h
 
-unroomed : (o : Out (List ℕ)) {r : ℕ} {old new : List ℕ} → answerRoom ≤ length old → Answers (roomy (length old) o) r old new → Answers o r old new
+pub unroomed : (o : Out (List ℕ)) {r : ℕ} {old new : List ℕ} → answerRoom ≤ length old → Answers (roomy (length old) o) r old new → Answers o r old new
 unfolding roomy need
 unroomed o {old = old} l h = rw (le-leb answerRoom (length old) l) at h
 
@@ -152,12 +152,12 @@ module _ (book : List ℕ) (n : ℕ) {r : ℕ} {old new : List ℕ} {rule : Rule
   unfolding answerTo
   asked q e l h = roomed l (rw e at h)
 
-asked-no : (o : Out Question) {x : Asked} {r : ℕ} → x ≡ askedOf o → x .verdict ≡ Refused r → o ≡ no r
+pub asked-no : (o : Out Question) {x : Asked} {r : ℕ} → x ≡ askedOf o → x .verdict ≡ Refused r → o ≡ no r
 unfolding askedOf
 asked-no (ok a) e q = let z : _≡_ {A = ℕ} 0 1 = cc in absurd (omega arith)
 asked-no (no m) e q = cc
 
-asked-ok : (o : Out Question) {x : Asked} → x ≡ askedOf o → x .verdict ≡ Passed → o ≡ ok (x .question)
+pub asked-ok : (o : Out Question) {x : Asked} → x ≡ askedOf o → x .verdict ≡ Passed → o ≡ ok (x .question)
 unfolding askedOf
 asked-ok (ok a) e q = ap (λ (y : Asked). ok (y .question)) (sym e)
 asked-ok (no m) e q = let z : _≡_ {A = ℕ} 0 1 = cc in absurd (omega arith)
@@ -170,15 +170,23 @@ module _ (book question : List ℕ) (version n : ℕ) {rule : Rule} (u : rule �
       → Answers (bind (questionTo book version n question) (answerTo book n)) r old new
   question-ok q l h = goes-on _ (asked-ok _ (rw u at e) q) (unroomed _ l h)
 
--- ---- the book
-module _ (book question : List ℕ) (room : ℕ) {x : Opened} (e : x ≡ openedOf (bookOf book)) where
-  pub book-no : {r : ℕ} {old : List ℕ} → x ≡ No r → Answers (sheetOf book question room) r old old
-  unfolding sheetOf
-  book-no q = refuses _ (opened-no (bookOf book) (sym q ∙ e))
+-- ---- the book, with what comes behind it for its version and its count of solvents
+module _ (book : List ℕ) (k : ℕ → ℕ → Out (List ℕ)) {x : Opened} (e : x ≡ openedOf (bookOf book)) where
+  pub opened-refuses : {r : ℕ} {old : List ℕ} → x ≡ No r → Answers (bind (bookOf book) (λ h. k (h .version) (h .n))) r old old
+  opened-refuses q = refuses _ (opened-no (bookOf book) (sym q ∙ e))
 
-  pub book-ok : {h : Head} {r : ℕ} {old new : List ℕ} → x ≡ Book h → Answers (sheetFrom book (h .version) (places (h .n)) question room) r old new → Answers (sheetOf book question room) r old new
-  unfolding sheetOf
-  book-ok {h} q a =
+  pub opened-goes-on : {h : Head} {r : ℕ} {old new : List ℕ} → x ≡ Book h → Answers (k (h .version) (places (h .n))) r old new
+      → Answers (bind (bookOf book) (λ h. k (h .version) (h .n))) r old new
+  opened-goes-on {h} q a =
       let o : bookOf book ≡ ok h = opened-ok (bookOf book) (sym q ∙ e) in
       let m : places (h .n) ≡ h .n = min-eq-left (accepted book o .few) in
       goes-on _ o (rw m at a)
+
+module _ (book question : List ℕ) (room : ℕ) {x : Opened} (e : x ≡ openedOf (bookOf book)) where
+  pub book-no : {r : ℕ} {old : List ℕ} → x ≡ No r → Answers (sheetOf book question room) r old old
+  unfolding sheetOf
+  book-no q = opened-refuses book (λ v n. sheetFrom book v n question room) e q
+
+  pub book-ok : {h : Head} {r : ℕ} {old new : List ℕ} → x ≡ Book h → Answers (sheetFrom book (h .version) (places (h .n)) question room) r old new → Answers (sheetOf book question room) r old new
+  unfolding sheetOf
+  book-ok q a = opened-goes-on book (λ v n. sheetFrom book v n question room) e q a

@@ -1,6 +1,7 @@
 // The names under which desks in C, Rust and Python call the core; bindings/c/zektonk.h has their prototypes. A slice passes as a pointer and a length.
 ghost use lib.ListN.{length};
 ghost use Rattle.sheet.specs.Sheet.{sheetOf, Answers};
+ghost use Rattle.pool.specs.Pool.{pooledOf};
 
 // 0 and the answer's blocks at the front of `out`; or the number of the question that was answered no, and `out` as it was.
 #[no_mangle]
@@ -8,4 +9,12 @@ pub extern "C" fn zektonk_answer(book: &[u8], question: &[u8], out: &mut [u8]) -
     ensures { λ r. ⌜ Answers (sheetOf (now (book .entry)) (now (question .entry)) (length (now (out .entry)))) r (now (out .entry)) (now (out .exit)) ⌝ }
 {
     sheet::answer(book, question, out)
+}
+
+// The same with the pool of 1 to 64 drums, each eight counts of micromoles, as the feed.
+#[no_mangle]
+pub extern "C" fn zektonk_pooled(book: &[u8], question: &[u8], drums: &[u8], out: &mut [u8]) -> u64
+    ensures { λ r. ⌜ Answers (pooledOf (now (book .entry)) (now (question .entry)) (now (drums .entry)) (length (now (out .entry)))) r (now (out .entry)) (now (out .exit)) ⌝ }
+{
+    pool::answer(book, question, drums, out)
 }

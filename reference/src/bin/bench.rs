@@ -1,15 +1,17 @@
 //! Times of the core and of the reference on the same inputs in one run: nanoseconds a call, median of five.
 //!
-//! bench numbers|book|excess|rice|sheet|wilson|all
+//! bench numbers|book|excess|rice|sheet|wilson|pooled|all
 
 use std::hint::black_box;
 use std::process::ExitCode;
 
-use reference::generate::{books, feeds, mass, questions, wilson, Rng};
+use reference::generate::{books, feeds, mass, pooled, questions, small, wilson, Rng};
 use reference::helpers;
 use reference::named::rachford_rice::{rachford_rice, rachford_rice_negative, RachfordRiceOutcome};
 use reference::rattle;
-use reference::sheet::{answer, open_book, ANSWER_BYTES};
+use reference::sheet::blocks::words_of;
+use reference::sheet::question::FRACTIONS;
+use reference::sheet::{answer, open_book, pool, ANSWER_BYTES};
 use reference::stage::padded;
 
 const INPUTS: usize = 64;
@@ -23,18 +25,19 @@ const RUN: f64 = 2e7;
 
 fn main() -> ExitCode {
     let stage = std::env::args().nth(1).unwrap_or_default();
-    let stages: [(&str, fn()); 6] = [
+    let stages: [(&str, fn()); 7] = [
         ("numbers", bench_numbers),
         ("book", bench_book),
         ("excess", bench_excess),
         ("rice", bench_rice),
         ("sheet", bench_sheet),
         ("wilson", bench_wilson),
+        ("pooled", bench_pooled),
     ];
     let chosen: Vec<_> = stages.iter().filter(|(name, _)| *name == stage || stage == "all").collect();
     chosen.iter().for_each(|(_, bench)| bench());
     if chosen.is_empty() {
-        eprintln!("usage: bench numbers|book|excess|rice|sheet|wilson|all");
+        eprintln!("usage: bench numbers|book|excess|rice|sheet|wilson|pooled|all");
         return ExitCode::from(2);
     }
     ExitCode::SUCCESS
@@ -320,4 +323,41 @@ fn accepted(rng: &mut Rng, n: usize, task: u64, book: fn(&mut Rng, usize) -> boo
             return (book, question);
         }
     }
+}
+
+/// The core alone: a pooled call, and the plain call on the question with the pool's fractions.
+fn bench_pooled() {
+    for task in [1, 2, 7, 8] {
+        for n in SOLVENTS {
+            for m in [1, 3, 64] {
+                time_pooled(task, n, m);
+            }
+        }
+    }
+}
+
+fn time_pooled(task: u64, n: usize, m: usize) {
+    let inputs = many(|rng| loop {
+        let (book, question) = accepted(rng, n, task, books::realistic);
+        let counts: Vec<u64> = (0..n).map(|_| rng.decade(6.0, 9.0) as u64).collect();
+        let drums = pooled::shared_out(rng, &counts, m);
+        let x = pool::feed(&counts).expect("a right total");
+        let mut ask = small::Ask(words_of(&question));
+        small::put(&mut ask.0, FRACTIONS, &x);
+        let plain = ask.bytes();
+        if answer(&book, &plain, &mut [0; ANSWER_BYTES]) == 0 {
+            return (book, question, drums, plain);
+        }
+    });
+    let mut out = [0; ANSWER_BYTES];
+    if rattle::pooled(&inputs[0].0, &inputs[0].1, &inputs[0].2, &mut out).is_none() {
+        println!("pooled task {task}, n = {n}, drums {m}: core not built in");
+        return;
+    }
+    let mut other = out;
+    let mut pooled = || inputs.iter().for_each(|(b, q, drums, _)| drop_value(rattle::pooled(b, q, drums, &mut out)));
+    let mut plain = || inputs.iter().for_each(|(b, _, _, plain)| drop_value(rattle::answer(b, plain, &mut other)));
+    let [time, own] = medians([&mut pooled, &mut plain]).map(|time| time / INPUTS as f64);
+    let ratio = time / own;
+    println!("pooled task {task}, n = {n}, drums {m}: {time:.1} ns, the plain call {own:.1} ns, ratio {ratio:.2}");
 }

@@ -5,6 +5,7 @@
 use std::process::ExitCode;
 
 use reference::command::{not_built_in_fails, Options, USAGE};
+use reference::counts::drums::Drums;
 use reference::counts::{count_sheets, Exchanges, SheetCounts, Tally};
 use reference::generate::cases::Cases;
 use reference::stage::{hex_words, Case, Stage};
@@ -38,12 +39,14 @@ fn compare(stage: Stage, options: &Options) -> usize {
     let mut tally = Tally::default();
     let mut tasks = SheetCounts::default();
     let mut exchanges = Exchanges::default();
+    let mut drums = Drums::default();
     let mut differences = 0;
     for _ in 0..options.count_of(stage) {
         let (kind, case) = cases.draw();
         let expected = case.expected();
         tally.add(expected.refusal);
         tasks.add(kind, &case, expected.refusal);
+        drums.add(&case, expected.refusal);
         let offered = case.offered();
         exchanges.add(&case, cases.exchange(), offered.as_ref().map_or(0, |words| words[0]));
         if offered.as_ref() != Some(&expected.words) {
@@ -57,6 +60,9 @@ fn compare(stage: Stage, options: &Options) -> usize {
     if stage == Stage::Exchanged {
         exchanges.print();
         differences += exchanges.let_through;
+    }
+    if stage == Stage::Pooled {
+        drums.print();
     }
     let (all, accepted, refused) = (tally.all(), tally.accepted(), tally.refused());
     println!("{}: {all} compared, {accepted} accepted, refused {refused}, {differences} differences", stage.name());

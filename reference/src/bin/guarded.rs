@@ -1,10 +1,10 @@
-//! Calls the core with book, question and answer slices that end, or begin, at a page that can't be touched, and
+//! Calls the core with book, question, drums and answer slices that end, or begin, at a page that can't be touched, and
 //! compares every byte with the reference.
 //!
 //! guarded [--count N] [--seed S]
 //!
-//! Each slice lies in pages of its own between two pages without access. Book and question can't be written during the
-//! call; of the answer's pages every byte is compared, those outside the slice too.
+//! Each slice lies in pages of its own between two pages without access. Book, question and drums can't be written during
+//! the call; of the answer's pages every byte is compared, those outside the slice too.
 
 use std::ffi::{c_int, c_void};
 use std::process::ExitCode;
@@ -12,13 +12,13 @@ use std::ptr;
 
 use reference::command::count_and_seed;
 use reference::counts::Tally;
-use reference::generate::cases::sheets;
+use reference::generate::cases::{sheets, Cases};
 use reference::generate::Rng;
-use reference::rattle::zektonk_answer;
-use reference::sheet;
+use reference::rattle::{zektonk_answer, zektonk_pooled};
 use reference::sheet::blocks::{bytes_of, rule_of, seal, words_of, Rule, BLOCK};
 use reference::sheet::question::{MAX_ITERATIONS, MAX_TEMPERATURE_ITERATIONS};
-use reference::stage::Case;
+use reference::sheet::{self, pool};
+use reference::stage::{Case, Stage};
 
 extern "C" {
     fn mmap(at: *mut c_void, length: usize, access: c_int, flags: c_int, file: c_int, offset: i64) -> *mut c_void;
@@ -32,9 +32,10 @@ const READ: c_int = 1;
 const READ_AND_WRITE: c_int = 3;
 const PRIVATE_ANONYMOUS: c_int = 0x22;
 
-/// Longest slices that are lent. A book has 18,944 bytes at most, an answer needs 4,608.
+/// Longest slices that are lent. A book has 18,944 bytes at most, drums 4,096, an answer needs 4,608.
 const BOOK: usize = 20_480;
 const QUESTION: usize = 1024;
+const DRUMS: usize = 8192;
 const ANSWER: usize = 5120;
 
 /// Differences that are printed.
@@ -93,9 +94,11 @@ impl Area {
 struct Call {
     book: Vec<u8>,
     question: Vec<u8>,
+    /// Where the call is that with drums.
+    drums: Option<Vec<u8>>,
     room: usize,
-    /// Book, question and answer.
-    at_end: [bool; 3],
+    /// Book, question, answer and drums.
+    at_end: [bool; 4],
     /// Empty slices as null.
     null: bool,
 }
@@ -103,6 +106,7 @@ struct Call {
 struct Pages {
     book: Area,
     question: Area,
+    drums: Area,
     answer: Area,
     /// What the answer's pages hold before a call.
     noise: Vec<u8>,
@@ -110,9 +114,9 @@ struct Pages {
 
 impl Pages {
     fn new(rng: &mut Rng) -> Self {
-        let (book, question, answer) = (Area::new(BOOK), Area::new(QUESTION), Area::new(ANSWER));
+        let [book, question, drums, answer] = [BOOK, QUESTION, DRUMS, ANSWER].map(Area::new);
         let noise = random(rng, answer.length);
-        Self { book, question, answer, noise }
+        Self { book, question, drums, answer, noise }
     }
 
     /// The number, and whether all is as the reference has it.
@@ -124,34 +128,45 @@ impl Pages {
         }
         let mut expected = self.noise.clone();
         let to = self.answer.place(call.room, call.at_end[2]);
-        let number = sheet::answer(&call.book, &call.question, &mut expected[to..to + call.room]);
+        let lent = &mut expected[to..to + call.room];
+        let number = match &call.drums {
+            None => sheet::answer(&call.book, &call.question, lent),
+            Some(drums) => pool::answer(&call.book, &call.question, drums, lent),
+        };
         let found = self.offered(call, to);
         (number, found == u64::from(number) && self.answer.bytes() == expected)
     }
 
     fn offered(&mut self, call: &Call, to: usize) -> u64 {
-        let book = self.book.place(call.book.len(), call.at_end[0]);
-        let question = self.question.place(call.question.len(), call.at_end[1]);
-        self.book.fill(book, &call.book);
-        self.question.fill(question, &call.question);
+        let none = Vec::new();
+        let drums = call.drums.as_ref().unwrap_or(&none);
+        let read = [&call.book, &call.question, drums];
+        let mut from = [0; 3];
+        let areas = [&mut self.book, &mut self.question, &mut self.drums].into_iter().zip([0, 1, 3]);
+        for ((area, end), (from, bytes)) in areas.zip(from.iter_mut().zip(read)) {
+            *from = area.place(bytes.len(), call.at_end[end]);
+            area.fill(*from, bytes);
+            area.allow(READ);
+        }
         self.answer.fill(0, &self.noise);
-        self.book.allow(READ);
-        self.question.allow(READ);
         let lent = |at: *mut u8, length: usize| if call.null && length == 0 { ptr::null_mut() } else { at };
         // SAFETY: each pointer and length lie in pages of their own, apart from each other, that can be read or written
         // as the core's header asks.
         let number = unsafe {
-            zektonk_answer(
-                lent(self.book.at(book), call.book.len()),
-                call.book.len(),
-                lent(self.question.at(question), call.question.len()),
-                call.question.len(),
-                lent(self.answer.at(to), call.room),
-                call.room,
-            )
+            let book = lent(self.book.at(from[0]), call.book.len());
+            let question = lent(self.question.at(from[1]), call.question.len());
+            let answer = lent(self.answer.at(to), call.room);
+            let [book_len, question_len] = [call.book.len(), call.question.len()];
+            if call.drums.is_none() {
+                zektonk_answer(book, book_len, question, question_len, answer, call.room)
+            } else {
+                let lent = lent(self.drums.at(from[2]), drums.len());
+                zektonk_pooled(book, book_len, question, question_len, lent, drums.len(), answer, call.room)
+            }
         };
-        self.book.allow(READ_AND_WRITE);
-        self.question.allow(READ_AND_WRITE);
+        for area in [&self.book, &self.question, &self.drums] {
+            area.allow(READ_AND_WRITE);
+        }
         number
     }
 }
@@ -171,8 +186,26 @@ fn room(rng: &mut Rng) -> usize {
 }
 
 fn call(rng: &mut Rng, book: Vec<u8>, question: Vec<u8>) -> Call {
-    let at_end = [rng.one_in(2), rng.one_in(2), rng.one_in(2)];
-    Call { book, question, room: room(rng), at_end, null: rng.one_in(4) }
+    let at_end = [(); 4].map(|_| rng.one_in(2));
+    Call { book, question, drums: None, room: room(rng), at_end, null: rng.one_in(4) }
+}
+
+/// As `calls`, with drums: as they are in half of the calls, changed, of another length, or noise.
+fn pooled_calls(rng: &mut Rng, case: &Case) -> Vec<Call> {
+    let Case::Pooled { book, question, drums, .. } = case else { unreachable!("a sheet with drums was asked for") };
+    let mut all = calls(rng, book, question);
+    for call in &mut all {
+        let mut lent = drums[..drums.len().min(DRUMS)].to_vec();
+        match rng.below(8) {
+            0 => (0..rng.between(1, 3)).for_each(|_| change(rng, &mut lent, DRUMS, false)),
+            1 => lent.resize(rng.below(DRUMS + 1), 0),
+            2 => lent = noise(rng, DRUMS),
+            3 => lent.clear(),
+            _ => {}
+        }
+        call.drums = Some(lent);
+    }
+    all
 }
 
 /// Six calls made from one sheet: as it is at two places, changed thrice, and with noise for the question.
@@ -269,15 +302,26 @@ fn main() -> ExitCode {
     };
     let mut rng = Rng::new(seed ^ 0x6775_6172_6465_6421);
     let mut pages = Pages::new(&mut rng);
-    let mut tally = Tally::default();
+    let (mut tally, mut of_drums) = (Tally::default(), Tally::default());
     let mut differences = 0;
-    for (book, question) in sheets(seed) {
+    let mut plain = sheets(seed);
+    let mut pooled = Cases::new(Stage::Pooled, seed, false);
+    for turn in 0.. {
         if tally.all() >= count {
             break;
         }
-        for call in calls(&mut rng, &book, &question).iter().take(count - tally.all()) {
+        let all = if turn % 3 == 2 {
+            pooled_calls(&mut rng, &pooled.draw().1)
+        } else {
+            let (book, question) = plain.next().expect("sheets have no end");
+            calls(&mut rng, &book, &question)
+        };
+        for call in all.iter().take(count - tally.all()) {
             let (number, same) = pages.compare(&mut rng, call);
             tally.add(number);
+            if call.drums.is_some() {
+                of_drums.add(number);
+            }
             if !same {
                 differences += 1;
                 if differences <= SHOWN {
@@ -288,6 +332,8 @@ fn main() -> ExitCode {
     }
     let (all, accepted, refused) = (tally.all(), tally.accepted(), tally.refused());
     println!("guarded: {all} calls, {accepted} accepted, refused {refused}, {differences} differences");
+    let (all, accepted, refused) = (of_drums.all(), of_drums.accepted(), of_drums.refused());
+    println!("guarded, of them with drums: {all} calls, {accepted} accepted, refused {refused}");
     if differences == 0 {
         ExitCode::SUCCESS
     } else {
@@ -296,6 +342,10 @@ fn main() -> ExitCode {
 }
 
 fn show(call: &Call, number: u32) {
-    let case = Case::Sheet { book: call.book.clone(), question: call.question.clone(), room: call.room };
+    let (book, question, room) = (call.book.clone(), call.question.clone(), call.room);
+    let case = match call.drums.clone() {
+        None => Case::Sheet { book, question, room },
+        Some(drums) => Case::Pooled { book, question, drums, room },
+    };
     println!("difference: {} (reference {number}, at the end {:?}, null {})", case.line(), call.at_end, call.null);
 }

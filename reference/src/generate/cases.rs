@@ -1,7 +1,7 @@
 //! The cases of each stage.
 
 use super::exchanged::Exchange;
-use super::{books, differences, exchanged, feeds, mass, numbers, questions, rice, small, wilson, Rng};
+use super::{books, differences, exchanged, feeds, mass, numbers, pooled, questions, rice, small, wilson, Rng};
 use crate::sheet::open_book;
 use crate::stage::{Case, Function, Stage};
 
@@ -53,6 +53,7 @@ impl Cases {
             Stage::Mass if !compact => mass::borders().into_iter().map(|(case, _)| case).collect(),
             Stage::Exchanged if !compact => exchanged::borders().into_iter().map(|(case, _)| case).collect(),
             Stage::Wilson if !compact => wilson::borders().into_iter().map(|(case, _)| case).collect(),
+            Stage::Pooled if !compact => pooled::borders().into_iter().map(|(case, _)| case).collect(),
             _ => Vec::new(),
         };
         let rng = if compact { Rng::tidy(seed) } else { Rng::new(seed) };
@@ -92,6 +93,9 @@ impl Cases {
         }
         if self.stage == Stage::Wilson {
             return wilson::draw(&mut self.rng, n);
+        }
+        if self.stage == Stage::Pooled {
+            return pooled::draw(&mut self.rng, n);
         }
         // The stored ones of versions 2 and 3 stand among the sheets.
         let later = matches!(self.stage, Stage::Book | Stage::Excess) && !self.compact && self.rng.one_in(3);
@@ -140,7 +144,7 @@ fn plain(rng: &mut Rng, stage: Stage, n: usize) -> Case {
         Stage::Book => Case::Book { book: book(rng, n) },
         Stage::Pressure => pressure(rng, n),
         Stage::Excess => excess(rng, n),
-        Stage::Rice | Stage::Sheet | Stage::Mass | Stage::Exchanged | Stage::Wilson => split(rng, n),
+        Stage::Rice | Stage::Sheet | Stage::Mass | Stage::Exchanged | Stage::Wilson | Stage::Pooled => split(rng, n),
     }
 }
 

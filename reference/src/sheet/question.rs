@@ -53,6 +53,9 @@ impl Question {
     pub fn pressure(&self) -> f64 {
         self.float(PRESSURE)
     }
+    pub fn by_moles(&self) -> bool {
+        self.words[BASIS] == BY_MOLES
+    }
     /// Of moles or of mass, as word 27 says.
     pub fn fractions(&self, n: usize) -> Vec<f64> {
         self.floats(FRACTIONS, n)
@@ -86,17 +89,20 @@ impl Question {
 
     /// Questions 36, 13 to 18, 34 and 19 to 21, each where the task needs it. The mole fractions of the feed.
     pub fn ask(&self, book: &Book) -> Result<Vec<f64>, u32> {
-        let n = book.solvents.len();
-        let task = self.task();
         let molar_masses = self.molar_masses(book)?;
+        self.ask_feed(self.fractions(book.solvents.len()), molar_masses)
+    }
+
+    /// Those after 36, put to fractions of moles, or of mass where there are molar masses.
+    pub fn ask_feed(&self, fractions: Vec<f64>, molar_masses: Option<&[f64]>) -> Result<Vec<f64>, u32> {
+        let task = self.task();
         if matches!(task, 1 | 2 | 3 | 6 | 7) && !is_positive(self.temperature()) {
             return Err(13);
         }
         if matches!(task, 4 | 5 | 7) && !is_positive(self.pressure()) {
             return Err(14);
         }
-        self.ask_composition(n)?;
-        let fractions = self.fractions(n);
+        self.ask_composition(&fractions)?;
         let feed = match molar_masses {
             None => fractions,
             Some(molar_masses) => mole_feed(&fractions, molar_masses)?,
@@ -118,9 +124,8 @@ impl Question {
     }
 
     /// Questions 15 to 18, put to the fractions as they are given.
-    fn ask_composition(&self, n: usize) -> Result<(), u32> {
-        let z = self.fractions(n);
-        let k = if matches!(self.task(), 8 | 9) { self.k_values(n) } else { Vec::new() };
+    fn ask_composition(&self, z: &[f64]) -> Result<(), u32> {
+        let k = if matches!(self.task(), 8 | 9) { self.k_values(z.len()) } else { Vec::new() };
         if !z.iter().chain(&k).all(|v| v.is_finite()) {
             return Err(15);
         }
@@ -130,7 +135,7 @@ impl Question {
         if k.iter().any(|v| *v <= 0.0) {
             return Err(17);
         }
-        if (helpers::sum(&z) - 1.0).abs() <= 1e-10 {
+        if (helpers::sum(z) - 1.0).abs() <= 1e-10 {
             Ok(())
         } else {
             Err(18)

@@ -1,0 +1,1 @@
+// Pooled drums: laws of the whole call; no code.
