@@ -1,77 +1,21 @@
 -- `nrtl::ln_gammas` meets its contract. Assumes nothing.
-use Prim.Native.Nat.{_≤_, _-_}
-use mathlib.Core.Path.{refl}
-use native.Mathlib.Omega.{arith}
 use borrow.Author.Needs.{needs}
-use Rattle.floats.specs.Fold.{allTo}
-use Rattle.floats.specs.Vector.{at, fill}
-use Rattle.excess.proofs.Steps.{gammas-turn, gammas-done}
-use Rattle.nrtl_tables.specs.Table.{gPlane, tauPlane}
-use Rattle.nrtl.specs.Columns.{lnFrom}
-use Rattle.jet.specs.Planes.{twos}
-use Rattle.excess.specs.Steps.{sIn, rIn, GammasTo}
+use Rattle.nrtl.proofs.Lanes.{gammas-all}
 use Rattle.nrtl.proofs.ln_gammas.Statement.{statement}
 use Rattle.nrtl.proofs.ln_gammas.Tie as tie
 
-abbrev Inv-loop : tie.InvT-loop
-Inv-loop table sums x n ln-gamma₀ slopes₀ finite₀ i₀ ln-gamma slopes finite i =
-    (i ≤ n) × GammasTo (lnFrom (twos table tauPlane) (twos table gPlane) (sIn sums) (rIn sums) (at x) n) i finite ln-gamma₀ slopes₀ ln-gamma slopes
+fill-lns-requires : tie.Need-fill-lns-requires
+fill-lns-requires c κs = search needs
 
-abbrev μ-loop : tie.MeasureT-loop
-μ-loop table sums x n ln-gamma₀ slopes₀ finite₀ i₀ ln-gamma slopes finite i = n - i
+clear-past-requires : tie.Need-clear-past-requires
+clear-past-requires c κs = search needs
 
-loop-holds : tie.Need-loop-holds Inv-loop μ-loop
-unfolding allTo fill
-loop-holds c = (omega arith, record { right = refl; values = refl; slopes = refl })
+all-finite-requires : tie.Need-all-finite-requires
+all-finite-requires c κs = search needs
 
-ln-gamma-at-requires : tie.Need-ln-gamma-at-requires Inv-loop μ-loop
-ln-gamma-at-requires c κs = search needs
-
-mul-ln-gamma : tie.Need-mul-ln-gamma Inv-loop μ-loop
-mul-ln-gamma c = omega arith
-
-element-write-ln-gamma : tie.Need-element-write-ln-gamma Inv-loop μ-loop
-element-write-ln-gamma c = omega arith
-
-mul-slopes : tie.Need-mul-slopes Inv-loop μ-loop
-mul-slopes c = omega arith
-
-element-write-slopes : tie.Need-element-write-slopes Inv-loop μ-loop
-element-write-slopes c = omega arith
-
-is-finite-requires : tie.Need-is-finite-requires Inv-loop μ-loop
-is-finite-requires c κs = search needs
-
-is-finite-requires-2 : tie.Need-is-finite-requires-2 Inv-loop μ-loop
-is-finite-requires-2 c κs = omega arith
-
-add-i : tie.Need-add-i Inv-loop μ-loop
-add-i c = omega arith
-
-loop-less : tie.Need-loop-less Inv-loop μ-loop
-loop-less c = omega arith
-
-loop-again : tie.Need-loop-again Inv-loop μ-loop
-loop-again c = (omega arith, search gammas-turn)
-
-returns : tie.Need-returns Inv-loop μ-loop
-returns c = gammas-done _ _ _ (omega arith) (c .before .loop .inv .1)
+returns : tie.Need-returns
+returns c = search gammas-all
 
 pub ln-gammas-spec : {M : Type 1} → statement M
 ln-gammas-spec =
-    tie.close
-    (tie.spec
-    Inv-loop
-    μ-loop
-    loop-holds
-    ln-gamma-at-requires
-    mul-ln-gamma
-    element-write-ln-gamma
-    mul-slopes
-    element-write-slopes
-    is-finite-requires
-    is-finite-requires-2
-    add-i
-    loop-less
-    loop-again
-    returns)
+    tie.close (tie.spec fill-lns-requires clear-past-requires all-finite-requires returns)

@@ -7,6 +7,9 @@ use Rattle.nrtl.proofs.state.Tie as tie
 fill-sums-requires : tie.Need-fill-sums-requires
 fill-sums-requires c κs = search needs
 
+reduced-requires : tie.Need-reduced-requires
+reduced-requires c κs = search needs
+
 ln-gammas-requires : tie.Need-ln-gammas-requires
 ln-gammas-requires c κs = search needs
 
@@ -27,6 +30,7 @@ state-spec =
     tie.close
     (tie.spec
     fill-sums-requires
+    reduced-requires
     ln-gammas-requires
     state-requires
     returns
