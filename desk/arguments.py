@@ -5,7 +5,7 @@ import re
 from pathlib import Path
 from typing import Any, Dict, List, NoReturn, Tuple
 
-from . import core, tasks, units
+from . import batch, core, tasks, units
 from .diagram import PRESSURE_UNITS, TEMPERATURE_UNITS
 from .errors import DeskError, quoted, suggestion
 from .question import Options
@@ -34,6 +34,11 @@ DRUM_HELP = (
     "Several --drum are pooled into one charge, by amounts in mol or kg"
 )
 MASS_HELP = "mass fractions in place of --drum"
+DRUMS_HELP = (
+    "many drums in place of --drum: a table as CSV with a column for each solvent and one called label, a line for "
+    "each drum; the core is asked for up to 64 at a time"
+)
+MANY = "./sheet flash --drums yard/week.csv --temperature 76C --pressure 1bar"
 TEMPERATURE_HELP = "with its unit: 351.44K, 78.29C or 78.29°C"
 PRESSURE_HELP = "with its unit: 90000Pa, 90kPa, 0.9bar, 900mbar, 1atm, 675mmHg, 675Torr or 13psi"
 BRACKET_HELP = "temperatures between which a point is looked for (default 273.16K:450K, narrowed to the book's ranges)"
@@ -83,7 +88,7 @@ def parser() -> Parser:
         + "\n  ".join(EXAMPLES.values())
         + "\n  ./sheet strike flash --drum ethanol=0.5,water=0.5 --temperature 78.29C --pressure 90kPa"
         + "\n  "
-        + "\n  ".join(WEIGHED + LAYERS)
+        + "\n  ".join((*WEIGHED, MANY, *LAYERS))
         + "\n  ./sheet diagram txy --pair ethanol,water --pressure 101325Pa -o txy.svg"
         + f"\n\n{STATUSES}",
     )
@@ -123,6 +128,9 @@ def _expect_options(argv: List[str], command: Parser, name: str) -> None:
     known = list(command._option_string_actions)
     for argument in argv:
         option = argument.split("=", 1)[0]
+        if option == "--drums" and name in tasks.BY_COMMAND and option not in known:
+            many = ", ".join(task.command for task in batch.TASKS)
+            raise DeskError(f"{name} takes one drum at a time; many go to {many}, which have one temperature for all")
         if option.startswith("--") and len(option) > 2 and option not in known:
             raise DeskError(
                 f"{option} is no option of {name}{suggestion(option, known)} ({command.prog} --help shows how)"
@@ -149,6 +157,10 @@ def _add_task(commands, task: tasks.Task) -> None:
     feed = command.add_mutually_exclusive_group(required=True)
     feed.add_argument("--drum", action="append", metavar="NAME=X,NAME=X", help=DRUM_HELP)
     feed.add_argument("--mass", action="append", metavar="NAME=W,NAME=W", help=MASS_HELP)
+    command.set_defaults(drums=None)
+    if task in batch.TASKS:
+        feed.add_argument("--drums", metavar="FILE", help=DRUMS_HELP)
+        _add_list_options(command)
     _add_sheet_options(command)
     if task.takes_temperature:
         command.add_argument("--temperature", required=True, metavar="T", help=TEMPERATURE_HELP)
@@ -165,6 +177,14 @@ def _add_task(commands, task: tasks.Task) -> None:
         "--strike", action="store_true", help="ask again with the drum's solvents alone, and compare word by word"
     )
     command.add_argument("--words", action="store_true", help="with --strike: list every word that was compared")
+
+
+def _add_list_options(command: Parser) -> None:
+    command.add_argument(
+        "--by-mass", action="store_true", help="with --drums: its numbers without a unit are mass fractions"
+    )
+    command.add_argument("--skip", metavar="NAME,NAME", help="with --drums: columns to pass over")
+    command.add_argument("--csv", action="store_true", help="with --drums: a table for a spreadsheet, with all digits")
 
 
 def _add_sheet_options(command: Parser) -> None:

@@ -63,11 +63,12 @@ class Charge:
         return f"{noun} {place + 1}" if len(self.drums) > 1 else noun
 
 
-def charged(book: "NamedBook", drums: Sequence[Dict[int, "Amount"]]) -> Feed:
-    """The feed that drums pool to."""
-    _expect_amounts(drums)
+def charged(book: "NamedBook", drums: Sequence[Dict[int, "Amount"]], called: Sequence[str] = ()) -> Feed:
+    """The feed that drums pool to; `called` is what complaints call each of them, where that isn't its option."""
+    called = called or [option(place, len(drums)) for place in range(len(drums))]
+    _expect_amounts(drums, called)
     masses = _masses(book, drums)
-    given = tuple(_given(book, drum, option(place, len(drums)), masses) for place, drum in enumerate(drums))
+    given = tuple(_given(book, drum, name, masses) for name, drum in zip(called, drums))
     counts = [drum.counts for drum in given]
     pool = pool_of(counts, len(book.names))
     charge = Charge(given, pool, refusal_of(counts, len(book.names)))
@@ -79,7 +80,7 @@ def option(place: int, count: int) -> str:
     return f"--drum {place + 1}" if count > 1 else "--drum"
 
 
-def _expect_amounts(drums: Sequence[Dict[int, "Amount"]]) -> None:
+def _expect_amounts(drums: Sequence[Dict[int, "Amount"]], called: Sequence[str]) -> None:
     """Fractions don't say how much a drum holds."""
     bare = [[given.name for given in drum.values() if units.is_bare(given.value)] for drum in drums]
     if all(len(names) == len(drum) for names, drum in zip(bare, drums)):
@@ -90,7 +91,7 @@ def _expect_amounts(drums: Sequence[Dict[int, "Amount"]]) -> None:
     for place, names in enumerate(bare):
         if names:
             raise DeskError(
-                f"{option(place, len(drums))}: {', '.join(names)} has no unit: fractions don't say how much a drum "
+                f"{called[place]}: {', '.join(names)} has no unit: fractions don't say how much a drum "
                 f"holds, so that it can't be pooled; give amounts of all ({units.AMOUNTS})"
             )
 

@@ -4,19 +4,22 @@ import argparse
 import os
 import sys
 from dataclasses import replace
-from typing import Optional, Tuple
+from typing import Optional, Tuple, Union
 
 from . import (
-    answer, building, core, diagram, explain, files, jsonsheet, layersreport, picture, refusals, report, strikereport
+    answer, building, core, diagram, drumlist, explain, files, jsonsheet, layersreport, library, listreport, picture
 )
-from . import tasks, text, units, yardcheck
+from . import refusals, report, strikereport, tasks, text, units, yardcheck
 from .arguments import commands_of, options_of, parser
 from .book import VERSION, Model, encode
 from .errors import DeskError, quoted, suggestion
 from .feed import Feed
 from .judgement import judged
 from .layersheet import layers_sheet
-from .openbook import bracket_of, feed_of, is_binary, k_values_of, open_book, open_yard, place_of, yard_of
+from .listsheet import MARKED as MARKED_ROW
+from .listsheet import REFUSED as REFUSED_ROW
+from .listsheet import list_sheet
+from .openbook import bracket_of, feed_of, is_binary, k_values_of, open_book, open_yard, place_of, shown, yard_of
 from .question import Question
 from .ranges import Ranges, ranges_at
 from .sheet import SHORT, NamedBook, Sheet, checksum, today
@@ -27,6 +30,7 @@ from .yardwrite import write
 
 MOST_POINTS = 2001
 REFUSED, MARKED = 1, 3  # exit status
+LIST_OPTIONS = ("by_mass", "skip", "csv")  # that say nothing of one drum
 DEMO = (
     "flash",
     "--label",
@@ -42,6 +46,11 @@ DEMO = (
 
 def ask(arguments: argparse.Namespace) -> int:
     """One of the nine tasks."""
+    if arguments.drums is not None:
+        return ask_many(arguments)
+    for option in LIST_OPTIONS:
+        if getattr(arguments, option, None):
+            raise DeskError(f"--{option.replace('_', '-')} belongs to --drums")
     book = open_book(arguments.book, arguments.names)
     feed = feed_of(book, arguments.drum, arguments.mass, arguments.normalize)
     question = _question(arguments, book, feed)
@@ -53,6 +62,37 @@ def ask(arguments: argparse.Namespace) -> int:
         return _strike(arguments, sheet)
     sys.stdout.write((jsonsheet if arguments.json else report).render(sheet, arguments.details))
     return _ended(sheet)
+
+
+def ask_many(arguments: argparse.Namespace) -> int:
+    """Of one of the tasks at a temperature, a list of drums."""
+    if arguments.strike:
+        raise DeskError("strike takes one drum at a time, --drum or --mass")
+    if arguments.csv and arguments.json:
+        raise DeskError("--csv and --json are two forms of one sheet; give one of them")
+    book = open_book(arguments.book, arguments.names)
+    skip = [name.strip() for name in arguments.skip.split(",")] if arguments.skip else []
+    drums = drumlist.read(arguments.drums, book, arguments.by_mass, arguments.normalize, skip)
+    question = _question(arguments, book, Feed(()))
+    with _many(arguments, book) as program:
+        sheet = list_sheet(program, book, shown(arguments.drums), drums, question, _label(arguments))
+    if arguments.csv:
+        sys.stdout.write(listreport.written(sheet))
+    elif arguments.json:
+        sys.stdout.write(jsonsheet.dumped(listreport.document(sheet, arguments.details)))
+    else:
+        sys.stdout.write(listreport.render(sheet, arguments.details))
+    if sheet.line():
+        sys.stdout.flush()
+        print(f"sheet: {sheet.line()}", file=sys.stderr)
+    return REFUSED if sheet.of(REFUSED_ROW) else MARKED if sheet.of(MARKED_ROW) else 0
+
+
+def _many(arguments: argparse.Namespace, book: NamedBook) -> Union[core.Core, library.Library]:
+    """The library where it is built, since it takes 64 drums in a call; else the program, and where one was named."""
+    if arguments.program == core.PROGRAM and library.offers("zektonk_feeds"):
+        return library.Library(book.content)
+    return core.Core(book.content, arguments.program)
 
 
 def _label(arguments: argparse.Namespace) -> str:

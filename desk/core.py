@@ -5,12 +5,13 @@ import select
 import subprocess
 import tempfile
 from pathlib import Path
-from typing import Dict, Sequence
+from typing import Dict, List, Sequence
 
-from . import answer
+from . import answer, batch, pool
 from .blocks import rule_of
 from .errors import DeskError
-from .pool import Drum, ask_plainly
+from .feed import Fractions
+from .pool import Drum
 from .question import Question
 
 ROOT = Path(__file__).resolve().parent.parent
@@ -44,7 +45,11 @@ class Core:
 
     def ask_pooled(self, question: Question, drums: Sequence[Drum]) -> answer.Blocks:
         """With the pool of the drums as the feed."""
-        return ask_plainly(self, question, drums)
+        return pool.ask_plainly(self, question, drums)
+
+    def ask_feeds(self, question: Question, feeds: Sequence[Fractions]) -> List[answer.Blocks]:
+        """With each of 1 to 64 feeds in place of the question's fractions."""
+        return batch.ask_plainly(self, question, feeds)
 
     def ask_block(self, block: bytes) -> answer.Blocks:
         if block not in self._answers:

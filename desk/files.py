@@ -10,14 +10,14 @@ from .errors import DeskError
 MOST_BYTES = 1 << 20  # no book or yard text is larger
 
 
-def read(path: str) -> bytes:
+def read(path: str, what: str = "a book", most: int = MOST_BYTES) -> bytes:
     try:
         with open(path, "rb") as source:
-            content = source.read(MOST_BYTES + 1)
+            content = source.read(most + 1)
     except OSError as error:
         raise DeskError(f"{path}: {error.strerror}") from None
-    if len(content) > MOST_BYTES:
-        raise DeskError(f"{path} is not a book: it has more than {MOST_BYTES} bytes")
+    if len(content) > most:
+        raise DeskError(f"{path} is not {what}: it has more than {most} bytes")
     return content
 
 

@@ -4,11 +4,12 @@ for it."""
 
 import json
 import math
-from typing import Any, Dict, Iterable, List, Optional, Sequence
+from typing import Any, Callable, Dict, Iterable, List, Optional, Sequence
 
 from . import answer, charge, explain, refusals, units
 from .blocks import bits_of, float_of, floats_at
 from .feed import ByMass, Feed
+from .question import Options
 from .ranges import Ranges
 from .report import phase_amounts
 from .sheet import NamedBook, Sheet
@@ -108,18 +109,13 @@ class Document:
         }
 
     def _question(self) -> Dict[str, Any]:
-        question, options, number = self.sheet.question, self.sheet.question.options, self.numbers.number
+        question, number = self.sheet.question, self.numbers.number
         return {
             "temperature_K": number(question.temperature),
             "pressure_Pa": number(question.pressure),
             **feed_document(self.sheet.feed, self.numbers),
             "k_values": self.numbers.by_name(question.k_values) if question.k_values else None,
-            "max_iterations": options.max_iterations,
-            "tolerance": number(options.tolerance),
-            "max_temperature_iterations": options.max_temperature_iterations,
-            "energy_tolerance": number(options.energy_tolerance),
-            "tm_threshold": number(options.tm_threshold),
-            "bracket_K": [number(end) for end in options.bracket],
+            **options_document(question.options, number),
         }
 
     def _by_mass(self) -> Dict[str, Any]:
@@ -185,6 +181,17 @@ class Document:
             "trivial": bool(words[answer.TRIAL_TRIVIAL]),
             "stopped_at": self.numbers.by_name(floats_at(words, answer.TRIAL_FRACTIONS, len(self.sheet.book.names))),
         }
+
+
+def options_document(options: Options, number: Callable[[float], Any]) -> Dict[str, Any]:
+    return {
+        "max_iterations": options.max_iterations,
+        "tolerance": number(options.tolerance),
+        "max_temperature_iterations": options.max_temperature_iterations,
+        "energy_tolerance": number(options.energy_tolerance),
+        "tm_threshold": number(options.tm_threshold),
+        "bracket_K": [number(end) for end in options.bracket],
+    }
 
 
 def feed_document(feed: Feed, numbers: Numbers) -> Dict[str, Any]:

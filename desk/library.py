@@ -3,12 +3,13 @@
 import ctypes
 import os
 from pathlib import Path
-from typing import Callable, Optional, Sequence
+from typing import Callable, List, Optional, Sequence
 
-from . import answer
+from . import answer, batch
 from .blocks import BLOCK, rule_of, sealed, words_of
 from .core import ROOT
 from .errors import DeskError
+from .feed import Fractions
 from .pool import Drum, bytes_of
 from .question import Question
 
@@ -29,6 +30,15 @@ def find() -> Optional[Path]:
     """The library, where it is built."""
     path = folder() / NAME
     return path.resolve() if path.is_file() else None
+
+
+def offers(name: str) -> bool:
+    """Whether it is built, and has a call of this name."""
+    path = find()
+    try:
+        return path is not None and bool(_loaded(path, name))
+    except DeskError:
+        return False
 
 
 class Library:
@@ -66,16 +76,29 @@ class Library:
         """The same as `ask_bytes` with drums, 64 bytes each."""
         return self._written(_loaded(self.path, "zektonk_pooled"), block, drums)
 
+    def ask_feeds(self, question: Question, feeds: Sequence[Fractions]) -> List[answer.Blocks]:
+        """With each of 1 to 64 feeds in place of the question's fractions, in one call."""
+        count, room = len(feeds), ctypes.create_string_buffer(ANSWER_ROOM * max(len(feeds), 1))
+        call = _loaded(self.path, "zektonk_feeds")
+        number = call(*_lent(self.book, question.block(self.rule), batch.bytes_of(feeds)), room, len(room))
+        if number:
+            raise batch.CallRefused(number)
+        return batch.parts_of(room.raw, count, self.rule)
+
     def _written(self, call: Callable[..., int], block: bytes, *drums: bytes) -> bytes:
         asked = block[:QUESTION_MOST]
         room = ctypes.create_string_buffer(ANSWER_ROOM)
-        slices = [part for lent in (self.book, asked, *drums) for part in (lent, len(lent))]
-        number = call(*slices, room, ANSWER_ROOM)
+        number = call(*_lent(self.book, asked, *drums), room, ANSWER_ROOM)
         if number:
             task = 0 if number in WITHOUT_TASK else words_of(asked)[answer.TASK]
             return sealed([answer.KIND_ANSWER, task, number], self.rule)
         trials = int.from_bytes(room[8 * answer.TRIALS : 8 * answer.TRIALS + 8], "little")
         return room[: BLOCK * (1 + trials)]
+
+
+def _lent(*slices: bytes) -> List[object]:
+    """Each with its length."""
+    return [part for lent in slices for part in (lent, len(lent))]
 
 
 def _loaded(path: Path, name: str = "zektonk_answer") -> Callable[..., int]:
@@ -84,6 +107,6 @@ def _loaded(path: Path, name: str = "zektonk_answer") -> Callable[..., int]:
         call = ctypes.CDLL(str(path))[name]
     except (OSError, AttributeError) as error:
         raise DeskError(f"the library {path} can't be called: {error}") from None
-    call.argtypes = [ctypes.c_char_p, ctypes.c_size_t] * (4 if name == "zektonk_pooled" else 3)
+    call.argtypes = [ctypes.c_char_p, ctypes.c_size_t] * (3 if name == "zektonk_answer" else 4)
     call.restype = ctypes.c_uint64
     return call

@@ -149,36 +149,43 @@ def feed_of(book: NamedBook, drum: Optional[List[str]], mass: Optional[List[str]
         parts = enumerate(drum)
         return charged(book, [_amounts(book, words, option_of(place, len(drum))) for place, words in parts])
     option, words = ("--drum", drum) if drum is not None else ("--mass", mass or [])
-    amounts = _amounts(book, ",".join(words), option)
+    return drum_of(book, _amounts(book, ",".join(words), option), option == "--mass", normalize, option)
+
+
+def drum_of(book: NamedBook, amounts: Dict[int, Amount], mass: bool, normalize: bool, called: str) -> Feed:
+    """One drum, its numbers without a unit of moles, or of mass; `called` is what complaints call it."""
+    if not mass and any(units.in_moles(given.value) for given in amounts.values()):
+        return charged(book, [amounts], [called])
     with_unit = [given for given in amounts.values() if units.has_unit(given.value)]
-    if with_unit and option == "--mass":
+    if with_unit and mass:
         name, value = with_unit[0]
-        raise DeskError(f"--mass: {name} {value}: mass fractions have no unit; weights go to --drum {name}={value}")
-    weighed = _weighed(book, amounts) if with_unit else None
-    if weighed or option == "--mass":
+        where = f"to --drum {name}={value}" if called == "--mass" else "into a list without --by-mass"
+        raise DeskError(f"{called}: {name} {value}: mass fractions have no unit; weights go {where}")
+    weighed = _weighed(book, amounts, called) if with_unit else None
+    if weighed or mass:
         book.expect_masses()
     if weighed:
         return weighed
-    numbers = _numbers(book, amounts, option)
+    numbers = _numbers(book, amounts, called)
     fractions = normalized(numbers) if normalize else numbers
-    return Feed(fractions, option == "--mass", numbers if fractions != numbers else None)
+    return Feed(fractions, mass, numbers if fractions != numbers else None)
 
 
-def _weighed(book: NamedBook, amounts: Dict[int, Amount]) -> Feed:
+def _weighed(book: NamedBook, amounts: Dict[int, Amount], called: str) -> Feed:
     """Weights, each by their sum: exact as they are written, and rounded once."""
     bare = [given.name for given in amounts.values() if not units.has_unit(given.value)]
     if bare:
         raise DeskError(
-            f"--drum: {', '.join(bare)} has no unit where another solvent has one; "
+            f"{called}: {', '.join(bare)} has no unit where another solvent has one; "
             f"give weights of all ({units.WEIGHTS}), or mole fractions of all"
         )
-    weights = {place: units.weight(given.value, f"--drum: {given.name}") for place, given in amounts.items()}
+    weights = {place: units.weight(given.value, f"{called}: {given.name}") for place, given in amounts.items()}
     total = sum(weights.values())
     if total <= 0:
-        raise DeskError(f"--drum: the weights sum to {float(total):g} kg, and fractions are parts of a positive sum")
+        raise DeskError(f"{called}: the weights sum to {float(total):g} kg, and fractions are parts of a positive sum")
     for place, weight in weights.items():
         if weight and float(weight / total) == 0:
-            raise DeskError(f"--drum: {amounts[place].name} {amounts[place].value} is too little beside the others")
+            raise DeskError(f"{called}: {amounts[place].name} {amounts[place].value} is too little beside the others")
     everything = [weights.get(place, 0) for place in range(len(book.names))]
     return Feed(tuple(float(w / total) for w in everything), True, None, tuple(map(float, everything)))
 

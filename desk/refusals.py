@@ -35,14 +35,17 @@ REFUSALS: Dict[int, Refusal] = {
     8: Refusal("a pair has a number that isn't finite", "correct that pair in the yard text"),
     9: Refusal("a pair's two alphas are not equal", "correct that pair; the yard text has one alpha for both"),
     10: Refusal(
-        "the room for the answer is less than 4,608 bytes",
+        "the room for the answer is less than 4,608 bytes, or less than that for each of many feeds",
         "this can't come from the program still; its caller has to lend more",
     ),
     11: Refusal(
         "the question is not one block of 512 bytes with kind 8 and the right check word",
         "this can't come from ./sheet; look at what wrote the question, whose check goes by the book's version",
     ),
-    12: Refusal("the task is not one of those that the core answers", "ask one of the nine commands"),
+    12: Refusal(
+        "the task is not one of those that the core answers, or not one that takes many feeds",
+        "ask one of the nine commands; many feeds go to excess, bubble-pressure, dew-pressure, stability and flash",
+    ),
     13: Refusal("the temperature is not finite and positive", "give a temperature above 0 K"),
     14: Refusal("the pressure is not finite and positive", "give a pressure above 0 Pa"),
     15: Refusal(
@@ -105,6 +108,10 @@ REFUSALS: Dict[int, Refusal] = {
         "the drums hold nothing at all, or more than 2^53 micromoles",
         "look at the amounts and units of each --drum; 2^53 micromoles are about 9,007,199,255 mol",
     ),
+    33: Refusal(
+        "there are not 1 to 64 whole feeds in one call",
+        "this can't come from ./sheet, which sends up to 64 at a time; its caller has to send the rest in another call",
+    ),
     34: Refusal(
         "a composition inside the calculation, or a drum by mass, can't be brought to fractions that sum to 1",
         "the drum is not to blame: vapor pressures or activity coefficients are so extreme that all parts vanish or "
@@ -138,7 +145,7 @@ def numbers() -> str:
     firsts = [number for number in known if number - 1 not in REFUSALS]
     lasts = [number for number in known if number + 1 not in REFUSALS]
     *all_but_one, last = [f"{a} to {b}" if a < b else f"{a}" for a, b in zip(firsts, lasts)]
-    return f"{', '.join(all_but_one)} and {last}"
+    return f"{', '.join(all_but_one)} and {last}" if all_but_one else last
 
 
 def matter(number: int) -> str:

@@ -129,7 +129,7 @@ class Report:
 
     def _coefficients(self, name: str, x: float, log: float, slope: float) -> Tuple[str, ...]:
         slope_words = repr(slope) if self.details else text.small(slope)
-        return name, self.fraction(x), text.plain(_exp(log), self.details), self.fraction(log), slope_words
+        return name, self.fraction(x), text.plain(shown_exp(log), self.details), self.fraction(log), slope_words
 
     def saturation(self) -> Lines:
         blocks = self.sheet.blocks
@@ -293,7 +293,7 @@ def marked(line: str) -> Lines:
     return [f"*** {part}{' ' * (text.WIDTH - 8 - text.width(part))} ***" for part in parts]
 
 
-def _exp(value: float) -> float:
+def shown_exp(value: float) -> float:
     """For display; too large to show is infinity."""
     try:
         return math.exp(value)

@@ -2,7 +2,7 @@
  * SPDX-License-Identifier: MIT
  *
  * The core as a C program calls it: a book, a question and room for an answer in, the answer's blocks or a number out;
- * by a second call with drums besides, whose pool is the feed.
+ * by a second call with drums besides, whose pool is the feed; by a third with up to 64 feeds, each answered by itself.
  * docs/FORMAT.md says what each word holds, docs/LINKING.md has the commands. Link with libzektonk.a, for x86-64 Linux.
  *
  * A block is 512 bytes: 64 little-endian words of 64 bits, a float as its bits. Word 63 is the check of words 0 to 62,
@@ -34,12 +34,14 @@ extern "C" {
 #define ZEKTONK_BOOK_LARGEST 18944 /* a book of eight solvents and their 28 pairs */
 #define ZEKTONK_BOOK_MOST 19456    /* one block more than any book has: reading up to here shows one that is too long */
 #define ZEKTONK_DRUM_BYTES 64      /* a drum: eight words, each a count of micromoles */
+#define ZEKTONK_FEED_BYTES 64      /* a feed among many: eight floats, in place of the question's fractions */
 
 /* Counts. */
 #define ZEKTONK_WORDS 64         /* of a block */
 #define ZEKTONK_SOLVENTS_MOST 8  /* of a book, and so entries of a row: fractions, K, liquid, vapor */
 #define ZEKTONK_TERMS_MOST 8     /* of a correlation */
 #define ZEKTONK_DRUMS_MOST 64    /* that pool into one charge */
+#define ZEKTONK_FEEDS_MOST 64    /* of one call */
 #define ZEKTONK_FORMAT_VERSION 1 /* word 1 of block 0 of a book without molar masses, */
 #define ZEKTONK_FORMAT_VERSION_MASS 2 /* of a book with them, which takes feeds by mass too, */
 #define ZEKTONK_FORMAT_VERSION_RUNNING 3 /* and of one whose checks are running sums besides */
@@ -146,7 +148,7 @@ enum zektonk_feed { ZEKTONK_FEED_MOLES = 0, ZEKTONK_FEED_MASS = 1 };
 /* Words of an answer. docs/FORMAT.md has which of them a task fills; the others are 0. */
 enum zektonk_answer_word {
     ZEKTONK_ANSWER_WORD_TASK = 1,
-    ZEKTONK_ANSWER_WORD_REFUSAL = 2, /* 0, but in the one block that the program `still` writes for a refusal */
+    ZEKTONK_ANSWER_WORD_REFUSAL = 2, /* 0, but in the one block of a refused feed, or that the program `still` writes */
     ZEKTONK_ANSWER_WORD_OUTCOME = 3,
     ZEKTONK_ANSWER_WORD_TEMPERATURE = 4, /* K */
     ZEKTONK_ANSWER_WORD_PRESSURE = 5,    /* Pa */
@@ -210,7 +212,8 @@ enum zektonk_validity { ZEKTONK_UNASSESSED = 0, ZEKTONK_WITHIN = 1, ZEKTONK_EXTR
 /*
  * The first question that was answered no: 1 to 21 in this order, with 38 between 1 and 2, 37 after 3, 35 after 5, 36
  * after 12 and, of a feed by mass, 34 after 18; the others, and 15 to 18 and 34 once more, where the calculation puts
- * them. 31 and 32 are zektonk_pooled's alone, after 12 and ahead of 36.
+ * them. 31 and 32 are zektonk_pooled's alone, after 12 and ahead of 36; 33 is zektonk_feeds's alone, after 9 and ahead
+ * of 10.
  */
 enum zektonk_refusal {
     ZEKTONK_ANSWERED = 0,
@@ -223,9 +226,9 @@ enum zektonk_refusal {
     ZEKTONK_PAIR_BLOCK = 7,               /* kind, i and j, or a flag not 0 or 1 */
     ZEKTONK_PAIR_NUMBER = 8,              /* a float not finite */
     ZEKTONK_PAIR_ALPHAS = 9,              /* alpha_ij and alpha_ji differ; NRTL */
-    ZEKTONK_ANSWER_SHORT = 10,            /* fewer than ZEKTONK_ANSWER_ROOM bytes */
+    ZEKTONK_ANSWER_SHORT = 10,            /* fewer than ZEKTONK_ANSWER_ROOM bytes, of zektonk_feeds for each feed */
     ZEKTONK_QUESTION_BLOCK = 11,          /* not 512 bytes, its check by the book's version, or its kind */
-    ZEKTONK_TASK = 12,                    /* none of 1 to 9 */
+    ZEKTONK_TASK = 12,                    /* none of 1 to 9; of zektonk_feeds none of 1, 2, 3, 6 and 7 */
     ZEKTONK_TEMPERATURE = 13,             /* not finite and positive */
     ZEKTONK_PRESSURE = 14,                /* not finite and positive */
     ZEKTONK_NOT_FINITE = 15,              /* a fraction or a K value */
@@ -246,6 +249,7 @@ enum zektonk_refusal {
     ZEKTONK_VAPOR_FRACTION_OUTSIDE = 30,  /* of (0,1) */
     ZEKTONK_DRUMS_LENGTH = 31,            /* not 1 to 64 drums of 64 bytes */
     ZEKTONK_DRUMS_TOTAL = 32,             /* the counts read sum to 0, or to more than 2^53 */
+    ZEKTONK_FEEDS_LENGTH = 33,            /* not 1 to 64 feeds of 64 bytes */
     ZEKTONK_NOT_NORMALIZABLE = 34,        /* the sum of a composition's parts is not finite and positive; of a feed by
                                              mass too */
     ZEKTONK_MOLAR_MASS = 35,              /* not finite and positive, in a book of version 2 or 3 */
@@ -292,6 +296,28 @@ uint64_t zektonk_answer(const uint8_t *book, size_t book_len, const uint8_t *que
  */
 uint64_t zektonk_pooled(const uint8_t *book, size_t book_len, const uint8_t *question, size_t question_len,
                         const uint8_t *drums, size_t drums_len, uint8_t *answer, size_t answer_len);
+
+/*
+ * One question put to each of 1 to 64 feeds, for tasks 1, 2, 3, 6 and 7. A feed is ZEKTONK_FEED_BYTES bytes: eight
+ * floats that stand in place of words 4 to 11 of the question (zektonk_put_floats writes them), of which as many are
+ * read as the book has solvents. Word 27 of the question says whether all of them are of moles or of mass. The tables
+ * of the temperature are worked out once.
+ *
+ * Gives 0, and feed k has its own ZEKTONK_ANSWER_ROOM bytes of `answers`, from ZEKTONK_ANSWER_ROOM * k on
+ * (zektonk_feed_answer): at their front the blocks of its answer, or one block with the number that refuses it in
+ * ZEKTONK_ANSWER_WORD_REFUSAL, as the program `still` writes it; the bytes behind these stay as they were. Or gives a
+ * number put ahead of 11, which ends the whole call, with every byte of `answers` as it was: one of the book's, 33 for
+ * the feeds, or 10, `answers` being shorter than ZEKTONK_ANSWER_ROOM bytes for each of them.
+ *
+ * - What a feed gets is what zektonk_answer says to the question with these fractions in words 4 to 11 and its check
+ *   right, answer or number. A refused feed doesn't stop the others.
+ * - 11 is put to the question as it is sent, its own words 4 to 11 under its check; where it fails 11, or 12, every feed
+ *   has that number.
+ * - All that holds of zektonk_answer holds of this call, of `feeds` what holds of `book` and `question`: it is only
+ *   read, any alignment and length will do, and `answers` overlaps none of them.
+ */
+uint64_t zektonk_feeds(const uint8_t *book, size_t book_len, const uint8_t *question, size_t question_len,
+                       const uint8_t *feeds, size_t feeds_len, uint8_t *answers, size_t answers_len);
 
 /* Word `at` of a block, 0 to 63, copied: x86-64 has the lowest byte first, as blocks have. */
 static inline uint64_t zektonk_get_word(const uint8_t *block, size_t at)
@@ -346,6 +372,12 @@ static inline void zektonk_seal_by(uint8_t *block, uint64_t version)
 static inline void zektonk_seal(uint8_t *block)
 {
     zektonk_seal_by(block, ZEKTONK_FORMAT_VERSION);
+}
+
+/* The bytes of feed k in the answers of zektonk_feeds. */
+static inline const uint8_t *zektonk_feed_answer(const uint8_t *answers, size_t k)
+{
+    return answers + ZEKTONK_ANSWER_ROOM * k;
 }
 
 /* How many blocks a book of n solvents has. */

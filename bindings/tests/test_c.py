@@ -62,6 +62,18 @@ class Examples(InFolder):
         run = self.run_in_folder("sh", "-c", f'"{program}" nowhere "{QUESTION}"; echo "status $?"')
         self.assertTrue(run.stdout.endswith(b"refused: 1\nstatus 1\n"))
 
+    def test_feeds_puts_one_question_to_a_week(self):
+        """The first drum is that of the stored question; the third is refused."""
+        program = self.compiled(C / "feeds.c")
+        self.assert_stored("feeds.txt", self.run_in_folder(program, BOOK, QUESTION).stdout.decode("ascii"))
+        with desk.Core(BOOK.read_bytes()) as core:
+            due = core.ask_block(QUESTION.read_bytes()).real(desk.answer.VAPOR_FRACTION)
+        lines = (C / "feeds.txt").read_text(encoding="ascii").splitlines()
+        self.assertEqual((len(lines), lines[0]), (4, f"ethanol 0.5, water 0.5: vapor fraction {due:.17g}"))
+        self.assertEqual(lines[2], "ethanol 0.5, water 0.4: refused: 18")
+        run = self.run_in_folder("sh", "-c", f'"{program}" nowhere "{QUESTION}"; echo "status $?"')
+        self.assertTrue(run.stdout.endswith(b"refused: 1\nstatus 1\n"))
+
     def test_header_alone(self):
         self.compiled(C / "ask.c")
         strict = ("-fsyntax-only", "-Wsign-conversion", *WARNINGS)

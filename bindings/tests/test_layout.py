@@ -6,6 +6,7 @@ import unittest
 from typing import Dict
 
 import desk.answer
+import desk.batch
 import desk.blocks
 import desk.book
 import desk.pool
@@ -200,9 +201,8 @@ class Definitions(unittest.TestCase):
             self.assertEqual(numbers_of(question), {REFUSAL[name]}, name)
         self.assertEqual({number for _, number in spent()}, {REFUSAL["NOT_CONVERGED"]})
         self.assertEqual(set(REFUSAL) - set(QUESTIONS), {"ANSWERED", "NOT_CONVERGED"})
-        self.assertEqual(sorted(REFUSAL.values()), [*range(33), *range(34, 39)])
+        self.assertEqual(sorted(REFUSAL.values()), list(range(39)))
         self.assertIn(f"numberOf (ok bs) = {REFUSAL['ANSWERED']}", stated("sheet::numberOf"))
-
 
     def test_drums(self):
         """64 bytes of eight counts; 31, 32 and 36 in this order, ahead of what the feed is asked."""
@@ -217,6 +217,23 @@ class Definitions(unittest.TestCase):
         asked = " (".join(f"need ({test}) {REFUSAL[name]}" for name, test in tests.items())
         self.assertTrue(body("drumsTo").startswith(f"{asked} (bind (poolFeed drums n)"), body("drumsTo"))
         self.assertRegex(body("pooledFrom"), r"^roomy room \(bind \(taskIn .*\) \(λ task\. drumsTo ")
+
+    def test_feeds(self):
+        """64 bytes of eight floats; 33 and 10 behind the book, then feed by feed 11, 12 for the tasks at a temperature
+        alone, and 36."""
+        size, most = (macros()[f"ZEKTONK_{name}"] for name in ("FEED_BYTES", "FEEDS_MOST"))
+        self.assertEqual(int(size), 8 * MOST)
+        self.assertEqual(body("feedCount"), f"length feeds / {size}")
+        self.assertEqual(body("feedsRight"), f"eqb (length feeds % {size}) 0 && within 1 {most} (feedCount feeds)")
+        self.assertEqual(body("feedAt"), f"vec (λ i. float (word feeds) ({MOST} * k + i)) n")
+        short, many = REFUSAL["ANSWER_SHORT"], REFUSAL["FEEDS_LENGTH"]
+        room = f"need (leb (answerRoom * feedCount feeds) (length old)) {short}"
+        self.assertIn(f"bind (bookOf book) (λ h. need (feedsRight feeds) {many} ({room} (ok ", body("feedsOf"))
+        kind = f"need (kindRight version (word question)) {REFUSAL['FEED_KIND']}"
+        asked = f"need (needsTemperature task) {REFUSAL['TASK']} ({kind} "
+        self.assertIn(f"bind (taskIn (ruleOf book) question) (λ task. {asked}", body("taskAmong"))
+        self.assertIn("put l (answerRoom * j) (feedReply ", body("partsTo"))
+        self.assertEqual(body("needsTemperature"), "within 1 3 k || within 6 7 k")
 
 
 def summed(name: str) -> int:
@@ -250,7 +267,7 @@ QUESTIONS = {
     "ANSWER_SHORT": r"leb \w+ room",
     "QUESTION_BLOCK": r"checkRight (?:rule )?\(word q\)",
     "TASK": r"isTask",
-    "TEMPERATURE": r"(?:needsTemperature|temperatureRight)",
+    "TEMPERATURE": r"temperatureRight",
     "PRESSURE": r"(?:needsPressure|pressureRight)",
     "NOT_FINITE": r"(?:isFinite \(fraction|inputsFinite)",
     "FRACTION_NEGATIVE": r"(?:lt \(fraction w i\) 0f|noneNegative \(at x\))",
@@ -269,6 +286,7 @@ QUESTIONS = {
     "VAPOR_FRACTION_OUTSIDE": r"inside \(s \.vaporFraction\)",
     "DRUMS_LENGTH": r"drumsRight",
     "DRUMS_TOTAL": r"totalRight",
+    "FEEDS_LENGTH": r"feedsRight",
     "NOT_NORMALIZABLE": r"(?:lt 0f|positive) \(sumTo x n\)",
     "MOLAR_MASS": r"massesRight",
     "FEED_KIND": r"kindRight",
@@ -365,6 +383,13 @@ class Desk(unittest.TestCase):
         self.assertEqual(found, tuple(int(macros()[f"ZEKTONK_{n}"]) for n in ("DRUM_BYTES", "DRUMS_MOST", "POOL_MOST")))
         numbers = (desk.pool.DRUMS, desk.pool.TOTAL, desk.pool.NOT_MOLES)
         self.assertEqual(numbers, tuple(REFUSAL[name] for name in ("DRUMS_LENGTH", "DRUMS_TOTAL", "FEED_KIND")))
+
+    def test_feeds(self):
+        found = (desk.batch.FEED_BYTES, desk.batch.MOST_FEEDS, desk.batch.PART)
+        names = ("FEED_BYTES", "FEEDS_MOST", "ANSWER_ROOM")
+        self.assertEqual(found, tuple(int(macros()[f"ZEKTONK_{name}"]) for name in names))
+        self.assertEqual((desk.batch.FEEDS, desk.batch.TASK), (REFUSAL["FEEDS_LENGTH"], REFUSAL["TASK"]))
+        self.assertEqual([task.number for task in desk.batch.TASKS], [1, 2, 3, 6, 7])
 
     def test_tasks_and_refusals(self):
         functions = {task.function.replace("activity_", "").upper(): task.number for task in desk.tasks.TASKS}

@@ -3,7 +3,7 @@
 use crate::stage::{Stage, STAGES};
 
 pub const USAGE: &str =
-    "numbers|fractions|book|pressure|excess|rice|sheet|mass|exchanged|wilson|pooled|all [--count N] [--seed S] [--counts]";
+    "numbers|fractions|book|pressure|excess|rice|sheet|mass|exchanged|wilson|pooled|feeds|all [--count N] [--seed S] [--counts]";
 
 pub struct Options {
     pub stages: Vec<Stage>,
@@ -36,7 +36,8 @@ impl Options {
         self.count.unwrap_or(match stage {
             Stage::Numbers => 4_000_000,
             Stage::Fractions | Stage::Book | Stage::Pressure | Stage::Excess | Stage::Rice => 400_000,
-            Stage::Sheet | Stage::Mass | Stage::Exchanged | Stage::Wilson | Stage::Pooled => 200_000,
+            Stage::Feeds => 20_000,
+            _ => 200_000,
         })
     }
 }

@@ -1,16 +1,24 @@
 //! How often the generator's sheets are accepted, and refused by each number.
 
-pub mod drums;
+mod drums;
+mod feeds;
+mod kinds;
 
 use std::collections::BTreeMap;
+
+use drums::Drums;
+use feeds::Feeds;
 
 use crate::generate::cases::{Cases, Kind};
 use crate::generate::exchanged::{Exchange, PLACES};
 use crate::sheet::blocks::{rule_of, words_of, Rule, BLOCK};
 use crate::sheet::book::WILSON;
+use crate::sheet::feeds::FEED;
 use crate::sheet::pool::pool;
 use crate::sheet::question::{BASIS, BY_MASS, FRACTIONS, TASK};
-use crate::stage::{Case, Stage};
+use crate::sheet::reply::REFUSAL;
+use crate::stage::{bytes_as_words, parts, Case, Found, Stage};
+use crate::with::With;
 
 /// Counts by refusal number; 0 is an answer.
 #[derive(Debug, Clone, Default)]
@@ -69,11 +77,14 @@ pub struct SheetCounts {
 }
 
 impl SheetCounts {
-    pub fn add(&mut self, kind: Kind, case: &Case, refusal: u32) {
+    fn add(&mut self, kind: Kind, case: &Case, found: &Found) {
+        outcomes(case, found).into_iter().for_each(|outcome| self.add_outcome(kind, case, outcome));
+    }
+
+    fn add_outcome(&mut self, kind: Kind, case: &Case, outcome: Outcome) {
         let Some((book, question)) = case.sheet() else { return };
         let words = if question.len() == BLOCK { words_of(question) } else { [0; 64] };
         let task = task_of(question);
-        let absent = refusal == 0 && has_absent(case, &words, words_of(&book[..BLOCK])[2] as usize);
         let mut tallies = vec![self.all.entry(task).or_default()];
         *self.ordinary.entry(task).or_default() += usize::from(kind.is_ordinary());
         if kind == Kind::Realistic {
@@ -86,12 +97,12 @@ impl SheetCounts {
             tallies.push(self.wilson.entry(task).or_default());
         }
         for tally in tallies {
-            tally.add(refusal);
-            tally.absent += usize::from(absent);
+            tally.add(outcome.number);
+            tally.absent += usize::from(outcome.absent);
         }
     }
 
-    pub fn print(&self) {
+    fn print(&self) {
         for (task, tally) in &self.all {
             let realistic = self.realistic.get(task).cloned().unwrap_or_default();
             println!(
@@ -224,20 +235,77 @@ fn is_wilson(book: &[u8]) -> bool {
     book.get(..BLOCK).is_some_and(|head| matches!(words_of(head)[1..4], [2 | 3, _, WILSON]))
 }
 
-fn has_absent(case: &Case, question: &[u64; 64], n: usize) -> bool {
-    if let Case::Pooled { drums, .. } = case {
-        return pool(drums, n).is_ok_and(|counts| counts.contains(&0));
+/// What became of a feed.
+struct Outcome {
+    number: u32,
+    /// Accepted, with an absent solvent.
+    absent: bool,
+}
+
+/// One of a call, or one of each feed where the call has many and wasn't ended.
+fn outcomes(case: &Case, found: &Found) -> Vec<Outcome> {
+    let Some((book, question)) = case.sheet() else { return Vec::new() };
+    let has_zero = |bytes: &[u8]| {
+        let n = words_of(&book[..BLOCK])[2] as usize;
+        bytes_as_words(bytes)[..n].iter().any(|word| f64::from_bits(*word) == 0.0)
+    };
+    match case {
+        Case::With { with: With::Feeds, lent, .. } if found.refusal == 0 => {
+            let feeds = lent.chunks(FEED).zip(parts(&found.words, lent.len() / FEED));
+            let outcome = |(feed, part): (&[u8], &[u64])| {
+                let number = part[REFUSAL] as u32;
+                Outcome { number, absent: number == 0 && has_zero(feed) }
+            };
+            feeds.map(outcome).collect()
+        }
+        Case::With { with: With::Drums, lent, .. } => {
+            let lacking = |n: usize| pool(lent, n).is_ok_and(|counts| counts.contains(&0));
+            vec![Outcome {
+                number: found.refusal,
+                absent: found.refusal == 0 && lacking(words_of(&book[..BLOCK])[2] as usize),
+            }]
+        }
+        _ => {
+            vec![Outcome { number: found.refusal, absent: found.refusal == 0 && has_zero(&question[8 * FRACTIONS..]) }]
+        }
     }
-    question[FRACTIONS..FRACTIONS + n].iter().any(|word| f64::from_bits(*word) == 0.0)
+}
+
+/// All that is told of a stage's cases.
+#[derive(Debug, Default)]
+pub struct Counts {
+    /// Of the calls.
+    pub all: Tally,
+    sheets: SheetCounts,
+    drums: Drums,
+    feeds: Feeds,
+}
+
+impl Counts {
+    pub fn add(&mut self, kind: Kind, case: &Case, found: &Found) {
+        self.all.add(found.refusal);
+        self.sheets.add(kind, case, found);
+        self.drums.add(case, found.refusal);
+        self.feeds.add(case, found);
+    }
+
+    pub fn print(&self, stage: Stage) {
+        self.sheets.print();
+        match stage {
+            Stage::Pooled => self.drums.print(),
+            Stage::Feeds => self.feeds.print(),
+            _ => {}
+        }
+    }
 }
 
 /// Sheets counted by the reference alone.
-pub fn count_sheets(stage: Stage, seed: u64, count: usize) -> SheetCounts {
+pub fn count_sheets(stage: Stage, seed: u64, count: usize) -> Counts {
     let mut cases = Cases::new(stage, seed, false);
-    let mut counts = SheetCounts::default();
+    let mut counts = Counts::default();
     for _ in 0..count {
         let (kind, case) = cases.draw();
-        counts.add(kind, &case, case.expected().refusal);
+        counts.add(kind, &case, &case.expected());
     }
     counts
 }

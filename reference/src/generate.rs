@@ -1,6 +1,7 @@
 //! Seeded inputs: realistic, wild, damaged and at the boundaries.
 
 pub mod absent;
+pub mod batches;
 pub mod books;
 pub mod cases;
 pub mod differences;

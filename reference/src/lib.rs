@@ -13,3 +13,4 @@ pub mod stage;
 pub mod steps;
 pub mod strike;
 pub mod types;
+pub mod with;

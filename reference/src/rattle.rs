@@ -76,6 +76,17 @@ extern "C" {
         answer: *mut u8,
         answer_len: usize,
     ) -> u64;
+    /// The same for many feeds.
+    pub fn zektonk_feeds(
+        book: *const u8,
+        book_len: usize,
+        question: *const u8,
+        question_len: usize,
+        feeds: *const u8,
+        feeds_len: usize,
+        answers: *mut u8,
+        answers_len: usize,
+    ) -> u64;
 }
 
 /// `Some` of the call where its stage is built in.
@@ -178,18 +189,29 @@ pub fn answer(book: &[u8], question: &[u8], answer: &mut [u8]) -> Option<u64> {
     )
 }
 
-pub fn pooled(book: &[u8], question: &[u8], drums: &[u8], answer: &mut [u8]) -> Option<u64> {
-    offered!(
-        "pooled",
-        zektonk_pooled(
-            book.as_ptr(),
-            book.len(),
-            question.as_ptr(),
-            question.len(),
-            drums.as_ptr(),
-            drums.len(),
-            answer.as_mut_ptr(),
-            answer.len()
+/// A call of three slices that are read and one that is written.
+macro_rules! with_one_more {
+    ($feature:literal, $symbol:ident($first:ident, $second:ident, $third:ident, $answer:ident)) => {
+        offered!(
+            $feature,
+            $symbol(
+                $first.as_ptr(),
+                $first.len(),
+                $second.as_ptr(),
+                $second.len(),
+                $third.as_ptr(),
+                $third.len(),
+                $answer.as_mut_ptr(),
+                $answer.len()
+            )
         )
-    )
+    };
+}
+
+pub fn pooled(book: &[u8], question: &[u8], drums: &[u8], answer: &mut [u8]) -> Option<u64> {
+    with_one_more!("pooled", zektonk_pooled(book, question, drums, answer))
+}
+
+pub fn feeds(book: &[u8], question: &[u8], feeds: &[u8], answers: &mut [u8]) -> Option<u64> {
+    with_one_more!("feeds", zektonk_feeds(book, question, feeds, answers))
 }

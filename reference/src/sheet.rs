@@ -1,7 +1,9 @@
 //! The sheet of docs/FORMAT.md: book and question in, answer and trial blocks or a refusal number out.
 
+pub mod anew;
 pub mod blocks;
 pub mod book;
+pub mod feeds;
 pub mod pool;
 pub mod question;
 pub mod reply;

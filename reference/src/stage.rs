@@ -1,6 +1,7 @@
 //! The stages of the comparison: a case is an input; both sides turn it into words that have to be equal.
 
 use std::fmt::Write;
+use std::hint::black_box;
 
 use crate::helpers::{self, bits_of};
 use crate::named::liquid::Correlation;
@@ -8,8 +9,11 @@ use crate::named::rachford_rice::{rachford_rice, rachford_rice_negative, Rachfor
 use crate::rattle;
 use crate::sheet::blocks::Rule;
 use crate::sheet::book::{Pairs, Solvent};
-use crate::sheet::{self, open_book, pool, Book};
+use crate::sheet::feeds::FEED;
+use crate::sheet::reply::TRIALS;
+use crate::sheet::{self, open_book, Book, ANSWER_BYTES};
 use crate::types::Temperature;
+use crate::with::With;
 
 #[derive(Debug, Clone, Copy, PartialEq, Eq)]
 pub enum Stage {
@@ -28,9 +32,11 @@ pub enum Stage {
     Wilson,
     /// Sheets with drums.
     Pooled,
+    /// Sheets with many feeds.
+    Feeds,
 }
 
-pub const STAGES: [Stage; 11] = [
+pub const STAGES: [Stage; 12] = [
     Stage::Numbers,
     Stage::Fractions,
     Stage::Book,
@@ -42,6 +48,7 @@ pub const STAGES: [Stage; 11] = [
     Stage::Exchanged,
     Stage::Wilson,
     Stage::Pooled,
+    Stage::Feeds,
 ];
 
 impl Stage {
@@ -58,6 +65,7 @@ impl Stage {
             Stage::Exchanged => "exchanged",
             Stage::Wilson => "wilson",
             Stage::Pooled => "pooled",
+            Stage::Feeds => "feeds",
         }
     }
 
@@ -82,11 +90,12 @@ impl Stage {
             Stage::Exchanged => cfg!(feature = "exchanged"),
             Stage::Wilson => cfg!(feature = "wilson"),
             Stage::Pooled => cfg!(feature = "pooled"),
+            Stage::Feeds => cfg!(feature = "feeds"),
         }
     }
 
     pub fn has_sheets(self) -> bool {
-        matches!(self, Stage::Sheet | Stage::Mass | Stage::Exchanged | Stage::Wilson | Stage::Pooled)
+        !matches!(self, Stage::Numbers | Stage::Fractions | Stage::Book | Stage::Pressure | Stage::Excess | Stage::Rice)
     }
 }
 
@@ -145,11 +154,12 @@ pub enum Case {
         question: Vec<u8>,
         room: usize,
     },
-    /// A sheet whose feed is the pool of the drums.
-    Pooled {
+    /// A sheet with one slice more.
+    With {
+        with: With,
         book: Vec<u8>,
         question: Vec<u8>,
-        drums: Vec<u8>,
+        lent: Vec<u8>,
         room: usize,
     },
 }
@@ -183,9 +193,9 @@ impl Case {
                 let number = sheet::answer(book, question, &mut answer);
                 refused_or(number, bytes_as_words(&answer))
             }
-            Case::Pooled { book, question, drums, room } => {
+            Case::With { with, book, question, lent, room } => {
                 let mut answer = unwritten(*room);
-                let number = pool::answer(book, question, drums, &mut answer);
+                let number = with.reference(book, question, lent, &mut answer);
                 refused_or(number, bytes_as_words(&answer))
             }
         }
@@ -194,7 +204,7 @@ impl Case {
     /// Book and question, where the case is a sheet.
     pub fn sheet(&self) -> Option<(&[u8], &[u8])> {
         match self {
-            Case::Sheet { book, question, .. } | Case::Pooled { book, question, .. } => Some((book, question)),
+            Case::Sheet { book, question, .. } | Case::With { book, question, .. } => Some((book, question)),
             _ => None,
         }
     }
@@ -231,10 +241,13 @@ impl Case {
                 let number = rattle::answer(book, question, &mut answer)?;
                 Some(with_number(number, bytes_as_words(&answer)))
             }
-            Case::Pooled { book, question, drums, room } => {
-                let mut answer = unwritten(*room);
-                let number = rattle::pooled(book, question, drums, &mut answer)?;
-                Some(with_number(number, bytes_as_words(&answer)))
+            Case::With { with, book, question, lent, room } => {
+                let (own, mut answer) = (book.clone(), unwritten(*room));
+                let number = with.core(&own, question, lent, &mut answer)?;
+                let mut words = with_number(number, bytes_as_words(&answer));
+                // A word too many: the book was written.
+                words.extend((black_box(&own) != book).then_some(0));
+                Some(words)
             }
         }
     }
@@ -268,8 +281,8 @@ impl Case {
                 hex_bytes(&mut line, question);
                 hex(&mut line, &[*room as u64]);
             }
-            Case::Pooled { book, question, drums, room } => {
-                for bytes in [book, question, drums] {
+            Case::With { book, question, lent, room, .. } => {
+                for bytes in [book, question, lent] {
                     hex_bytes(&mut line, bytes);
                 }
                 hex(&mut line, &[*room as u64]);
@@ -282,8 +295,10 @@ impl Case {
     pub fn stored(&self) -> Vec<u64> {
         let mut words = self.expected().words;
         let kept = match self {
-            // Word 12 of the answer block is the number of trials.
-            Case::Sheet { .. } | Case::Pooled { .. } if words[0] == 0 => 1 + 64 * (1 + words[1 + 12] as usize),
+            Case::With { with: With::Feeds, lent, .. } if words[0] == 0 => {
+                return blocks_of_feeds(&words, lent.len() / FEED)
+            }
+            Case::Sheet { .. } | Case::With { .. } if words[0] == 0 => 1 + written_words(&words[1..]),
             Case::Normalize { .. } | Case::Pressure { .. } | Case::Excess { .. } if words[0] == 0 => words.len(),
             Case::Rice { .. } if words[0] == 3 => words.len(),
             Case::Number { .. } | Case::Fractions { .. } | Case::Book { .. } => words.len(),
@@ -314,9 +329,24 @@ impl Case {
             Case::Rice { negative: false, .. } => "rachford_rice",
             Case::Rice { negative: true, .. } => "rachford_rice_negative",
             Case::Sheet { .. } => "answer",
-            Case::Pooled { .. } => "pooled",
+            Case::With { with, .. } => with.name(),
         }
     }
+}
+
+/// Of an answer block, whose word 12 is the number of trials, and those.
+fn written_words(answer: &[u64]) -> usize {
+    64 * (1 + answer[TRIALS] as usize)
+}
+
+/// The part of each feed in the words of an accepted call.
+pub fn parts(words: &[u64], feeds: usize) -> impl Iterator<Item = &[u64]> {
+    words[1..].chunks(ANSWER_BYTES / 8).take(feeds)
+}
+
+fn blocks_of_feeds(words: &[u64], feeds: usize) -> Vec<u64> {
+    let written = parts(words, feeds).flat_map(|part| &part[..written_words(part)]);
+    words[..1].iter().chain(written).copied().collect()
 }
 
 fn answered(words: Vec<u64>) -> Found {
@@ -353,8 +383,12 @@ pub fn padded(values: &[f64]) -> [f64; 8] {
     std::array::from_fn(|k| values.get(k).copied().unwrap_or(0.0))
 }
 
+/// Noise without a period.
 fn unwritten(room: usize) -> Vec<u8> {
-    (0..room).map(|k| (k * 7 + 3) as u8).collect()
+    let word = |k: usize| (k as u64 + 1).wrapping_mul(0x9e37_79b9_7f4a_7c15).to_le_bytes();
+    let mut bytes: Vec<u8> = (0..room.div_ceil(8)).flat_map(word).collect();
+    bytes.truncate(room);
+    bytes
 }
 
 /// Eight bytes a word, the last one filled up with zeros.

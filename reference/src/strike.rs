@@ -3,10 +3,12 @@
 
 use crate::generate::small::{bytes, sealed_by};
 use crate::generate::Rng;
+use crate::sheet::anew::word;
 use crate::sheet::blocks::{rule_of, words_of, Words, BLOCK};
 use crate::sheet::book::due_pairs;
+use crate::sheet::feeds::{bytes_of_feeds, FEED};
 use crate::sheet::question::{BASIS, BY_MASS, FRACTIONS, K_VALUES};
-use crate::sheet::reply::{LIQUID, TRIALS, VAPOR};
+use crate::sheet::reply::{LIQUID, REFUSAL, TRIALS, VAPOR};
 use crate::sheet::ANSWER_BYTES;
 
 pub const TASKS: [u64; 9] = [1, 2, 3, 4, 5, 6, 7, 8, 9];
@@ -24,6 +26,28 @@ pub fn reference(book: &[u8], question: &[u8], answer: &mut [u8]) -> u64 {
 
 pub fn core(book: &[u8], question: &[u8], answer: &mut [u8]) -> u64 {
     crate::rattle::answer(book, question, answer).expect("built with the sheet")
+}
+
+/// The core's call with many feeds: the question's own is the second of three, and its part is the answer. A refusal block counts as
+/// its number, and as unwritten.
+pub fn core_feeds(book: &[u8], question: &[u8], answer: &mut [u8]) -> u64 {
+    let own = &question[8 * FRACTIONS..8 * FRACTIONS + FEED];
+    // The first is refused; the third has all solvents.
+    let n = word(book, 2) as usize;
+    let equal = [1.0 / n as f64; 8];
+    let feeds = [&bytes_of_feeds(&[[f64::NAN; 8]]), own, &bytes_of_feeds(&[equal])].concat();
+    let mut answers = [&[0; ANSWER_BYTES], &*answer, &[0; ANSWER_BYTES]].concat();
+    let number = crate::rattle::feeds(book, question, &feeds, &mut answers).expect("built with the feeds");
+    if number != 0 {
+        return number;
+    }
+    assert_eq!(word(&answers, REFUSAL), 15, "a feed of NaN");
+    let part = &answers[ANSWER_BYTES..];
+    let refusal = word(part, REFUSAL);
+    if refusal == 0 {
+        answer[..ANSWER_BYTES].copy_from_slice(&part[..ANSWER_BYTES]);
+    }
+    refusal
 }
 
 #[derive(Debug, Clone)]

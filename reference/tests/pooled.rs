@@ -61,7 +61,7 @@ impl Pooled {
 
 fn generated(seed: u64, count: usize) -> impl Iterator<Item = Pooled> {
     Cases::new(Stage::Pooled, seed, false).take(count).map(|case| match case {
-        Case::Pooled { book, question, drums, .. } => Pooled { book, question, drums },
+        Case::With { book, question, lent: drums, .. } => Pooled { book, question, drums },
         _ => panic!("a sheet with drums"),
     })
 }
@@ -282,7 +282,7 @@ fn generated_sheets() {
     for case in Cases::new(Stage::Pooled, 83, false).take(40_000) {
         let number = case.expected().refusal;
         numbers[number as usize] += 1;
-        let Case::Pooled { book, question, drums, .. } = case else { panic!("a sheet with drums") };
+        let Case::With { book, question, lent: drums, .. } = case else { panic!("a sheet with drums") };
         if number == 0 {
             accepted[words_of(&question)[TASK] as usize] += 1;
             let n = words_of(&book[..BLOCK])[2] as usize;

@@ -456,7 +456,7 @@ mod tests {
     #[test]
     fn refusal_block_of_the_program() {
         assert_eq!(Answer::decode(&head(7).word(REFUSAL, 27).seal(), 2), Ok(Err(Refusal::NotConverged)));
-        assert_eq!(Answer::decode(&head(0).word(REFUSAL, 33).seal(), 2), Err(Malformed::Word(0, REFUSAL)));
+        assert_eq!(Answer::decode(&head(0).word(REFUSAL, 39).seal(), 2), Err(Malformed::Word(0, REFUSAL)));
     }
 
     #[test]

@@ -1,4 +1,4 @@
-//! The two calls of the core.
+//! The three calls of the core.
 
 use crate::Refusal;
 
@@ -21,6 +21,17 @@ extern "C" {
         drums_len: usize,
         answer: *mut u8,
         answer_len: usize,
+    ) -> u64;
+
+    fn zektonk_feeds(
+        book: *const u8,
+        book_len: usize,
+        question: *const u8,
+        question_len: usize,
+        feeds: *const u8,
+        feeds_len: usize,
+        answers: *mut u8,
+        answers_len: usize,
     ) -> u64;
 }
 
@@ -120,9 +131,63 @@ pub fn pooled_bytes(book: &[u8], question: &[u8], drums: &[u8], answer: &mut [u8
     ended(number)
 }
 
+/// One question put to each of 1 to 64 feeds, for tasks 1, 2, 3, 6 and 7. Each is 64 bytes, eight little-endian floats
+/// that stand in place of words 4 to 11 of the question; as many are read as the book has solvents, and word 27 says
+/// whether all of them are of moles or of mass. What is said of [`answer_bytes`] holds of this call too.
+///
+/// Feed k has the bytes of `answers` from [`ANSWER_ROOM`](crate::ANSWER_ROOM) × k on, as many as that: the blocks of its
+/// answer, or one block with the number that refuses it, and the bytes behind these as they were.
+/// [`Answer::decode_by`](crate::Answer::decode_by) reads either. It is what [`answer_bytes`] says to the question with
+/// these fractions; a refused feed doesn't stop the others.
+///
+/// # Errors
+///
+/// What ends the whole call, as a [`Refusal`]: the book's numbers, 33 where there are not 1 to 64 whole feeds, 10 where
+/// `answers` hasn't [`ANSWER_ROOM`](crate::ANSWER_ROOM) bytes for each. Every byte stays then.
+///
+/// # Panics
+///
+/// Where the core gives a number that is no refusal, which it is proved not to.
+///
+/// ```
+/// use zektonk::{feeds_bytes, Answer, Refusal, ANSWER_ROOM};
+///
+/// let book = include_bytes!("../../../crates/still/data/book.bin");
+/// let question = include_bytes!("../../../crates/still/stdin");
+/// let expected = include_bytes!("../../../crates/still/stdout");
+/// // 0.5 and 0.5, as the question itself has it; then nothing at all.
+/// let mut feeds = [0; 128];
+/// feeds[..8].copy_from_slice(&0.5_f64.to_le_bytes());
+/// feeds[8..16].copy_from_slice(&0.5_f64.to_le_bytes());
+/// let mut room = [0; 2 * ANSWER_ROOM];
+/// feeds_bytes(book, question, &feeds, &mut room)?;
+/// assert_eq!(&room[..expected.len()], expected);
+/// assert_eq!(Answer::decode(&room[ANSWER_ROOM..], 2), Ok(Err(Refusal::FractionSum)));
+/// assert_eq!(feeds_bytes(book, question, &feeds[1..], &mut room), Err(Refusal::FeedsLength));
+/// assert_eq!(feeds_bytes(book, question, &feeds, &mut room[1..]), Err(Refusal::AnswerShort));
+/// # Ok::<(), Refusal>(())
+/// ```
+pub fn feeds_bytes(book: &[u8], question: &[u8], feeds: &[u8], answers: &mut [u8]) -> Result<(), Refusal> {
+    // SAFETY: as above.
+    #[allow(unsafe_code)]
+    let number = unsafe {
+        zektonk_feeds(
+            book.as_ptr(),
+            book.len(),
+            question.as_ptr(),
+            question.len(),
+            feeds.as_ptr(),
+            feeds.len(),
+            answers.as_mut_ptr(),
+            answers.len(),
+        )
+    };
+    ended(number)
+}
+
 fn ended(number: u64) -> Result<(), Refusal> {
     match number {
         0 => Ok(()),
-        _ => Err(Refusal::from_number(number).expect("the core refuses with 1 to 32 or 34 to 38")),
+        _ => Err(Refusal::from_number(number).expect("the core refuses with 1 to 38")),
     }
 }

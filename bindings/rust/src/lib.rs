@@ -21,7 +21,8 @@
 //! Who learns the task at run time asks a [`Question`], a [`Task`] put to a feed, by [`answer`], and gets an
 //! [`Answer`]. Who holds bytes already calls [`answer_bytes`], which copies nothing.
 //!
-//! Drums that are tipped into one charge are [`Drum`]s, counts of micromoles: [`pooled`] puts a task to their pool.
+//! Drums that are tipped into one charge are [`Drum`]s, counts of micromoles: [`pooled`] puts a task to their pool. Up to
+//! 64 feeds at one temperature go into one call by [`feeds`], and each has its own answer or refusal.
 //!
 //! This side tests that feed and K values have an entry for each solvent of the book, and nothing else: what a question
 //! says goes to the core as it is, and the core answers it or refuses with one of its numbers. What a changed rounding
@@ -34,6 +35,7 @@ mod block;
 mod book;
 mod call;
 mod drum;
+mod feeds;
 pub mod format;
 mod question;
 mod refusal;
@@ -47,8 +49,9 @@ pub use block::{Block, Rule, Words, BLOCK};
 pub use book::{
     Book, Builder, Correlation, Incomplete, Interval, Model, Pair, Solvent, Term, WilsonPair, BOOK_LARGEST, BOOK_MOST,
 };
-pub use call::{answer_bytes, pooled_bytes};
+pub use call::{answer_bytes, feeds_bytes, pooled_bytes};
 pub use drum::{pooled, Drum, DRUMS_MOST, DRUM_BYTES, POOL_MOST};
+pub use feeds::{feeds, FEEDS_MOST, FEED_BYTES};
 pub use question::{Feed, Kelvin, Options, Pascal, Question, Task};
 pub use refusal::Refusal;
 pub use tasks::{
@@ -98,7 +101,7 @@ pub fn answer(book: &Book<'_>, question: &Question) -> Result<Answer, Refusal> {
     decoded(book, &room)
 }
 
-/// What the core wrote about an accepted book.
+/// What the core wrote about an accepted book: an answer, or of one feed among many its refusal.
 fn decoded(book: &Book<'_>, room: &[u8]) -> Result<Answer, Refusal> {
     let solvents = book.solvents().expect("an accepted book counts its solvents");
     Answer::decode_by(book.rule(), room, solvents).expect("the core's own blocks are right")

@@ -173,7 +173,7 @@ impl Feed {
         }
     }
 
-    fn kind(&self) -> u64 {
+    pub(crate) fn kind(&self) -> u64 {
         match self {
             Self::Moles(_) => feed::MOLES,
             Self::Mass(_) => feed::MASS,

@@ -1,4 +1,4 @@
-//! The numbers that a call is refused with, 1 to 32 and 34 to 38, and what this crate refuses before it.
+//! The numbers that a call or a feed is refused with, 1 to 38, and what this crate refuses before it.
 
 use std::fmt;
 
@@ -26,18 +26,20 @@ macro_rules! refusals {
                 /// Of the book.
                 solvents: usize,
             },
+            /// This crate's own, found before the call: of many feeds some are of moles and some of mass.
+            FeedsMixed,
         }
 
         impl Refusal {
             /// The core's, in order.
-            pub const ALL: [Self; 37] = [$(Self::$name),*];
+            pub const ALL: [Self; 38] = [$(Self::$name),*];
 
-            /// The core's number, 1 to 32 or 34 to 38; none of what this crate refuses before the call.
+            /// The core's number, 1 to 38; none of what this crate refuses before the call.
             #[must_use]
             pub fn number(self) -> Option<u64> {
                 match self {
                     $(Self::$name => Some($number),)*
-                    Self::FeedLength { .. } | Self::KLength { .. } => None,
+                    Self::FeedLength { .. } | Self::KLength { .. } | Self::FeedsMixed => None,
                 }
             }
 
@@ -48,7 +50,7 @@ macro_rules! refusals {
             ///
             /// assert_eq!(Refusal::from_number(18), Some(Refusal::FractionSum));
             /// assert_eq!(Refusal::FractionSum.number(), Some(18));
-            /// assert_eq!((Refusal::from_number(0), Refusal::from_number(33)), (None, None));
+            /// assert_eq!((Refusal::from_number(0), Refusal::from_number(39)), (None, None));
             /// ```
             #[must_use]
             pub fn from_number(number: u64) -> Option<Self> {
@@ -69,6 +71,7 @@ macro_rules! refusals {
                     Self::KLength { entries, solvents } => {
                         write!(f, "not asked: there are {entries} K values, the book has {solvents} solvents")
                     }
+                    Self::FeedsMixed => f.write_str("not asked: some feeds are of moles and some of mass"),
                 }
             }
         }
@@ -85,9 +88,9 @@ refusals! {
     7 PairBlock "a pair's kind, places or flags are wrong"
     8 PairNumber "a pair's numbers are not finite"
     9 PairAlphas "the two alphas of a pair differ"
-    10 AnswerShort "the answer slice is shorter than 4,608 bytes"
+    10 AnswerShort "the answer slice is shorter than 4,608 bytes, or than that for each feed"
     11 QuestionBlock "the question is not 512 bytes, or its check or kind is wrong"
-    12 Task "the task is none of 1 to 9"
+    12 Task "the task is none of 1 to 9, or with many feeds none of 1, 2, 3, 6 and 7"
     13 Temperature "the temperature is not finite and positive"
     14 Pressure "the pressure is not finite and positive"
     15 NotFinite "a fraction or a K value is not finite"
@@ -108,6 +111,7 @@ refusals! {
     30 VaporFractionOutside "the vapor fraction is outside (0, 1)"
     31 DrumsLength "there are not 1 to 64 whole drums"
     32 DrumsTotal "the drums hold nothing, or more than 2^53 micromoles"
+    33 FeedsLength "there are not 1 to 64 whole feeds"
     34 NotNormalizable "a composition's parts, or the moles of a feed by mass, have a sum that is not finite and positive"
     35 MolarMass "a solvent's molar mass is not finite and positive"
     36 FeedKind "the feed is by mass and the book has no molar masses or there are drums, or by neither moles nor mass"
@@ -122,12 +126,12 @@ mod tests {
     use super::*;
 
     #[test]
-    fn numbers_are_1_to_32_and_34_to_38() {
-        for (number, refusal) in (1..=32).chain(34..=38).zip(Refusal::ALL) {
+    fn numbers_are_1_to_38() {
+        for (number, refusal) in (1..=38).zip(Refusal::ALL) {
             assert_eq!(refusal.number(), Some(number));
             assert_eq!(Refusal::from_number(number), Some(refusal));
         }
-        assert!([0, 33, 39, u64::MAX].iter().all(|number| Refusal::from_number(*number).is_none()));
+        assert!([0, 39, u64::MAX].iter().all(|number| Refusal::from_number(*number).is_none()));
     }
 
     #[test]
@@ -142,6 +146,7 @@ mod tests {
         let refusal = Refusal::FeedLength { entries: 3, solvents: 2 };
         assert_eq!(refusal.number(), None);
         assert_eq!(refusal.to_string(), "not asked: the feed has 3 entries, the book 2 solvents");
-        assert!(!Refusal::ALL.contains(&refusal));
+        assert_eq!(Refusal::FeedsMixed.number(), None);
+        assert!(!Refusal::ALL.contains(&refusal) && !Refusal::ALL.contains(&Refusal::FeedsMixed));
     }
 }

@@ -3,7 +3,8 @@
 
 use zektonk::format;
 use zektonk::{
-    Options, Refusal, ANSWER_ROOM, BLOCK, BOOK_LARGEST, BOOK_MOST, DRUMS_MOST, DRUM_BYTES, POOL_MOST, VERSION,
+    Options, Refusal, ANSWER_ROOM, BLOCK, BOOK_LARGEST, BOOK_MOST, DRUMS_MOST, DRUM_BYTES, FEEDS_MOST, FEED_BYTES,
+    POOL_MOST, VERSION,
 };
 
 const HEADER: &str = include_str!("../../c/zektonk.h");
@@ -95,6 +96,8 @@ fn sizes_and_version() {
         ("TERMS_MOST", 8),
         ("DRUM_BYTES", DRUM_BYTES),
         ("DRUMS_MOST", DRUMS_MOST),
+        ("FEED_BYTES", FEED_BYTES),
+        ("FEEDS_MOST", FEEDS_MOST),
     ] {
         assert_eq!(defined(name), value.to_string(), "{name}");
     }

@@ -19,19 +19,19 @@ module _ (l bs : List ℕ) (from : ℕ) (h : from ≤ length l) where
   front : length (take from l ++ bs) ≡ from + length bs
   front = rw (length-append, length-take-le from l h)
 
-  put-before : (i : ℕ) → i < from → byte (put l from bs) i ≡ byte l i
+  pub put-before : (i : ℕ) → i < from → byte (put l from bs) i ≡ byte l i
   put-before i u =
       let a : i < length (take from l ++ bs) = rw front (omega arith) in
       let b : i < length (take from l) = rw (length-take-le from l h) u in
       List·getD-append (take from l ++ bs) _ 0 i a ∙ List·getD-append (take from l) bs 0 i b ∙ getD-take from l i 0 u
 
-  put-inside : (i : ℕ) → i < length bs → byte (put l from bs) (from + i) ≡ byte bs i
+  pub put-inside : (i : ℕ) → i < length bs → byte (put l from bs) (from + i) ≡ byte bs i
   put-inside i u =
       let a : from + i < length (take from l ++ bs) = rw front (omega arith) in
       List·getD-append (take from l ++ bs) _ 0 (from + i) a
       ∙ ap (λ (x : ℕ). byte (take from l ++ bs) (x + i)) (sym (length-take-le from l h)) ∙ getD-append-add (take from l) bs i 0
 
-  put-behind : (i : ℕ) → from + length bs ≤ i → byte (put l from bs) i ≡ byte l i
+  pub put-behind : (i : ℕ) → from + length bs ≤ i → byte (put l from bs) i ≡ byte l i
   put-behind i u =
       let e : i ≡ from + length bs + (i - (from + length bs)) = omega arith in
       let rest = drop (from + length bs) l in
@@ -41,7 +41,7 @@ module _ (l bs : List ℕ) (from : ℕ) (h : from ≤ length l) where
       ∙ getD-drop (from + length bs) l (i - (from + length bs)) 0 ∙ ap (λ (x : ℕ). byte l x) (sym e)
 
 -- a word by its bytes
-word-by : (s t : List ℕ) (a b : ℕ) → ((i : ℕ) → i < 8 → byte t (a + i) ≡ byte s (b + i)) → wordFrom t a ≡ wordFrom s b
+pub word-by : (s t : List ℕ) (a b : ℕ) → ((i : ℕ) → i < 8 → byte t (a + i) ≡ byte s (b + i)) → wordFrom t a ≡ wordFrom s b
 word-by s t a b e =
     let z : byte t a ≡ byte s b = rw (add-zero, add-zero) at (e 0 (omega arith)) in
     rw (z, e 1 (omega arith), e 2 (omega arith), e 3 (omega arith), e 4 (omega arith), e 5 (omega arith), e 6 (omega arith), e 7 (omega arith))

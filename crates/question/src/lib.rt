@@ -236,8 +236,8 @@ fn question_from(q: &[u8], x: &[f64; 8], k: &[f64; 8]) -> Question
     }
 }
 
-// 36
-fn kind_right(version: u64, q: &[u8]) -> bool
+// 36: mass fractions only where the book's version has molar masses.
+pub fn kind_right(version: u64, q: &[u8]) -> bool
     ensures { λ r. ⌜ r ≡ kindRight version (word (now (q .entry))) ⌝ }
 {
     let kind = word(q, 27);

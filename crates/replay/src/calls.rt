@@ -191,27 +191,40 @@ fn answer_bytes(
     answer_first(book, size, question, asked, slice, room)
 }
 
-// The words of the answer's blocks behind the number: the first block and as many trials as its word 12 says.
-fn put_blocks(slice: &[u8; 32768], out: &mut [u64; 640]) -> usize {
-    let trials = blocks::word(slice, 12);
+// The answer's blocks, from word `from` of the slice on, are put from `to` on: the first block and as many trials as its word 12
+// says. Returns where they end; 0 where they end nowhere.
+fn put_blocks(slice: &[u8; 32768], from: usize, to: usize, out: &mut [u64; 640]) -> usize {
+    if 73728 < from {
+        return 0;
+    }
+    if 640 < to {
+        return 0;
+    }
+    let trials = blocks::word(slice, from + 12);
     if 8 < trials {
         return 0;
     }
     let count = 64 * (1 + trials as usize);
     for i in 0..count {
-        put(out, 1 + i, blocks::word(slice, i));
+        put(out, to + i, blocks::word(slice, from + i));
     }
-    1 + count
+    to + count
 }
 
-// The number and, of an answer, its blocks: how many words.
-fn put_answer(number: u64, slice: &[u8; 32768], out: &mut [u64; 640]) -> usize {
+// The number and, of an answer, its blocks, one part of 4,608 bytes after the other: how many words.
+fn put_answer(number: u64, slice: &[u8; 32768], parts: usize, out: &mut [u64; 640]) -> usize {
     put(out, 0, number);
-    if number == 0 {
-        put_blocks(slice, out)
-    } else {
-        1
+    let mut to = 1;
+    if number != 0 {
+        return to;
     }
+    if 128 < parts {
+        return 0;
+    }
+    for k in 0..parts {
+        to = put_blocks(slice, 576 * k, to, out);
+    }
+    to
 }
 
 // A book, a question, each with its size first, and the length of the answer slice.
@@ -234,7 +247,7 @@ fn answer_sizes(
     let number = answer_bytes(&book, size, &question, asked, &mut slice, room);
     Called {
         inputs: 3 + count + more,
-        results: put_answer(number, &slice, out),
+        results: put_answer(number, &slice, 1, out),
     }
 }
 
@@ -259,12 +272,21 @@ fn answer(words: &[u64; 4096], out: &mut [u64; 640]) -> Called {
     answer_sizes(words, size as usize, asked as usize, room as usize, out)
 }
 
-fn pooled_first(
+// The calls with one slice more: 15 drums, 16 feeds.
+fn with_slices(k: usize, book: &[u8], question: &[u8], lent: &[u8], slice: &mut [u8]) -> u64 {
+    match k {
+        15 => pool::answer(book, question, lent, slice),
+        _ => batch::answer(book, question, lent, slice),
+    }
+}
+
+fn with_first(
+    k: usize,
     book: &[u8],
     size: usize,
     question: &[u8],
     asked: usize,
-    drums: &[u8],
+    lent: &[u8],
     held: usize,
     slice: &mut [u8],
     room: usize,
@@ -275,35 +297,38 @@ fn pooled_first(
     if question.len() < asked {
         return 0;
     }
-    if drums.len() < held {
+    if lent.len() < held {
         return 0;
     }
     if slice.len() < room {
         return 0;
     }
-    pool::answer(
+    with_slices(
+        k,
         &book[0..size],
         &question[0..asked],
-        &drums[0..held],
+        &lent[0..held],
         &mut slice[0..room],
     )
 }
 
-fn pooled_bytes(
+fn with_bytes(
+    k: usize,
     book: &[u8; 32768],
     size: usize,
     question: &[u8; 32768],
     asked: usize,
-    drums: &[u8; 32768],
+    lent: &[u8; 32768],
     held: usize,
     slice: &mut [u8; 32768],
     room: usize,
 ) -> u64 {
-    pooled_first(book, size, question, asked, drums, held, slice, room)
+    with_first(k, book, size, question, asked, lent, held, slice, room)
 }
 
-// A book, a question and drums, each with its size first, and the length of the answer slice.
-fn pooled_sizes(
+// A book, a question and the slice more, each with its size first, and the length of the answer slice.
+fn with_sizes(
+    k: usize,
     words: &[u64; 4096],
     size: usize,
     asked: usize,
@@ -318,28 +343,30 @@ fn pooled_sizes(
     let last = (held + 7) / 8;
     let mut book = [0u8; 32768];
     let mut question = [0u8; 32768];
-    let mut drums = [0u8; 32768];
+    let mut lent = [0u8; 32768];
     let mut slice = [0u8; 32768];
     fill_bytes(words, 1, count, &mut book);
     fill_bytes(words, 2 + count, more, &mut question);
-    fill_bytes(words, 3 + count + more, last, &mut drums);
-    let number = pooled_bytes(
+    fill_bytes(words, 3 + count + more, last, &mut lent);
+    let number = with_bytes(
+        k,
         &book,
         size,
         &question,
         asked,
-        &drums,
+        &lent,
         held,
         &mut slice,
         room,
     );
+    let parts = if k == 16 { held / 64 } else { 1 };
     Called {
         inputs: 4 + count + more + last,
-        results: put_answer(number, &slice, out),
+        results: put_answer(number, &slice, parts, out),
     }
 }
 
-fn pooled(words: &[u64; 4096], out: &mut [u64; 640]) -> Called {
+fn with(k: usize, words: &[u64; 4096], out: &mut [u64; 640]) -> Called {
     let none = Called {
         inputs: 0,
         results: 0,
@@ -362,7 +389,8 @@ fn pooled(words: &[u64; 4096], out: &mut [u64; 640]) -> Called {
     if 32768 < room {
         return none;
     }
-    pooled_sizes(
+    with_sizes(
+        k,
         words,
         size as usize,
         asked as usize,
@@ -457,7 +485,7 @@ pub(crate) fn call(k: usize, words: &[u64; 4096], out: &mut [u64; 640]) -> Calle
         12 => rice(false, words, out),
         13 => rice(true, words, out),
         14 => answer(words, out),
-        15 => pooled(words, out),
+        15..=17 => with(k, words, out),
         _ => Called {
             inputs: 0,
             results: 0,

@@ -9,14 +9,12 @@ ghost use Rattle.floats.specs.Small.{maxOf, absOf};
 ghost use Rattle.floats.specs.Vector.{at, vec, places};
 ghost use Rattle.floats.specs.Outcome.{no};
 ghost use Rattle.numerics.specs.Numerics.{expOf, lnOf};
-ghost use Rattle.thermo_models.specs.Activity.{activityOn, activityOf};
-ghost use Rattle.thermo_models.specs.Domain.{pureLiquidsOf};
-ghost use Rattle.saturation.specs.Saturation.{partialOf, gapOf, residualWith, dewTerm, changeOf, bubbleAt, residual, dewTurn, dewPoint, dewAt, bubbleTask, dewTask, bubblePressure, dewPressurePoint};
+ghost use Rattle.thermo_models.specs.Activity.{activityOn};
+ghost use Rattle.saturation.specs.Saturation.{partialOf, gapOf, residualWith, dewTerm, changeOf, bubbleAt, residual, dewTurn, dewPoint, dewAt, bubbleTask, dewTask};
 ghost use Rattle.saturation.specs.Answers.{bubbleAnswer, residualAnswer, incipientOf, noDewTurn, dewTurnAnswer, dewAnswer, saturationAnswer};
 use thermo_models::Tabled;
 use thermo_types::ActivityOptions;
 use thermo_types::Normalized;
-use thermo_types::Temperature;
 use thermo_types::Verdict;
 
 // Pressure in Pa and incipient vapor. Here and below: zeros where it is refused.
@@ -440,8 +438,14 @@ pub fn dew_at(
 
 // ---- tasks 2 and 3
 
-// From the vapor pressures: the bubble point, its pressure in the domain (23), its residual.
-fn bubble_pressure(table: &[f64; 512], s: Tabled, x: &[f64; 8], ps: &[f64; 8]) -> ActivitySaturation
+// Bubble pressure of the feed x, p = Σ x_i γ_i p_i^sat, from the tables and the vapor pressures of a temperature: what
+// `activity` refuses, 25, and 23 where the pressure isn't in the domain.
+pub fn activity_bubble_pressure(
+    table: &[f64; 512],
+    s: Tabled,
+    x: &[f64; 8],
+    ps: &[f64; 8],
+) -> ActivitySaturation
     ensures { λ r. ⌜ r ≡ saturationAnswer (bubbleTask (activityOn (now (table .entry)) s) (now (ps .entry)) (places (s .n)) (s .t .0) (now (x .entry))) ⌝ }
 {
     let t = s.t;
@@ -472,30 +476,8 @@ fn bubble_pressure(table: &[f64; 512], s: Tabled, x: &[f64; 8], ps: &[f64; 8]) -
     }
 }
 
-// Bubble pressure at T of the feed x, p = Σ x_i γ_i p_i^sat: 22, 25, what `activity` refuses, 23.
-pub fn activity_bubble_pressure(
-    book: &[u8],
-    parameters: &[f64; 384],
-    n: usize,
-    t: Temperature,
-    x: &[f64; 8],
-) -> ActivitySaturation
-    ensures { λ r. ⌜ r ≡ saturationAnswer (bubblePressure (activityOf (now (book .entry)) (now (parameters .entry)) (places n)) (pureLiquidsOf (now (book .entry)) (places n)) (places n) (t .0) (now (x .entry))) ⌝ }
-{
-    let mut ps = [0.0; 8];
-    let mut dps = [0.0; 8];
-    let verdict = thermo_models::pure_liquids(book, n, t, &mut ps, &mut dps);
-    match verdict {
-        Verdict::Refused(number) => return no_saturation(number),
-        Verdict::Passed => {}
-    }
-    let mut table = [0.0; 512];
-    let s = thermo_models::tables(book, parameters, n, t, &mut table);
-    bubble_pressure(&table, s, x, &ps)
-}
-
-// From the vapor pressures: the dew point, then its pressure in the domain (23).
-fn dew_pressure(
+// Dew pressure of the feed y, from the same: 34, what `activity` refuses at an incipient liquid, 25, 27, 23.
+pub fn activity_dew_pressure(
     table: &[f64; 512],
     s: Tabled,
     y: &[f64; 8],
@@ -525,27 +507,4 @@ fn dew_pressure(
         residual: d.residual,
         iterations: d.iterations,
     }
-}
-
-// Dew pressure at T of the feed y: 22, 25, 34, what `activity` refuses at an incipient liquid, 27, 23.
-pub fn activity_dew_pressure(
-    book: &[u8],
-    parameters: &[f64; 384],
-    n: usize,
-    t: Temperature,
-    y: &[f64; 8],
-    o: ActivityOptions,
-) -> ActivitySaturation
-    ensures { λ r. ⌜ r ≡ saturationAnswer (dewPressurePoint (activityOf (now (book .entry)) (now (parameters .entry)) (places n)) (pureLiquidsOf (now (book .entry)) (places n)) (places n) o (t .0) (now (y .entry))) ⌝ }
-{
-    let mut ps = [0.0; 8];
-    let mut dps = [0.0; 8];
-    let verdict = thermo_models::pure_liquids(book, n, t, &mut ps, &mut dps);
-    match verdict {
-        Verdict::Refused(number) => return no_saturation(number),
-        Verdict::Passed => {}
-    }
-    let mut table = [0.0; 512];
-    let s = thermo_models::tables(book, parameters, n, t, &mut table);
-    dew_pressure(&table, s, y, &ps, o)
 }

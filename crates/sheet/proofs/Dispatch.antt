@@ -11,13 +11,10 @@ use lib.Ieee.{Float}
 use Rattle.floats.specs.Vector.{at, places}
 use Rattle.floats.specs.Outcome.{Out, ok, no, bind, need, choose}
 use Rattle.thermo_types.specs.declared.Verdict.the-variants.{Passed, Refused}
-use Rattle.thermo_types.specs.declared.Temperature.{Temperature}
 use Rattle.thermo_types.specs.declared.Pressure.{Pressure}
-use Rattle.thermo_types.specs.declared.NewTemperature.{NewTemperature}
 use Rattle.thermo_types.specs.declared.NewPressure.{NewPressure}
-use Rattle.thermo_types.specs.declared.NewTemperature.the-variants as temperature
 use Rattle.thermo_types.specs.declared.NewPressure.the-variants as pressure
-use Rattle.thermo_types.specs.Quantities.{positiveOf, newTemperature, newPressure}
+use Rattle.thermo_types.specs.Quantities.{positiveOf, newPressure}
 use Rattle.blocks.specs.declared.Rule.{Rule}
 use Rattle.book.specs.declared.Head.{Head}
 use Rattle.book.specs.declared.Opened.{Opened}
@@ -29,12 +26,13 @@ use Rattle.book.proofs.Accepted.{accepted}
 use Rattle.blocks.specs.Bytes.{wordAt, blockBytes}
 use Rattle.records.specs.Parameters.{parametersOf}
 use Rattle.thermo_models.specs.Domain.{pureLiquidsOf}
-use Rattle.thermo_models.specs.Activity.{activityOf}
+use Rattle.thermo_models.specs.declared.Tabled.{Tabled}
+use Rattle.thermo_models.specs.Activity.{activityOf, activityOn}
 use Rattle.thermo_models.specs.Mixture.{Mixture, mixtureWith, mixtureOf}
 use Rattle.rachford_rice.specs.declared.RachfordRice.{RachfordRice}
 use Rattle.rachford_rice.specs.Rachford.{constrained, negative, splitOf, answerOf}
 use Rattle.saturation.specs.declared.ActivitySaturation.{ActivitySaturation}
-use Rattle.saturation.specs.Saturation.{bubblePressure, dewPressurePoint}
+use Rattle.saturation.specs.Saturation.{bubbleTask, dewTask}
 use Rattle.saturation.specs.Answers.{saturationAnswer}
 use Rattle.saturation_temperature.specs.Boiling.{bubbleTemperature, dewTemperature}
 use Rattle.question.specs.Inputs.{needsTemperature, needsPressure}
@@ -44,50 +42,64 @@ use Rattle.question.specs.Asked.{questionOf, askedOf}
 use Rattle.replies.specs.Blocks.{Answer, answerWords, answerRoom}
 use Rattle.replies.specs.Answers.{riceBlock}
 use Rattle.sheet.specs.Tasks.{task1, task2, task3, task4, task5, task6, task7, task8, task9, taskAt, taskUnder, taskSplit, taskOf}
+use Rattle.sheet.specs.declared.Ready.{Ready}
+use Rattle.sheet.specs.declared.Ready.the-variants as ready
+use Rattle.sheet.specs.Ready.{pressuresIn, pressuresFor, TableOf, Readied}
 use Rattle.sheet.specs.Sheet.{Answers, Says, replied, onPassed, answerTo, roomy, questionTo, sheetFrom, sheetOf}
 use Rattle.sheet.proofs.Laws.{says-no, says-yes, refuses, goes-on, same-as, by-yes, by-no, is-task, not-task}
-use Rattle.sheet.proofs.Replies.{temperature-ok, pressure-ok, constrained-says, split-says}
+use Rattle.sheet.proofs.Shared.{table-activity, bubble-from, dew-from, pressures-2, pressures-3, task-refused}
+use Rattle.sheet.proofs.Replies.{refused, given, pressure-ok, constrained-says, split-says}
 
 -- ---- the tasks, with the book's parameters
 module _ (rule : Rule) (book : List ℕ) (n : ℕ) (q : Question) {P : List Float} {r : ℕ} {old new : List ℕ} where
-  pub temperature-given : {made : NewTemperature} {t : Temperature} → P ≡ parametersOf book n → made ≡ newTemperature (positiveOf (q .temperature) 13) → made ≡ temperature.Valid t
-      → Answers (replied rule (q .task) (taskAt (mixtureWith book P n) q (t .0))) r old new
-      → Answers (replied rule (q .task) (bind (positiveOf (q .temperature) 13) (taskAt (mixtureOf book n) q))) r old new
-  temperature-given p e d h = temperature-ok rule (q .task) _ _ e d (rw p at h)
-
   pub pressure-given : {made : NewPressure} {v : Pressure} → P ≡ parametersOf book n → made ≡ newPressure (positiveOf (q .pressure) 14) → made ≡ pressure.Valid v
       → Answers (replied rule (q .task) (taskUnder (mixtureWith book P n) q (v .0))) r old new
       → Answers (replied rule (q .task) (bind (positiveOf (q .pressure) 14) (taskUnder (mixtureOf book n) q))) r old new
   pressure-given p e d h = pressure-ok rule (q .task) _ _ e d (rw p at h)
 
 -- ---- by the task's number; t in K, p in Pa
-module _ (rule : Rule) (book : List ℕ) (n : ℕ) (q : Question) (P : List Float) (t : Float) {r : ℕ} {old new : List ℕ} where
-  at-task : {a : Out Answer} → taskAt (mixtureWith book P n) q t ≡ a → Answers (replied rule (q .task) a) r old new → Answers (replied rule (q .task) (taskAt (mixtureWith book P n) q t)) r old new
+module _ (rule : Rule) (m : Mixture) (q : Question) (t : Float) {r : ℕ} {old new : List ℕ} where
+  at-task : {a : Out Answer} → taskAt m q t ≡ a → Answers (replied rule (q .task) a) r old new → Answers (replied rule (q .task) (taskAt m q t)) r old new
   at-task e h = same-as (ap (replied rule (q .task)) e) h
 
-  pub at-1 : q .task ≡ 1 → Answers (replied rule (q .task) (task1 (mixtureWith book P n) q t)) r old new → Answers (replied rule (q .task) (taskAt (mixtureWith book P n) q t)) r old new
+  pub at-1 : q .task ≡ 1 → Answers (replied rule (q .task) (task1 m q t)) r old new → Answers (replied rule (q .task) (taskAt m q t)) r old new
   unfolding taskAt choose
   at-1 e h = at-task (rw e) h
 
-  pub at-2 : {s : ActivitySaturation} → q .task ≡ 2 → s ≡ saturationAnswer (bubblePressure (activityOf book P n) (pureLiquidsOf book n) n t (q .fractions)) → Says rule (q .task) s r old new
-      → Answers (replied rule (q .task) (taskAt (mixtureWith book P n) q t)) r old new
-  unfolding taskAt choose task2 activityOf
-  at-2 e a h = at-task (rw e) (h .says _ a)
+  at-2 : q .task ≡ 2 → Answers (replied rule (q .task) (task2 m q t)) r old new → Answers (replied rule (q .task) (taskAt m q t)) r old new
+  unfolding taskAt choose
+  at-2 e h = at-task (rw e) h
 
-  pub at-3 : {s : ActivitySaturation} → q .task ≡ 3 → s ≡ saturationAnswer (dewPressurePoint (activityOf book P n) (pureLiquidsOf book n) n (q .options) t (q .fractions))
-      → Says rule (q .task) s r old new → Answers (replied rule (q .task) (taskAt (mixtureWith book P n) q t)) r old new
-  unfolding taskAt choose task3 activityOf
-  at-3 e a h = at-task (rw e) (h .says _ a)
+  at-3 : q .task ≡ 3 → Answers (replied rule (q .task) (task3 m q t)) r old new → Answers (replied rule (q .task) (taskAt m q t)) r old new
+  unfolding taskAt choose
+  at-3 e h = at-task (rw e) h
 
-  pub at-6 : q .task ≡ 6 → Answers (replied rule (q .task) (task6 (mixtureWith book P n) q t)) r old new → Answers (replied rule (q .task) (taskAt (mixtureWith book P n) q t)) r old new
+  pub at-6 : q .task ≡ 6 → Answers (replied rule (q .task) (task6 m q t)) r old new → Answers (replied rule (q .task) (taskAt m q t)) r old new
   unfolding taskAt choose
   at-6 e h = at-task (rw e) h
 
   pub at-rest : (q .task ≡ 1 → ⊥) → (q .task ≡ 2 → ⊥) → (q .task ≡ 3 → ⊥) → (q .task ≡ 6 → ⊥)
-      → Answers (replied rule (q .task) (bind (positiveOf (q .pressure) 14) (task7 (mixtureWith book P n) q t))) r old new → Answers (replied rule (q .task) (taskAt (mixtureWith book P n) q t)) r old new
+      → Answers (replied rule (q .task) (bind (positiveOf (q .pressure) 14) (task7 m q t))) r old new → Answers (replied rule (q .task) (taskAt m q t)) r old new
   unfolding taskAt choose
   at-rest a b c d h = at-task (rw (ne-eqb (q .task) 1 a, ne-eqb (q .task) 2 b, ne-eqb (q .task) 3 c, ne-eqb (q .task) 6 d)) h
 
+-- from a table that stands for the mixture, and the vapor pressures that the task reads
+module _ (rule : Rule) (q : Question) {m : Mixture} {s : Tabled} {table ps : List Float} (h : TableOf m s table) (w : pressuresFor m (q .task) (q .pressure) (s .t .0) ≡ ok ps) {r : ℕ} {old new : List ℕ} where
+  pub bubble-at : {a : ActivitySaturation} → q .task ≡ 2 → a ≡ saturationAnswer (bubbleTask (activityOn table s) ps (places (s .n)) (s .t .0) (q .fractions)) → Says rule (q .task) a r old new
+      → Answers (replied rule (q .task) (taskAt m q (s .t .0))) r old new
+  unfolding task2
+  bubble-at e a g =
+      let b : pressuresIn (m .liquids (s .t .0)) ≡ ok ps = sym (pressures-2 m (q .pressure) (s .t .0) e) ∙ w in
+      at-2 rule m q (s .t .0) e (g .says _ (rw (bubble-from m (s .t .0) (q .fractions) b) (rw (table-activity h, h .count) at a)))
+
+  pub dew-at : {a : ActivitySaturation} → q .task ≡ 3 → a ≡ saturationAnswer (dewTask (activityOn table s) ps (places (s .n)) (q .options) (s .t .0) (q .fractions)) → Says rule (q .task) a r old new
+      → Answers (replied rule (q .task) (taskAt m q (s .t .0))) r old new
+  unfolding task3
+  dew-at e a g =
+      let b : pressuresIn (m .liquids (s .t .0)) ≡ ok ps = sym (pressures-3 m (q .pressure) (s .t .0) e) ∙ w in
+      at-3 rule m q (s .t .0) e (g .says _ (rw (dew-from m (q .options) (s .t .0) (q .fractions) b) (rw (table-activity h, h .count) at a)))
+
+module _ (rule : Rule) (book : List ℕ) (n : ℕ) (q : Question) (P : List Float) (t : Float) {r : ℕ} {old new : List ℕ} where
   pub under-4 : {s : ActivitySaturation} → q .task ≡ 4 → s ≡ saturationAnswer (bubbleTemperature (activityOf book P n) (pureLiquidsOf book n) n (q .options) t (q .fractions))
       → Says rule (q .task) s r old new → Answers (replied rule (q .task) (taskUnder (mixtureWith book P n) q t)) r old new
   unfolding taskUnder task4 activityOf
@@ -97,6 +109,16 @@ module _ (rule : Rule) (book : List ℕ) (n : ℕ) (q : Question) (P : List Floa
       → Says rule (q .task) s r old new → Answers (replied rule (q .task) (taskUnder (mixtureWith book P n) q t)) r old new
   unfolding taskUnder task5 activityOf
   under-5 e a h = not-task rule (q .task) _ _ e (h .says _ a)
+
+-- ---- from what was made ready
+module _ (rule : Rule) (q : Question) {m : Mixture} {made : Ready} {table ps : List Float} (h : Readied m (q .task) (q .temperature) (q .pressure) made table ps) {r : ℕ} {old : List ℕ} where
+  pub ready-no : made ≡ ready.No r → Answers (replied rule (q .task) (bind (positiveOf (q .temperature) 13) (taskAt m q))) r old old
+  ready-no e = refuses {o = bind (positiveOf (q .temperature) 13) (taskAt m q)} _ (task-refused m q (h .refused r e))
+
+  pub ready-at : {s : Tabled} {new : List ℕ} → made ≡ ready.At s
+      → (TableOf m s table → pressuresFor m (q .task) (q .pressure) (s .t .0) ≡ ok ps → Answers (replied rule (q .task) (taskAt m q (s .t .0))) r old new)
+      → Answers (replied rule (q .task) (bind (positiveOf (q .temperature) 13) (taskAt m q))) r old new
+  ready-at {s} e f = given rule (q .task) _ (taskAt m q) (h .temperature s e) (f (h .tables s e) (h .pressures s e))
 
 abbrev Splits : Rule → ℕ → RachfordRice → ℕ → List ℕ → List ℕ → Type 0
 Splits rule task s r old new = Answers (onPassed (s .verdict) (blockBytes rule (wordAt (answerWords task (riceBlock (s .outcome) (s .liquid) (s .vapor)))))) r old new

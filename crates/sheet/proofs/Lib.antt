@@ -1,5 +1,6 @@
 -- Laws of the whole call, which other crates may cite. Assumes nothing.
 pub mod Laws
+pub mod Shared
 pub mod Replies
 pub mod Dispatch
 pub mod Lengths

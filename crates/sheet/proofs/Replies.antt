@@ -1,13 +1,12 @@
 -- Each task's answer from the code's struct: what its verdict and its block say of the definition. Assumes nothing.
-use mathlib.Core.Path.{_≡_, refl, ap, sym, _∙_}
+use mathlib.Core.Path.{_≡_, refl, ap}
 use mathlib.Core.List.{List}
 use mathlib.Core.Bool.{Bool, true, false, not}
 use Prim.Native.Nat.{ℕ, _≤_}
 use native.Mathlib.Nat.{min-le-right}
 use native.Mathlib.Omega.{arith}
-use lib.ListN.{length, replicate}
+use lib.ListN.{length}
 use lib.Ieee.{Float}
-use Rattle.floats.specs.Arithmetic.{0f}
 use Rattle.floats.specs.Small.{isFinite}
 use Rattle.floats.specs.Vector.{places}
 use Rattle.floats.specs.Outcome.{Out, ok, no, bind, need}
@@ -16,24 +15,18 @@ use Rattle.floats.proofs.Outcomes.{Each}
 use Rattle.thermo_types.specs.declared.Verdict.{Verdict}
 use Rattle.thermo_types.specs.declared.Verdict.the-variants.{Passed, Refused}
 use Rattle.thermo_types.specs.declared.ActivityOptions.{ActivityOptions}
-use Rattle.thermo_types.specs.declared.Temperature.{Temperature}
 use Rattle.thermo_types.specs.declared.Pressure.{Pressure}
-use Rattle.thermo_types.specs.declared.NewTemperature.{NewTemperature}
 use Rattle.thermo_types.specs.declared.NewPressure.{NewPressure}
-use Rattle.thermo_types.specs.declared.NewTemperature.the-variants as temperature
 use Rattle.thermo_types.specs.declared.NewPressure.the-variants as pressure
-use Rattle.thermo_types.specs.Quantities.{kelvin, pascal, newTemperature, newPressure}
+use Rattle.thermo_types.specs.Quantities.{newPressure}
 use Rattle.blocks.specs.declared.Rule.{Rule}
 use Rattle.blocks.specs.Bytes.{wordAt, blockBytes}
 use Rattle.excess.specs.declared.Energies.{Energies}
 use Rattle.excess.specs.State.{Excess}
 use Rattle.thermo_models.specs.declared.Tabled.{Tabled}
-use Rattle.thermo_models.specs.Model.{Activity, Activities, Liquids}
-use Rattle.thermo_models.specs.Activity.{excessOf, activityOf, excessOn, activityOn, Stands}
-use Rattle.thermo_models.specs.Domain.{temperatureInDomain, pureLiquidsOf}
-use Rattle.thermo_models.specs.Mixture.{mixtureWith}
-use Rattle.thermo_models.proofs.Answers.{excess-fresh, stands-fresh}
-use Rattle.saturation.proofs.Answers.{stands-places}
+use Rattle.thermo_models.specs.Model.{Activity}
+use Rattle.thermo_models.specs.Activity.{excessOn, activityOn}
+use Rattle.thermo_models.specs.Mixture.{Mixture, activity}
 use Rattle.excess.specs.Answers.{Gives, energiesOf, excessLnGammas, excessSlopes}
 use Rattle.thermo_models.specs.declared.Assessment.{Assessment}
 use Rattle.saturation.specs.Saturation.{Saturation}
@@ -42,8 +35,8 @@ use Rattle.saturation.specs.Answers.{saturationAnswer}
 use Rattle.liquid_stability.specs.Stability.{Trials, noTrials, stabilityOf, stabilityAnswer}
 use Rattle.liquid_stability.specs.declared.LiquidStability.{LiquidStability}
 use Rattle.liquid_stability.proofs.Counts.{Few, stability-few}
-use Rattle.tp_flash.specs.Tp.{Flash, tpFlash, flashAnswer}
-use Rattle.tp_flash.proofs.Counts.{flash-few}
+use Rattle.tp_flash.specs.Tp.{Flash, phasesOf, tpFlash, flashAnswer}
+use Rattle.tp_flash.proofs.Counts.{phases-few}
 use Rattle.tp_flash.specs.declared.ActivityTpFlash.{ActivityTpFlash}
 use Rattle.rachford_rice.specs.declared.RachfordRice.{RachfordRice}
 use Rattle.rachford_rice.specs.declared.RachfordRiceOutcome.{RachfordRiceOutcome}
@@ -55,7 +48,9 @@ use Rattle.replies.specs.declared.AnswerBlock.{AnswerBlock}
 use Rattle.replies.specs.Blocks.{Answer, answerWords, answerBytes}
 use Rattle.replies.specs.Answers.{excessBlock, saturationBlock, stabilityBlock, flashBlock, riceBlock}
 use Rattle.sheet.specs.Tasks.{alone, excessFound, saturated, task6, task7}
+use Rattle.sheet.specs.Ready.{TableOf, flashPressures}
 use Rattle.sheet.specs.Sheet.{Answers, replied, onPassed}
+use Rattle.sheet.proofs.Shared.{pascal-no, pascal-ok, table-activity, flash-from}
 use Rattle.sheet.proofs.Laws.{same-as, refuses, one-block}
 
 -- ---- what the solvers found, from the code's structs
@@ -78,43 +73,15 @@ foundFlash f = record {
   trials = record { stable = f .tested; count = f .count; trials = f .trials };
 }
 
--- ---- temperatures and pressures
-pub kelvin-no : {made : NewTemperature} (o : Out Float) {r : ℕ} → made ≡ newTemperature o → made ≡ temperature.No r → o ≡ no r
-unfolding newTemperature
-kelvin-no (ok v) e q = let z : _≡_ {A = ℕ} 0 1 = cc in absurd (omega arith)
-kelvin-no (no m) e q = cc
-
-pub kelvin-ok : {made : NewTemperature} (o : Out Float) {t : Temperature} → made ≡ newTemperature o → made ≡ temperature.Valid t → o ≡ ok (t .0)
-unfolding newTemperature
-kelvin-ok (ok v) {t} e q = let p : kelvin v ≡ t = cc in ap (λ (u : Temperature). ok (u .0)) p
-kelvin-ok (no m) e q = let z : _≡_ {A = ℕ} 0 1 = cc in absurd (omega arith)
-
-pub pascal-no : {made : NewPressure} (o : Out Float) {r : ℕ} → made ≡ newPressure o → made ≡ pressure.No r → o ≡ no r
-unfolding newPressure
-pascal-no (ok v) e q = let z : _≡_ {A = ℕ} 0 1 = cc in absurd (omega arith)
-pascal-no (no m) e q = cc
-
-pub pascal-ok : {made : NewPressure} (o : Out Float) {p : Pressure} → made ≡ newPressure o → made ≡ pressure.Valid p → o ≡ ok (p .0)
-unfolding newPressure
-pascal-ok (ok v) {p} e q = let h : pascal v ≡ p = cc in ap (λ (u : Pressure). ok (u .0)) h
-pascal-ok (no m) e q = let z : _≡_ {A = ℕ} 0 1 = cc in absurd (omega arith)
-
 -- a task from its temperature or pressure on
 module _ (rule : Rule) (task : ℕ) (o : Out Float) (f : Float → Out Answer) {r : ℕ} {old : List ℕ} where
-  refused : o ≡ no r → Answers (replied rule task (bind o f)) r old old
+  pub refused : o ≡ no r → Answers (replied rule task (bind o f)) r old old
   unfolding bind
   refused e = refuses {o = bind o f} _ (rw e)
 
-  given : {v : Float} {new : List ℕ} → o ≡ ok v → Answers (replied rule task (f v)) r old new → Answers (replied rule task (bind o f)) r old new
+  pub given : {v : Float} {new : List ℕ} → o ≡ ok v → Answers (replied rule task (f v)) r old new → Answers (replied rule task (bind o f)) r old new
   unfolding bind
   given e h = same-as (rw e) h
-
-  pub temperature-no : {made : NewTemperature} → made ≡ newTemperature o → made ≡ temperature.No r → Answers (replied rule task (bind o f)) r old old
-  temperature-no e q = refused (kelvin-no o e q)
-
-  pub temperature-ok : {made : NewTemperature} {t : Temperature} {new : List ℕ} → made ≡ newTemperature o → made ≡ temperature.Valid t → Answers (replied rule task (f (t .0))) r old new
-      → Answers (replied rule task (bind o f)) r old new
-  temperature-ok e q h = given (kelvin-ok o e q) h
 
   pub pressure-no : {made : NewPressure} → made ≡ newPressure o → made ≡ pressure.No r → Answers (replied rule task (bind o f)) r old old
   pressure-no e q = refused (pascal-no o e q)
@@ -154,14 +121,12 @@ module _ (rule : Rule) (task : ℕ) (t : Float) (w : Assessment) (o : Out Excess
           rw (g .energies, g .values, g .slopes, k) (ap ok (one-block rule task (excessBlock t s w) refl))
       found (no m) g = let z : _≡_ {A = ℕ} 0 1 = cc (ap (λ (e : Energies). e .verdict) (g .energies), q) in absurd (omega arith)
 
--- of the parameters, by a table made for t
-module _ (rule : Rule) (task : ℕ) {book : List ℕ} {P : List Float} {n : ℕ} {t : Temperature} {s : Tabled} {table : List Float} (x : List Float) (h : Stands book P n t s (replicate 512 0f) table) where
-  pub excess-asked : {u : Float} {v w : Assessment} {e : Energies} {lg sl : List Float} {r : ℕ} {old new : List ℕ} → Gives (excessOn table s x) e lg sl → u ≡ t .0 → v ≡ w
+-- of a mixture, by a table that stands for it
+module _ (rule : Rule) (task : ℕ) {m : Mixture} {s : Tabled} {table : List Float} (x : List Float) (h : TableOf m s table) where
+  pub excess-asked : {u : Float} {v w : Assessment} {e : Energies} {lg sl : List Float} {r : ℕ} {old new : List ℕ} → Gives (excessOn table s x) e lg sl → u ≡ s .t .0 → v ≡ w
       → ((o : Out Excess) → Gives o e lg sl → Answers (replied rule task (bind o (excessFound u v))) r old new)
-      → Answers (replied rule task (bind (excessOf book P n (t .0) x) (excessFound (t .0) w))) r old new
-  excess-asked g p q f =
-      let k : excessOn table s x ≡ excessOf book P n (t .0) x = ap (λ (E : List Float → Out Excess). E x) (excess-fresh h) in
-      rw (p, q) at (f (excessOf book P n (t .0) x) (rw k at g))
+      → Answers (replied rule task (bind (m .excess (s .t .0) x) (excessFound (s .t .0) w))) r old new
+  excess-asked g p q f = rw (p, q) at (f (m .excess (s .t .0) x) (rw (h .excess x) at g))
 
 pub rice-alone : (o : RachfordRiceOutcome) (x y : List Float) → riceBlock o x y .state .trials ≡ 0
 unfolding riceBlock
@@ -216,23 +181,22 @@ module _ (rule : Rule) (task : ℕ) {r : ℕ} {old new : List ℕ} where
   split-says (ok v) e h = rw (one-block rule task (riceBlock (TwoPhase (v .vaporFraction) (v .residual) (v .iterations)) (v .liquid) (v .vapor)) (rice-alone _ _ _)) (rw e at h)
   split-says (no m) e h = rw e at h
 
--- ---- 6 and 7 of the book's mixture
-module _ (rule : Rule) (book : List ℕ) (n : ℕ) (q : Question) (P : List Float) (t : Temperature) {b : AnswerBlock} {r : ℕ} {old new : List ℕ} where
-  pub stability-says : {a : Tabled} {table : List Float} {s : LiquidStability} → Stands book P (places n) t a (replicate 512 0f) table
-      → s ≡ stabilityAnswer (stabilityOf (activityOn table a) (places (a .n)) (q .options) (q .fractions)) → b ≡ stabilityBlock (s .stable) (s .count)
+-- ---- 6 and 7 of a mixture, by a table that stands for it
+module _ (rule : Rule) (q : Question) {m : Mixture} {a : Tabled} {table : List Float} (h : TableOf m a table) {b : AnswerBlock} {r : ℕ} {old new : List ℕ} where
+  pub stability-says : {s : LiquidStability} → s ≡ stabilityAnswer (stabilityOf (activityOn table a) (places (a .n)) (q .options) (q .fractions)) → b ≡ stabilityBlock (s .stable) (s .count)
       → Answers (onPassed (s .verdict) (answerBytes rule (q .task) (record { block = b; trials = s .trials }))) r old new
-      → Answers (replied rule (q .task) (task6 (mixtureWith book P (places n)) q (t .0))) r old new
-  unfolding task6 activityOf
-  stability-says h e d g = stability-replied rule (q .task) (stabilityOf (activityOf book P (places n) (t .0)) (places n) (q .options) (q .fractions)) (rw (stands-fresh h, stands-places n h) at e) d g
+      → Answers (replied rule (q .task) (task6 m q (a .t .0))) r old new
+  unfolding task6
+  stability-says e d g = stability-replied rule (q .task) (stabilityOf (activity m (a .t .0)) (m .n) (q .options) (q .fractions)) (rw (table-activity h, h .count) at e) d g
 
-  pub flash-says : (p : Pressure) {f : ActivityTpFlash} {u v : Float}
-      → f ≡ flashAnswer (tpFlash (activityOf book P (places n)) (pureLiquidsOf book (places n)) (temperatureInDomain book (places n)) (places n) (q .options) (t .0) (q .fractions) (p .0))
-      → u ≡ t .0 → v ≡ p .0 → b ≡ flashBlock u v (foundFlash f) → Answers (onPassed (f .verdict) (answerBytes rule (q .task) (record { block = b; trials = f .trials }))) r old new
-      → Answers (replied rule (q .task) (task7 (mixtureWith book P (places n)) q (t .0) (p .0))) r old new
-  unfolding task7 activityOf
-  flash-says p e a c d g =
-      flash-replied rule (q .task)
-      (tpFlash (activityOf book P (places n)) (pureLiquidsOf book (places n)) (temperatureInDomain book (places n)) (places n) (q .options) (t .0) (q .fractions) (p .0)) e a c d g
+  pub flash-says : (p : Pressure) {ps : List Float} {f : ActivityTpFlash} {u v : Float} → flashPressures m (a .t .0) (p .0) ≡ ok ps
+      → f ≡ flashAnswer (phasesOf (activityOn table a) (places (a .n)) (q .options) (q .fractions) (p .0) ps)
+      → u ≡ a .t .0 → v ≡ p .0 → b ≡ flashBlock u v (foundFlash f) → Answers (onPassed (f .verdict) (answerBytes rule (q .task) (record { block = b; trials = f .trials }))) r old new
+      → Answers (replied rule (q .task) (task7 m q (a .t .0) (p .0))) r old new
+  unfolding task7
+  flash-says p {ps} w e x y d g =
+      flash-replied rule (q .task) (tpFlash (activity m) (m .liquids) (m .domain) (m .n) (q .options) (a .t .0) (q .fractions) (p .0))
+      (rw (flash-from m (q .options) (a .t .0) (q .fractions) (p .0) w) (rw (table-activity h, h .count) at e)) x y d g
 
 -- ---- at most eight trials in an array of eight, refused or not
 stability-sized : (n : ℕ) (o : Out Trials) {s : LiquidStability} → Each (Few (places n)) o → s ≡ stabilityAnswer o → (s .count ≤ 8) × (length (s .trials) ≡ 8)
@@ -249,6 +213,6 @@ unfolding flashAnswer noTrials
 flash-sized n (ok v) h e = let g = h v refl in (rw e (omega (arith, g .count, min-le-right n 8)), rw e (g .eight))
 flash-sized n (no m) h e = (rw e (omega arith), rw e refl)
 
-pub flash-fits : (E : Activities) (L : Liquids) (D : Float → Bool) (n : ℕ) (o : ActivityOptions) (t : Float) (z : List Float) (p : Float) {f : ActivityTpFlash} {u v : Float} {b : AnswerBlock}
-    → f ≡ flashAnswer (tpFlash E L D (places n) o t z p) → b ≡ flashBlock u v (foundFlash f) → (b .state .trials ≤ 8) × (length (f .trials) ≡ 8)
-flash-fits E L D n o t z p e q = let y = flash-sized n _ (flash-few E L D (places n) o t z p) e in (rw q (y .0), y .1)
+pub flash-fits : (E : List Float → Out Activity) (n : ℕ) (o : ActivityOptions) (z : List Float) (p : Float) (ps : List Float) {f : ActivityTpFlash} {u v : Float} {b : AnswerBlock}
+    → f ≡ flashAnswer (phasesOf E (places n) o z p ps) → b ≡ flashBlock u v (foundFlash f) → (b .state .trials ≤ 8) × (length (f .trials) ≡ 8)
+flash-fits E n o z p ps e q = let y = flash-sized n _ (phases-few E (places n) o z p ps) e in (rw q (y .0), y .1)

@@ -1,19 +1,23 @@
 // The core as the desk calls it: a book, a question and an answer slice.
 ghost use mathlib.Core.Path.{_≡_};
-ghost use mathlib.Core.List.{_++_};
+ghost use mathlib.Core.Bool.{true};
+ghost use mathlib.Core.List.{List, _++_};
 ghost use Prim.Native.Nat.{_≤_, _<_, _+_, _*_};
 ghost use lib.ListN.{length, take, drop};
+ghost use lib.Ieee.{Float};
 ghost use Rattle.floats.specs.Vector.{places};
-ghost use Rattle.floats.specs.Outcome.{Out, bind};
+ghost use Rattle.floats.specs.Outcome.{Out, ok, bind};
 ghost use Rattle.thermo_types.specs.Quantities.{positiveOf};
 ghost use Rattle.blocks.specs.Bytes.{put, rowTo, blockBytes, wordAt};
 ghost use Rattle.excess.specs.State.{Excess};
 ghost use Rattle.excess.specs.Answers.{Gives};
-ghost use Rattle.thermo_models.specs.Mixture.{mixtureWith, mixtureOf};
-ghost use Rattle.book.specs.Book.{ruleOf};
+ghost use Rattle.thermo_models.specs.Domain.{pureLiquidsOf};
+ghost use Rattle.thermo_models.specs.Mixture.{Mixture, mixtureWith, mixtureOf};
+ghost use Rattle.question.specs.Inputs.{needsTemperature};
 ghost use Rattle.replies.specs.Blocks.{answerRoom, answerWords, trialWords, trialBytes, answerBytes};
 ghost use Rattle.replies.specs.Answers.{riceBlock};
 ghost use Rattle.sheet.specs.Tasks.{excessFound, task1, task6, task7, taskAt, taskUnder, taskSplit, taskOf};
+ghost use Rattle.sheet.specs.Ready.{pressuresIn, flashPressures, pressuresFor, TableOf, PressuresAre, Readied};
 ghost use Rattle.sheet.specs.Sheet.{replied, answerTo, roomy, questionTo, sheetFrom, sheetOf, onPassed, Answers, Says};
 use blocks::Rule;
 use book::Head;
@@ -36,6 +40,7 @@ use replies::stability_block;
 use replies::trial_words;
 use saturation::ActivitySaturation;
 use thermo_models::Assessment;
+use thermo_models::Tabled;
 use thermo_types::NewPressure;
 use thermo_types::NewTemperature;
 use thermo_types::Pressure;
@@ -136,21 +141,20 @@ fn reply_excess(
 fn task_1(
     rule: Rule,
     book: &[u8],
-    parameters: &[f64; 384],
     n: usize,
-    t: Temperature,
+    s: Tabled,
+    table: &[f64; 512],
     q: Question,
     out: &mut [u8],
 ) -> u64
     requires { ⌜ answerRoom ≤ length (now out) ⌝ }
-    ensures { λ r. ⌜ Answers (replied rule (q .task) (task1 (mixtureWith (now (book .entry)) (now (parameters .entry)) (places n)) q (t .0))) r (now (out .entry)) (now (out .exit)) ⌝ }
+    ensures { λ r. ⌜ ((P : List Float) → TableOf (mixtureWith (now (book .entry)) P (places n)) s (now (table .entry)) → Answers (replied rule (q .task) (task1 (mixtureWith (now (book .entry)) P (places n)) q (s .t .0))) r (now (out .entry)) (now (out .exit))) ⌝ }
 {
     let x = q.fractions;
+    let t = s.t;
     let mut ln_gamma = [0.0; 8];
     let mut slopes = [0.0; 8];
-    let mut table = [0.0; 512];
-    let at = thermo_models::tables(book, parameters, n, t, &mut table);
-    let e = thermo_models::excess(&table, at, &x, &mut ln_gamma, &mut slopes);
+    let e = thermo_models::excess(table, s, &x, &mut ln_gamma, &mut slopes);
     let v = thermo_models::validity(book, n, t, &x);
     reply_excess(rule, q.task, t.value(), v, e, ln_gamma, slopes, out)
 }
@@ -164,45 +168,36 @@ fn reply_saturation(rule: Rule, task: u64, s: ActivitySaturation, out: &mut [u8]
     write_alone(rule, verdict, task, b, out)
 }
 
-fn task_6(
-    rule: Rule,
-    book: &[u8],
-    parameters: &[f64; 384],
-    n: usize,
-    t: Temperature,
-    q: Question,
-    out: &mut [u8],
-) -> u64
+fn task_6(rule: Rule, s: Tabled, table: &[f64; 512], q: Question, out: &mut [u8]) -> u64
     requires { ⌜ answerRoom ≤ length (now out) ⌝ }
-    ensures { λ r. ⌜ Answers (replied rule (q .task) (task6 (mixtureWith (now (book .entry)) (now (parameters .entry)) (places n)) q (t .0))) r (now (out .entry)) (now (out .exit)) ⌝ }
+    ensures { λ r. ⌜ ((m : Mixture) → TableOf m s (now (table .entry)) → Answers (replied rule (q .task) (task6 m q (s .t .0))) r (now (out .entry)) (now (out .exit))) ⌝ }
 {
     let x = q.fractions;
     let o = q.options;
-    let mut table = [0.0; 512];
-    let at = thermo_models::tables(book, parameters, n, t, &mut table);
-    let s = liquid_stability::liquid_stability(&table, at, o, &x);
-    let verdict = s.verdict;
-    let trials = s.trials;
-    let b = stability_block(s.stable, s.count);
+    let found = liquid_stability::liquid_stability(table, s, o, &x);
+    let verdict = found.verdict;
+    let trials = found.trials;
+    let b = stability_block(found.stable, found.count);
     write_answer(rule, verdict, q.task, b, trials, out)
 }
 
+// From the vapor pressures that its T and p have.
 fn task_7(
     rule: Rule,
-    book: &[u8],
-    parameters: &[f64; 384],
-    n: usize,
-    t: Temperature,
+    s: Tabled,
+    table: &[f64; 512],
+    ps: &[f64; 8],
     p: Pressure,
     q: Question,
     out: &mut [u8],
 ) -> u64
     requires { ⌜ answerRoom ≤ length (now out) ⌝ }
-    ensures { λ r. ⌜ Answers (replied rule (q .task) (task7 (mixtureWith (now (book .entry)) (now (parameters .entry)) (places n)) q (t .0) (p .0))) r (now (out .entry)) (now (out .exit)) ⌝ }
+    ensures { λ r. ⌜ ((m : Mixture) → TableOf m s (now (table .entry)) → flashPressures m (s .t .0) (p .0) ≡ ok (now (ps .entry)) → Answers (replied rule (q .task) (task7 m q (s .t .0) (p .0))) r (now (out .entry)) (now (out .exit))) ⌝ }
 {
     let z = q.fractions;
     let o = q.options;
-    let f = tp_flash::activity_tp_flash(book, parameters, n, o, t, &z, p);
+    let t = s.t;
+    let f = tp_flash::activity_tp_flash(table, s, o, &z, p, ps);
     let verdict = f.verdict;
     let trials = f.trials;
     let b = flash_block(t.value(), p.value(), f);
@@ -225,20 +220,19 @@ fn reply_rice(rule: Rule, task: u64, s: RachfordRice, out: &mut [u8]) -> u64
 
 fn task_at_pressure(
     rule: Rule,
-    book: &[u8],
-    parameters: &[f64; 384],
-    n: usize,
-    t: Temperature,
+    s: Tabled,
+    table: &[f64; 512],
+    ps: &[f64; 8],
     q: Question,
     out: &mut [u8],
 ) -> u64
     requires { ⌜ answerRoom ≤ length (now out) ⌝ }
-    ensures { λ r. ⌜ Answers (replied rule (q .task) (bind (positiveOf (q .pressure) 14) (task7 (mixtureWith (now (book .entry)) (now (parameters .entry)) (places n)) q (t .0)))) r (now (out .entry)) (now (out .exit)) ⌝ }
+    ensures { λ r. ⌜ ((m : Mixture) → TableOf m s (now (table .entry)) → bind (positiveOf (q .pressure) 14) (flashPressures m (s .t .0)) ≡ ok (now (ps .entry)) → Answers (replied rule (q .task) (bind (positiveOf (q .pressure) 14) (task7 m q (s .t .0)))) r (now (out .entry)) (now (out .exit))) ⌝ }
 {
     let made = Pressure::new(q.pressure);
     match made {
         NewPressure::No(number) => number,
-        NewPressure::Valid(p) => task_7(rule, book, parameters, n, t, p, q, out),
+        NewPressure::Valid(p) => task_7(rule, s, table, ps, p, q, out),
     }
 }
 
@@ -246,30 +240,31 @@ fn task_at_pressure(
 fn task_at(
     rule: Rule,
     book: &[u8],
-    parameters: &[f64; 384],
     n: usize,
-    t: Temperature,
+    s: Tabled,
+    table: &[f64; 512],
+    ps: &[f64; 8],
     q: Question,
     out: &mut [u8],
 ) -> u64
     requires { ⌜ answerRoom ≤ length (now out) ⌝ }
-    ensures { λ r. ⌜ Answers (replied rule (q .task) (taskAt (mixtureWith (now (book .entry)) (now (parameters .entry)) (places n)) q (t .0))) r (now (out .entry)) (now (out .exit)) ⌝ }
+    ensures { λ r. ⌜ ((P : List Float) → TableOf (mixtureWith (now (book .entry)) P (places n)) s (now (table .entry)) → pressuresFor (mixtureWith (now (book .entry)) P (places n)) (q .task) (q .pressure) (s .t .0) ≡ ok (now (ps .entry)) → Answers (replied rule (q .task) (taskAt (mixtureWith (now (book .entry)) P (places n)) q (s .t .0))) r (now (out .entry)) (now (out .exit))) ⌝ }
 {
     let x = q.fractions;
     let o = q.options;
     let task = q.task;
     match task {
-        1 => task_1(rule, book, parameters, n, t, q, out),
+        1 => task_1(rule, book, n, s, table, q, out),
         2 => {
-            let s = saturation::activity_bubble_pressure(book, parameters, n, t, &x);
-            reply_saturation(rule, task, s, out)
+            let point = saturation::activity_bubble_pressure(table, s, &x, ps);
+            reply_saturation(rule, task, point, out)
         }
         3 => {
-            let s = saturation::activity_dew_pressure(book, parameters, n, t, &x, o);
-            reply_saturation(rule, task, s, out)
+            let point = saturation::activity_dew_pressure(table, s, &x, ps, o);
+            reply_saturation(rule, task, point, out)
         }
-        6 => task_6(rule, book, parameters, n, t, q, out),
-        _ => task_at_pressure(rule, book, parameters, n, t, q, out),
+        6 => task_6(rule, s, table, q, out),
+        _ => task_at_pressure(rule, s, table, ps, q, out),
     }
 }
 
@@ -296,19 +291,132 @@ fn task_under(
     reply_saturation(rule, q.task, s, out)
 }
 
+// ---- what the tasks at a temperature share, whatever the feed
+
+// What the tables stand for; or the number of the question that was answered no: 13, 14, 22, 23, or 25 of a vapor pressure.
+pub enum Ready {
+    At(Tabled),
+    No(u64),
+}
+
+// Of the pure liquids: 22, 25.
+fn pure_pressures(book: &[u8], n: usize, t: Temperature, ps: &mut [f64; 8]) -> Verdict
+    ensures { λ r. ⌜ PressuresAre (pressuresIn (pureLiquidsOf (now (book .entry)) (places n) (t .0))) r (now (ps .exit)) ⌝ }
+{
+    let mut dps = [0.0; 8];
+    thermo_models::pure_liquids(book, n, t, ps, &mut dps)
+}
+
+// A flash's: 22, 23, 25.
+fn flash_pressures(book: &[u8], n: usize, t: Temperature, p: Pressure, ps: &mut [f64; 8]) -> Verdict
+    ensures { λ r. ⌜ ((P : List Float) → PressuresAre (flashPressures (mixtureWith (now (book .entry)) P (places n)) (t .0) (p .0)) r (now (ps .exit))) ⌝ }
+{
+    if !thermo_models::check_temperature(book, n, t) {
+        return Verdict::Refused(22);
+    }
+    if !thermo_models::check_pressure(p.value()) {
+        return Verdict::Refused(23);
+    }
+    pure_pressures(book, n, t, ps)
+}
+
+// Those that the task reads.
+fn pressures_for(
+    book: &[u8],
+    n: usize,
+    task: u64,
+    pressure: f64,
+    t: Temperature,
+    ps: &mut [f64; 8],
+) -> Verdict
+    ensures { λ r. ⌜ ((P : List Float) → PressuresAre (pressuresFor (mixtureWith (now (book .entry)) P (places n)) task pressure (t .0)) r (now (ps .exit))) ⌝ }
+{
+    match task {
+        1 | 6 => {
+            *ps = [0.0; 8];
+            Verdict::Passed
+        }
+        2 | 3 => pure_pressures(book, n, t, ps),
+        _ => {
+            let made = Pressure::new(pressure);
+            match made {
+                NewPressure::No(number) => Verdict::Refused(number),
+                NewPressure::Valid(p) => flash_pressures(book, n, t, p, ps),
+            }
+        }
+    }
+}
+
+// The tables of the book's parameters at t.
+fn tables_at(book: &[u8], n: usize, t: Temperature, table: &mut [f64; 512]) -> Tabled
+    ensures { λ r. ⌜ (length (now (table .entry)) ≡ 512 → (r .t ≡ t) × TableOf (mixtureOf (now (book .entry)) (places n)) r (now (table .exit))) ⌝ }
+{
+    let mut parameters = [0.0; 384];
+    records::parameters(book, n, &mut parameters);
+    thermo_models::tables(book, &parameters, n, t, table)
+}
+
+// Makes ready for a task at a temperature (K), 7 at a pressure (Pa) too: the vapor pressures that it reads, then the tables.
+pub fn make_ready(
+    book: &[u8],
+    n: usize,
+    task: u64,
+    temperature: f64,
+    pressure: f64,
+    table: &mut [f64; 512],
+    ps: &mut [f64; 8],
+) -> Ready
+    ensures { λ r. ⌜ (length (now (table .entry)) ≡ 512 → Readied (mixtureOf (now (book .entry)) (places n)) task temperature pressure r (now (table .exit)) (now (ps .exit))) ⌝ }
+{
+    let made = Temperature::new(temperature);
+    match made {
+        NewTemperature::No(number) => Ready::No(number),
+        NewTemperature::Valid(t) => {
+            let verdict = pressures_for(book, n, task, pressure, t, ps);
+            match verdict {
+                Verdict::Refused(number) => Ready::No(number),
+                Verdict::Passed => Ready::At(tables_at(book, n, t, table)),
+            }
+        }
+    }
+}
+
+// The answer of a task at a temperature, from what was made ready for it.
+fn answer_at(
+    rule: Rule,
+    book: &[u8],
+    n: usize,
+    made: Ready,
+    table: &[f64; 512],
+    ps: &[f64; 8],
+    q: Question,
+    out: &mut [u8],
+) -> u64
+    requires { ⌜ answerRoom ≤ length (now out) ⌝ }
+    ensures { λ r. ⌜ (Readied (mixtureOf (now (book .entry)) (places n)) (q .task) (q .temperature) (q .pressure) made (now (table .entry)) (now (ps .entry)) → Answers (replied rule (q .task) (bind (positiveOf (q .temperature) 13) (taskAt (mixtureOf (now (book .entry)) (places n)) q))) r (now (out .entry)) (now (out .exit))) ⌝ }
+{
+    match made {
+        Ready::No(number) => number,
+        Ready::At(s) => task_at(rule, book, n, s, table, ps, q, out),
+    }
+}
+
 fn at_temperature(rule: Rule, book: &[u8], n: usize, q: Question, out: &mut [u8]) -> u64
     requires { ⌜ answerRoom ≤ length (now out) ⌝ }
     ensures { λ r. ⌜ Answers (replied rule (q .task) (bind (positiveOf (q .temperature) 13) (taskAt (mixtureOf (now (book .entry)) (places n)) q))) r (now (out .entry)) (now (out .exit)) ⌝ }
 {
-    let made = Temperature::new(q.temperature);
-    match made {
-        NewTemperature::No(number) => number,
-        NewTemperature::Valid(t) => {
-            let mut parameters = [0.0; 384];
-            records::parameters(book, n, &mut parameters);
-            task_at(rule, book, &parameters, n, t, q, out)
-        }
-    }
+    let mut table = [0.0; 512];
+    let mut ps = [0.0; 8];
+    let made = make_ready(
+        book,
+        n,
+        q.task,
+        q.temperature,
+        q.pressure,
+        &mut table,
+        &mut ps,
+    );
+    answer_at(rule, book, n, made, &table, &ps, q, out)
 }
 
 fn at_pressure(rule: Rule, book: &[u8], n: usize, q: Question, out: &mut [u8]) -> u64
@@ -371,6 +479,24 @@ pub fn answer_asked(book: &[u8], n: usize, q: Question, out: &mut [u8]) -> u64
         return 10;
     }
     solve(book::rule_of(book), book, n, q, out)
+}
+
+// The answer to a question that was read, of a task at a temperature, from what was made ready for it: 10, then the task's own.
+pub fn answer_ready(
+    book: &[u8],
+    n: usize,
+    made: Ready,
+    table: &[f64; 512],
+    ps: &[f64; 8],
+    q: Question,
+    out: &mut [u8],
+) -> u64
+    ensures { λ r. ⌜ (needsTemperature (q .task) ≡ true → Readied (mixtureOf (now (book .entry)) (places n)) (q .task) (q .temperature) (q .pressure) made (now (table .entry)) (now (ps .entry)) → Answers (roomy (length (now (out .entry))) (answerTo (now (book .entry)) (places n) q)) r (now (out .entry)) (now (out .exit))) ⌝ }
+{
+    if out.len() < ANSWER_ROOM {
+        return 10;
+    }
+    answer_at(book::rule_of(book), book, n, made, table, ps, q, out)
 }
 
 // Questions 11 to 21, then the task.

@@ -46,9 +46,9 @@ module _ (E : List Float → Out Activity) (n : ℕ) (o : ActivityOptions) (z : 
       (each-need (FewIn n) _ 30 (both-few bubble dew s))
 
 module _ (E : List Float → Out Activity) (n : ℕ) (o : ActivityOptions) (z : List Float) (p : Float) (ps : List Float) where
-  phases-few : Each (FewIn n) (phasesOf E n o z p ps)
+  each-few : Each (FewIn n) (phasesOf E n o z p ps)
   unfolding phasesOf fromDew betweenOf splitFeed
-  phases-few =
+  each-few =
       each-bind (FewIn n) _ _ (λ b e.
       each-bind (FewIn n) _ _ (λ dew q.
       each-choose (FewIn n) _
@@ -57,8 +57,12 @@ module _ (E : List Float → Out Activity) (n : ℕ) (o : ActivityOptions) (z : 
       (vapor-few n z _ dew _)
       (each-bind (FewIn n) _ _ (λ a u. each-bind (FewIn n) _ _ (λ s w. split-few E n o z _ dew s))))))
 
+  pub phases-few : (f : Flash) → phasesOf E n o z p ps ≡ ok f → Few n (f .trials)
+  unfolding FewIn
+  phases-few f e = each-few .each f e
+
 pub flash-few : (E : Activities) (L : Liquids) (D : Float → Bool) (n : ℕ) (o : ActivityOptions) (t : Float) (z : List Float) (p : Float)
     → (f : Flash) → tpFlash E L D n o t z p ≡ ok f → Few n (f .trials)
 unfolding FewIn tpFlash
 flash-few E L D n o t z p f e =
-    each-need (FewIn n) _ 22 (each-need (FewIn n) _ 23 (each-bind (FewIn n) _ _ (λ (pure : Pures) q. phases-few (E t) n o z p (pure .pressure)))) .each f e
+    each-need (FewIn n) _ 22 (each-need (FewIn n) _ 23 (each-bind (FewIn n) _ _ (λ (pure : Pures) q. each-few (E t) n o z p (pure .pressure)))) .each f e

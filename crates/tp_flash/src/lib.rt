@@ -9,11 +9,10 @@ ghost use Rattle.floats.specs.Vector.{places};
 ghost use Rattle.floats.specs.Outcome.{ok, no};
 ghost use Rattle.numerics.specs.Numerics.{expOf, lnOf};
 ghost use Rattle.thermo_types.specs.Verdicts.{normalizedAnswer};
-ghost use Rattle.thermo_models.specs.Activity.{activityOn, activityOf};
-ghost use Rattle.thermo_models.specs.Domain.{pureLiquidsOf, temperatureInDomain};
+ghost use Rattle.thermo_models.specs.Activity.{activityOn};
 ghost use Rattle.tp_flash.specs.Split.{kValues, phaseOf, splitGap, balanceOf, turnAt, splitTurn, splitFrom};
 ghost use Rattle.tp_flash.specs.Answers.{splitAnswer, splitIn, splitTurnAnswer, fractionIn, stopsAt, trialsIn, dewPressureAnswer};
-ghost use Rattle.tp_flash.specs.Tp.{inside, nearEdge, dewOf, asVapor, bothPhases, asLiquid, asBoth, boundaryOf, fromSplit, splitFeed, betweenOf, fromDew, phasesOf, tpFlash, phasesWith, flashAnswer};
+ghost use Rattle.tp_flash.specs.Tp.{inside, nearEdge, dewOf, asVapor, bothPhases, asLiquid, asBoth, boundaryOf, fromSplit, splitFeed, betweenOf, fromDew, phasesOf, phasesWith, flashAnswer};
 use liquid_stability::LiquidStability;
 use liquid_stability::LiquidStabilityTrial;
 use rachford_rice::RachfordRiceOutcome;
@@ -21,7 +20,6 @@ use thermo_models::Tabled;
 use thermo_types::ActivityOptions;
 use thermo_types::Normalized;
 use thermo_types::Pressure;
-use thermo_types::Temperature;
 use thermo_types::Verdict;
 
 pub enum FlashPhases {
@@ -639,8 +637,9 @@ fn from_dew(
     }
 }
 
-// Bubble and dew both, then the phases.
-fn from_bubble(
+// The flash of the feed z at p, from the tables and the vapor pressures of a temperature: bubble and dew both, then the phases; what
+// bubble, dew, split and trials refuse (15 to 18, 24, 25, 27 to 30, 34).
+pub fn activity_tp_flash(
     table: &[f64; 512],
     at: Tabled,
     o: ActivityOptions,
@@ -655,51 +654,5 @@ fn from_bubble(
     match verdict {
         Verdict::Refused(number) => no_flash(number),
         Verdict::Passed => from_dew(table, at, o, z, p, ps, b.pressure),
-    }
-}
-
-// The tables of the temperature, made once, then the phases.
-fn phases_of(
-    book: &[u8],
-    parameters: &[f64; 384],
-    n: usize,
-    t: Temperature,
-    o: ActivityOptions,
-    z: &[f64; 8],
-    p: Pressure,
-    ps: &[f64; 8],
-) -> ActivityTpFlash
-    ensures { λ r. ⌜ r ≡ flashAnswer (phasesOf (activityOf (now (book .entry)) (now (parameters .entry)) (places n) (t .0)) (places n) o (now (z .entry)) (p .0) (now (ps .entry))) ⌝ }
-{
-    let mut table = [0.0; 512];
-    let at = thermo_models::tables(book, parameters, n, t, &mut table);
-    from_bubble(&table, at, o, z, p, ps)
-}
-
-// The flash of the feed z at t and p: 22, 23, 25 and what bubble, dew, split and trials refuse (15 to 18, 24, 25,
-// 27 to 30).
-pub fn activity_tp_flash(
-    book: &[u8],
-    parameters: &[f64; 384],
-    n: usize,
-    o: ActivityOptions,
-    t: Temperature,
-    z: &[f64; 8],
-    p: Pressure,
-) -> ActivityTpFlash
-    ensures { λ r. ⌜ r ≡ flashAnswer (tpFlash (activityOf (now (book .entry)) (now (parameters .entry)) (places n)) (pureLiquidsOf (now (book .entry)) (places n)) (temperatureInDomain (now (book .entry)) (places n)) (places n) o (t .0) (now (z .entry)) (p .0)) ⌝ }
-{
-    if !thermo_models::check_temperature(book, n, t) {
-        return no_flash(22);
-    }
-    if !thermo_models::check_pressure(p.value()) {
-        return no_flash(23);
-    }
-    let mut ps = [0.0; 8];
-    let mut dps = [0.0; 8];
-    let verdict = thermo_models::pure_liquids(book, n, t, &mut ps, &mut dps);
-    match verdict {
-        Verdict::Refused(number) => no_flash(number),
-        Verdict::Passed => phases_of(book, parameters, n, t, o, z, p, &ps),
     }
 }

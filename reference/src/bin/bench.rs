@@ -1,17 +1,17 @@
 //! Times of the core and of the reference on the same inputs in one run: nanoseconds a call, median of five.
 //!
-//! bench numbers|book|excess|rice|sheet|wilson|pooled|all
+//! bench numbers|book|excess|rice|sheet|wilson|pooled|feeds|all
 
 use std::hint::black_box;
 use std::process::ExitCode;
 
-use reference::generate::{books, feeds, mass, pooled, questions, small, wilson, Rng};
+use reference::generate::{books, feeds as fractions, mass, pooled, questions, small, wilson, Rng};
 use reference::helpers;
 use reference::named::rachford_rice::{rachford_rice, rachford_rice_negative, RachfordRiceOutcome};
 use reference::rattle;
 use reference::sheet::blocks::words_of;
 use reference::sheet::question::FRACTIONS;
-use reference::sheet::{answer, open_book, pool, ANSWER_BYTES};
+use reference::sheet::{answer, feeds, open_book, pool, ANSWER_BYTES};
 use reference::stage::padded;
 
 const INPUTS: usize = 64;
@@ -25,7 +25,7 @@ const RUN: f64 = 2e7;
 
 fn main() -> ExitCode {
     let stage = std::env::args().nth(1).unwrap_or_default();
-    let stages: [(&str, fn()); 7] = [
+    let stages: [(&str, fn()); 8] = [
         ("numbers", bench_numbers),
         ("book", bench_book),
         ("excess", bench_excess),
@@ -33,15 +33,19 @@ fn main() -> ExitCode {
         ("sheet", bench_sheet),
         ("wilson", bench_wilson),
         ("pooled", bench_pooled),
+        ("feeds", bench_feeds),
     ];
     let chosen: Vec<_> = stages.iter().filter(|(name, _)| *name == stage || stage == "all").collect();
     chosen.iter().for_each(|(_, bench)| bench());
     if chosen.is_empty() {
-        eprintln!("usage: bench numbers|book|excess|rice|sheet|wilson|pooled|all");
+        eprintln!("usage: bench numbers|book|excess|rice|sheet|wilson|pooled|feeds|all");
         return ExitCode::from(2);
     }
     ExitCode::SUCCESS
 }
+
+/// Makes books of n solvents.
+type Drafts = fn(&mut Rng, usize) -> books::Draft;
 
 /// A pass calls once for each input.
 type Pass<'a> = &'a mut dyn FnMut();
@@ -115,9 +119,18 @@ fn line<T>(name: &str, inputs: &[T], mut core: impl FnMut(&T) -> Option<()>, mut
     print_ratio(name, time / calls, own / calls);
 }
 
-fn many<T>(mut make: impl FnMut(&mut Rng) -> T) -> Vec<T> {
+fn many<T>(make: impl FnMut(&mut Rng) -> T) -> Vec<T> {
+    made(INPUTS, make)
+}
+
+/// Of calls that are as long as many.
+fn few<T>(make: impl FnMut(&mut Rng) -> T) -> Vec<T> {
+    made(INPUTS / 8, make)
+}
+
+fn made<T>(count: usize, mut make: impl FnMut(&mut Rng) -> T) -> Vec<T> {
     let mut rng = Rng::new(7);
-    (0..INPUTS).map(|_| make(&mut rng)).collect()
+    (0..count).map(|_| make(&mut rng)).collect()
 }
 
 fn bench_numbers() {
@@ -229,11 +242,11 @@ fn bench_excess() {
 }
 
 /// Names of the lines begin with `model`.
-fn time_excess(model: &str, book: fn(&mut Rng, usize) -> books::Draft) {
+fn time_excess(model: &str, book: Drafts) {
     for n in SOLVENTS {
         let inputs = many(|rng| {
             let book = book(rng, n).bytes();
-            (book, rng.range(280.0, 440.0), padded(&feeds::feed_with(rng, n, feeds::Absent::None)))
+            (book, rng.range(280.0, 440.0), padded(&fractions::feed_with(rng, n, fractions::Absent::None)))
         });
         let mut out = [0.0; 23];
         line(
@@ -261,7 +274,7 @@ fn bench_rice() {
     for n in SOLVENTS {
         // With both phases, so that the constrained function searches too.
         let inputs: Vec<_> = many(|rng| loop {
-            let z = feeds::feed_with(rng, n, feeds::Absent::None);
+            let z = fractions::feed_with(rng, n, fractions::Absent::None);
             let k: Vec<f64> = (0..n).map(|_| rng.decade(-1.5, 1.5)).collect();
             if let Ok(RachfordRiceOutcome::TwoPhase(_)) = rachford_rice(&z, &k, 200) {
                 return (padded(&z), padded(&k));
@@ -289,7 +302,7 @@ fn bench_wilson() {
     (1..=7).for_each(|task| time_task("Wilson ", task, wilson::realistic));
 }
 
-fn time_task(model: &str, task: u64, book: fn(&mut Rng, usize) -> books::Draft) {
+fn time_task(model: &str, task: u64, book: Drafts) {
     for n in SOLVENTS {
         let inputs = many(|rng| accepted(rng, n, task, book));
         let (mut core_answer, mut own_answer) = ([0; ANSWER_BYTES], [0; ANSWER_BYTES]);
@@ -314,7 +327,7 @@ fn bench_sheet() {
 }
 
 /// A book and a question of the task that is answered.
-fn accepted(rng: &mut Rng, n: usize, task: u64, book: fn(&mut Rng, usize) -> books::Draft) -> (Vec<u8>, Vec<u8>) {
+fn accepted(rng: &mut Rng, n: usize, task: u64, book: Drafts) -> (Vec<u8>, Vec<u8>) {
     loop {
         let book = book(rng, n).bytes();
         let opened = open_book(&book).expect("realistic");
@@ -349,15 +362,73 @@ fn time_pooled(task: u64, n: usize, m: usize) {
             return (book, question, drums, plain);
         }
     });
-    let mut out = [0; ANSWER_BYTES];
-    if rattle::pooled(&inputs[0].0, &inputs[0].1, &inputs[0].2, &mut out).is_none() {
-        println!("pooled task {task}, n = {n}, drums {m}: core not built in");
+    let (mut out, mut other) = ([0; ANSWER_BYTES], [0; ANSWER_BYTES]);
+    beside_plain(
+        &format!("pooled task {task}, n = {n}, drums {m}"),
+        "the plain call",
+        &inputs,
+        |(book, question, drums, _)| rattle::pooled(book, question, drums, &mut out).map(drop_value),
+        |(book, _, _, plain)| drop_value(rattle::answer(book, plain, &mut other)),
+    );
+}
+
+/// One line of the core alone: a call, and the plain calls that give the same. `call` says `None` where its stage is not built in.
+fn beside_plain<T>(
+    name: &str,
+    plainly: &str,
+    inputs: &[T],
+    mut call: impl FnMut(&T) -> Option<()>,
+    mut plain: impl FnMut(&T),
+) {
+    if call(&inputs[0]).is_none() {
+        println!("{name}: core not built in");
         return;
     }
-    let mut other = out;
-    let mut pooled = || inputs.iter().for_each(|(b, q, drums, _)| drop_value(rattle::pooled(b, q, drums, &mut out)));
-    let mut plain = || inputs.iter().for_each(|(b, _, _, plain)| drop_value(rattle::answer(b, plain, &mut other)));
-    let [time, own] = medians([&mut pooled, &mut plain]).map(|time| time / INPUTS as f64);
-    let ratio = time / own;
-    println!("pooled task {task}, n = {n}, drums {m}: {time:.1} ns, the plain call {own:.1} ns, ratio {ratio:.2}");
+    let calls = inputs.len() as f64;
+    let mut first = || inputs.iter().for_each(|input| drop_value(call(input)));
+    let mut second = || inputs.iter().for_each(&mut plain);
+    let [time, own] = medians([&mut first, &mut second]).map(|time| time / calls);
+    println!("{name}: {time:.1} ns, {plainly} {own:.1} ns, ratio {:.2}", time / own);
+}
+
+/// The core alone: one call with m feeds, and m plain calls.
+fn bench_feeds() {
+    for (model, book) in [("", books::realistic as Drafts), ("Wilson ", wilson::realistic)] {
+        for task in feeds::TASKS {
+            for m in [64, 2] {
+                time_feeds(model, task, m, book);
+            }
+        }
+    }
+}
+
+fn time_feeds(model: &str, task: u64, m: usize, book: Drafts) {
+    const N: usize = 8;
+    // All feeds are answered.
+    let inputs = few(|rng| {
+        let (book, question) = accepted(rng, N, task, book);
+        let version = word(&book[8..16]);
+        let (mut lent, mut plain) = (Vec::new(), Vec::new());
+        while plain.len() < m {
+            let feed = feeds::bytes_of_feeds(&[padded(&fractions::feed_with(rng, N, fractions::Absent::None))]);
+            let fed = feeds::with_feed(&question, &feed, version);
+            if answer(&book, &fed, &mut [0; ANSWER_BYTES]) == 0 {
+                lent.extend(feed);
+                plain.push(fed);
+            }
+        }
+        (book, question, lent, plain)
+    });
+    let (mut out, mut other) = (vec![0; m * ANSWER_BYTES], vec![0; m * ANSWER_BYTES]);
+    beside_plain(
+        &format!("{model}task {task}, n = {N}, {m} feeds"),
+        &format!("{m} plain calls"),
+        &inputs,
+        |(book, question, lent, _)| rattle::feeds(book, question, lent, &mut out).map(drop_value),
+        |(book, _, _, plain)| {
+            for (question, part) in plain.iter().zip(other.chunks_mut(ANSWER_BYTES)) {
+                drop_value(rattle::answer(book, question, part));
+            }
+        },
+    );
 }

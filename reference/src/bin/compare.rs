@@ -5,8 +5,7 @@
 use std::process::ExitCode;
 
 use reference::command::{not_built_in_fails, Options, USAGE};
-use reference::counts::drums::Drums;
-use reference::counts::{count_sheets, Exchanges, SheetCounts, Tally};
+use reference::counts::{count_sheets, Counts, Exchanges};
 use reference::generate::cases::Cases;
 use reference::stage::{hex_words, Case, Stage};
 
@@ -30,23 +29,19 @@ fn main() -> ExitCode {
 fn compare(stage: Stage, options: &Options) -> usize {
     if !stage.built_in() {
         if stage.has_sheets() {
-            count_sheets(stage, options.seed, options.count_of(stage)).print();
+            count_sheets(stage, options.seed, options.count_of(stage)).print(stage);
         }
         println!("{}: not built in", stage.name());
         return usize::from(not_built_in_fails());
     }
     let mut cases = Cases::new(stage, options.seed, false);
-    let mut tally = Tally::default();
-    let mut tasks = SheetCounts::default();
+    let mut counts = Counts::default();
     let mut exchanges = Exchanges::default();
-    let mut drums = Drums::default();
     let mut differences = 0;
     for _ in 0..options.count_of(stage) {
         let (kind, case) = cases.draw();
         let expected = case.expected();
-        tally.add(expected.refusal);
-        tasks.add(kind, &case, expected.refusal);
-        drums.add(&case, expected.refusal);
+        counts.add(kind, &case, &expected);
         let offered = case.offered();
         exchanges.add(&case, cases.exchange(), offered.as_ref().map_or(0, |words| words[0]));
         if offered.as_ref() != Some(&expected.words) {
@@ -56,15 +51,12 @@ fn compare(stage: Stage, options: &Options) -> usize {
             }
         }
     }
-    tasks.print();
+    counts.print(stage);
     if stage == Stage::Exchanged {
         exchanges.print();
         differences += exchanges.let_through;
     }
-    if stage == Stage::Pooled {
-        drums.print();
-    }
-    let (all, accepted, refused) = (tally.all(), tally.accepted(), tally.refused());
+    let (all, accepted, refused) = (counts.all.all(), counts.all.accepted(), counts.all.refused());
     println!("{}: {all} compared, {accepted} accepted, refused {refused}, {differences} differences", stage.name());
     differences
 }

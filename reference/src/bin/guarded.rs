@@ -1,9 +1,9 @@
-//! Calls the core with book, question, drums and answer slices that end, or begin, at a page that can't be touched, and
-//! compares every byte with the reference.
+//! Calls the core with book, question and answer slices, and drums or feeds, that end, or begin, at a page that can't
+//! be touched, and compares every byte with the reference.
 //!
 //! guarded [--count N] [--seed S]
 //!
-//! Each slice lies in pages of its own between two pages without access. Book, question and drums can't be written during
+//! Each slice lies in pages of its own between two pages without access. All but the answer slice can't be written during
 //! the call; of the answer's pages every byte is compared, those outside the slice too.
 
 use std::ffi::{c_int, c_void};
@@ -14,11 +14,13 @@ use reference::command::count_and_seed;
 use reference::counts::Tally;
 use reference::generate::cases::{sheets, Cases};
 use reference::generate::Rng;
-use reference::rattle::{zektonk_answer, zektonk_pooled};
+use reference::rattle::{zektonk_answer, zektonk_feeds, zektonk_pooled};
 use reference::sheet::blocks::{bytes_of, rule_of, seal, words_of, Rule, BLOCK};
+use reference::sheet::feeds::FEED;
 use reference::sheet::question::{MAX_ITERATIONS, MAX_TEMPERATURE_ITERATIONS};
-use reference::sheet::{self, pool};
+use reference::sheet::{self, ANSWER_BYTES};
 use reference::stage::{Case, Stage};
+use reference::with::With;
 
 extern "C" {
     fn mmap(at: *mut c_void, length: usize, access: c_int, flags: c_int, file: c_int, offset: i64) -> *mut c_void;
@@ -32,11 +34,13 @@ const READ: c_int = 1;
 const READ_AND_WRITE: c_int = 3;
 const PRIVATE_ANONYMOUS: c_int = 0x22;
 
-/// Longest slices that are lent. A book has 18,944 bytes at most, drums 4,096, an answer needs 4,608.
+/// Longest slices that are lent. A book has 18,944 bytes at most, drums and feeds 4,096, an answer needs 4,608.
 const BOOK: usize = 20_480;
 const QUESTION: usize = 1024;
-const DRUMS: usize = 8192;
+const MORE: usize = 8192;
 const ANSWER: usize = 5120;
+/// Of up to 8 feeds, and of any.
+const ANSWERS: [usize; 2] = [8 * ANSWER_BYTES + 512, 64 * ANSWER_BYTES + 512];
 
 /// Differences that are printed.
 const SHOWN: usize = 10;
@@ -94,77 +98,87 @@ impl Area {
 struct Call {
     book: Vec<u8>,
     question: Vec<u8>,
-    /// Where the call is that with drums.
-    drums: Option<Vec<u8>>,
+    /// Where the call takes one slice more.
+    more: Option<(With, Vec<u8>)>,
     room: usize,
-    /// Book, question, answer and drums.
+    /// Book, question, answer and the slice more.
     at_end: [bool; 4],
     /// Empty slices as null.
     null: bool,
 }
 
+/// An answer's pages, and what they hold before a call.
+struct Noisy {
+    area: Area,
+    noise: Vec<u8>,
+}
+
 struct Pages {
     book: Area,
     question: Area,
-    drums: Area,
-    answer: Area,
-    /// What the answer's pages hold before a call.
-    noise: Vec<u8>,
+    more: Area,
+    /// From the shortest on.
+    answers: [Noisy; 3],
 }
 
 impl Pages {
     fn new(rng: &mut Rng) -> Self {
-        let [book, question, drums, answer] = [BOOK, QUESTION, DRUMS, ANSWER].map(Area::new);
-        let noise = random(rng, answer.length);
-        Self { book, question, drums, answer, noise }
+        let [book, question, more] = [BOOK, QUESTION, MORE].map(Area::new);
+        let answers = [ANSWER, ANSWERS[0], ANSWERS[1]].map(|most| {
+            let area = Area::new(most);
+            let noise = random(rng, area.length);
+            Noisy { area, noise }
+        });
+        Self { book, question, more, answers }
     }
 
     /// The number, and whether all is as the reference has it.
     fn compare(&mut self, rng: &mut Rng, call: &Call) -> (u32, bool) {
+        let which = self.answers.iter().position(|pages| call.room <= pages.area.length).expect("room for the answer");
+        let Noisy { area, noise } = &mut self.answers[which];
         // A few bytes of the noise change from call to call.
         for _ in 0..8 {
-            let at = rng.below(self.noise.len());
-            self.noise[at] = rng.bits() as u8;
+            let at = rng.below(noise.len());
+            noise[at] = rng.bits() as u8;
         }
-        let mut expected = self.noise.clone();
-        let to = self.answer.place(call.room, call.at_end[2]);
+        let mut expected = noise.clone();
+        let to = area.place(call.room, call.at_end[2]);
         let lent = &mut expected[to..to + call.room];
-        let number = match &call.drums {
+        let number = match &call.more {
             None => sheet::answer(&call.book, &call.question, lent),
-            Some(drums) => pool::answer(&call.book, &call.question, drums, lent),
+            Some((with, more)) => with.reference(&call.book, &call.question, more, lent),
         };
-        let found = self.offered(call, to);
-        (number, found == u64::from(number) && self.answer.bytes() == expected)
+        area.fill(0, noise);
+        let at = area.at(to);
+        let found = self.offered(call, at);
+        (number, found == u64::from(number) && self.answers[which].area.bytes() == expected)
     }
 
-    fn offered(&mut self, call: &Call, to: usize) -> u64 {
-        let none = Vec::new();
-        let drums = call.drums.as_ref().unwrap_or(&none);
-        let read = [&call.book, &call.question, drums];
-        let mut from = [0; 3];
-        let areas = [&mut self.book, &mut self.question, &mut self.drums].into_iter().zip([0, 1, 3]);
+    fn offered(&mut self, call: &Call, answer: *mut u8) -> u64 {
+        let more = call.more.as_ref().map_or(&[][..], |(_, more)| more);
+        let read = [&call.book, &call.question, more];
+        let mut from = [ptr::null_mut(); 3];
+        let areas = [&mut self.book, &mut self.question, &mut self.more].into_iter().zip([0, 1, 3]);
         for ((area, end), (from, bytes)) in areas.zip(from.iter_mut().zip(read)) {
-            *from = area.place(bytes.len(), call.at_end[end]);
-            area.fill(*from, bytes);
+            let place = area.place(bytes.len(), call.at_end[end]);
+            area.fill(place, bytes);
             area.allow(READ);
+            *from = area.at(place);
         }
-        self.answer.fill(0, &self.noise);
         let lent = |at: *mut u8, length: usize| if call.null && length == 0 { ptr::null_mut() } else { at };
+        let [b, q, m] = [0, 1, 2].map(|k| lent(from[k], read[k].len()));
+        let [b_len, q_len, m_len] = read.map(<[u8]>::len);
+        let (a, a_len) = (lent(answer, call.room), call.room);
         // SAFETY: each pointer and length lie in pages of their own, apart from each other, that can be read or written
         // as the core's header asks.
         let number = unsafe {
-            let book = lent(self.book.at(from[0]), call.book.len());
-            let question = lent(self.question.at(from[1]), call.question.len());
-            let answer = lent(self.answer.at(to), call.room);
-            let [book_len, question_len] = [call.book.len(), call.question.len()];
-            if call.drums.is_none() {
-                zektonk_answer(book, book_len, question, question_len, answer, call.room)
-            } else {
-                let lent = lent(self.drums.at(from[2]), drums.len());
-                zektonk_pooled(book, book_len, question, question_len, lent, drums.len(), answer, call.room)
+            match call.more {
+                None => zektonk_answer(b, b_len, q, q_len, a, a_len),
+                Some((With::Drums, _)) => zektonk_pooled(b, b_len, q, q_len, m, m_len, a, a_len),
+                Some((With::Feeds, _)) => zektonk_feeds(b, b_len, q, q_len, m, m_len, a, a_len),
             }
         };
-        for area in [&self.book, &self.question, &self.drums] {
+        for area in [&self.book, &self.question, &self.more] {
             area.allow(READ_AND_WRITE);
         }
         number
@@ -187,23 +201,26 @@ fn room(rng: &mut Rng) -> usize {
 
 fn call(rng: &mut Rng, book: Vec<u8>, question: Vec<u8>) -> Call {
     let at_end = [(); 4].map(|_| rng.one_in(2));
-    Call { book, question, drums: None, room: room(rng), at_end, null: rng.one_in(4) }
+    Call { book, question, more: None, room: room(rng), at_end, null: rng.one_in(4) }
 }
 
-/// As `calls`, with drums: as they are in half of the calls, changed, of another length, or noise.
-fn pooled_calls(rng: &mut Rng, case: &Case) -> Vec<Call> {
-    let Case::Pooled { book, question, drums, .. } = case else { unreachable!("a sheet with drums was asked for") };
+/// As `calls`, with drums or feeds: as they are in half of the calls, changed, of another length, or noise.
+fn calls_with(rng: &mut Rng, case: &Case) -> Vec<Call> {
+    let Case::With { with, book, question, lent, .. } = case else { unreachable!("one slice more was asked for") };
     let mut all = calls(rng, book, question);
     for call in &mut all {
-        let mut lent = drums[..drums.len().min(DRUMS)].to_vec();
+        let mut more = lent[..lent.len().min(MORE)].to_vec();
         match rng.below(8) {
-            0 => (0..rng.between(1, 3)).for_each(|_| change(rng, &mut lent, DRUMS, false)),
-            1 => lent.resize(rng.below(DRUMS + 1), 0),
-            2 => lent = noise(rng, DRUMS),
-            3 => lent.clear(),
+            0 => (0..rng.between(1, 3)).for_each(|_| change(rng, &mut more, MORE, false)),
+            1 => more.resize(rng.below(MORE + 1), 0),
+            2 => more = noise(rng, MORE),
+            3 => more.clear(),
             _ => {}
         }
-        call.drums = Some(lent);
+        if *with == With::Feeds {
+            call.room += ANSWER_BYTES * (more.len() / FEED).clamp(1, 64) - ANSWER_BYTES;
+        }
+        call.more = Some((*with, more));
     }
     all
 }
@@ -302,26 +319,25 @@ fn main() -> ExitCode {
     };
     let mut rng = Rng::new(seed ^ 0x6775_6172_6465_6421);
     let mut pages = Pages::new(&mut rng);
-    let (mut tally, mut of_drums) = (Tally::default(), Tally::default());
-    let mut differences = 0;
+    let mut tallies = [Tally::default(), Tally::default(), Tally::default()];
+    let (mut made, mut differences) = (0, 0);
     let mut plain = sheets(seed);
-    let mut pooled = Cases::new(Stage::Pooled, seed, false);
+    let mut others = [Stage::Pooled, Stage::Feeds].map(|stage| Cases::new(stage, seed, false));
     for turn in 0.. {
-        if tally.all() >= count {
+        if made >= count {
             break;
         }
-        let all = if turn % 3 == 2 {
-            pooled_calls(&mut rng, &pooled.draw().1)
+        // Half of the sheets have nothing more.
+        let all = if turn % 2 == 1 {
+            calls_with(&mut rng, &others[turn / 2 % 2].draw().1)
         } else {
             let (book, question) = plain.next().expect("sheets have no end");
             calls(&mut rng, &book, &question)
         };
-        for call in all.iter().take(count - tally.all()) {
+        for call in all.iter().take(count - made) {
             let (number, same) = pages.compare(&mut rng, call);
-            tally.add(number);
-            if call.drums.is_some() {
-                of_drums.add(number);
-            }
+            made += 1;
+            tallies[place(call)].add(number);
             if !same {
                 differences += 1;
                 if differences <= SHOWN {
@@ -330,10 +346,11 @@ fn main() -> ExitCode {
             }
         }
     }
-    let (all, accepted, refused) = (tally.all(), tally.accepted(), tally.refused());
-    println!("guarded: {all} calls, {accepted} accepted, refused {refused}, {differences} differences");
-    let (all, accepted, refused) = (of_drums.all(), of_drums.accepted(), of_drums.refused());
-    println!("guarded, of them with drums: {all} calls, {accepted} accepted, refused {refused}");
+    for (what, tally) in ["plain", "with drums", "with feeds"].iter().zip(&tallies) {
+        let (all, accepted, refused) = (tally.all(), tally.accepted(), tally.refused());
+        println!("guarded, {what}: {all} calls, {accepted} accepted, refused {refused}");
+    }
+    println!("guarded: {made} calls, {differences} differences");
     if differences == 0 {
         ExitCode::SUCCESS
     } else {
@@ -341,11 +358,19 @@ fn main() -> ExitCode {
     }
 }
 
+fn place(call: &Call) -> usize {
+    match call.more {
+        None => 0,
+        Some((With::Drums, _)) => 1,
+        Some((With::Feeds, _)) => 2,
+    }
+}
+
 fn show(call: &Call, number: u32) {
     let (book, question, room) = (call.book.clone(), call.question.clone(), call.room);
-    let case = match call.drums.clone() {
+    let case = match call.more.clone() {
         None => Case::Sheet { book, question, room },
-        Some(drums) => Case::Pooled { book, question, drums, room },
+        Some((with, lent)) => Case::With { with, book, question, lent, room },
     };
     println!("difference: {} (reference {number}, at the end {:?}, null {})", case.line(), call.at_end, call.null);
 }

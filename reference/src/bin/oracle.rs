@@ -7,6 +7,7 @@
 //! oracle exchanged-borders                       version 3 books, and others, at the borders of 1, 38, 2, 3 and 11
 //! oracle wilson-borders                          Wilson books, and others, at the borders of 37, 7, 8 and 25
 //! oracle pooled-borders                          drums at the borders of 31, 32 and 36
+//! oracle feeds-borders                           many feeds at the borders of 33, 10, 11, 12 and 36
 
 use std::io::{BufWriter, Write};
 use std::process::ExitCode;
@@ -14,7 +15,7 @@ use std::process::ExitCode;
 use reference::command::{Options, USAGE};
 use reference::counts::{count_sheets, count_stage};
 use reference::generate::cases::Cases;
-use reference::generate::{differences, exchanged, mass, pooled, wilson};
+use reference::generate::{batches, differences, exchanged, mass, pooled, wilson};
 use reference::stage::{hex, hex_words, Case, Stage};
 
 /// Lines of a stage where no count is given.
@@ -28,13 +29,16 @@ fn main() -> ExitCode {
         ["exchanged-borders"] => Some(exchanged::borders().into_iter().map(|(case, _)| case).collect()),
         ["wilson-borders"] => Some(wilson::borders().into_iter().map(|(case, _)| case).collect()),
         ["pooled-borders"] => Some(pooled::borders().into_iter().map(|(case, _)| case).collect()),
+        ["feeds-borders"] => Some(batches::borders().into_iter().map(|(case, _)| case).collect()),
         _ => None,
     };
     if let Some(cases) = named {
         return if write(cases.into_iter()).is_ok() { ExitCode::SUCCESS } else { ExitCode::FAILURE };
     }
     let Some(options) = Options::read(words.into_iter()) else {
-        eprintln!("usage: oracle differences|borders|exchanged-borders|wilson-borders|pooled-borders|{USAGE}");
+        eprintln!(
+            "usage: oracle differences|borders|exchanged-borders|wilson-borders|pooled-borders|feeds-borders|{USAGE}"
+        );
         return ExitCode::from(2);
     };
     for stage in &options.stages {
@@ -53,7 +57,7 @@ fn main() -> ExitCode {
 fn count(stage: Stage, options: &Options) {
     let number = options.count_of(stage);
     if stage.has_sheets() {
-        count_sheets(stage, options.seed, number).print();
+        count_sheets(stage, options.seed, number).print(stage);
     } else {
         let tally = count_stage(stage, options.seed, number);
         let share = tally.percent_accepted();

@@ -1,8 +1,8 @@
 //! Runs demand 3 on the core: generated sheets with absent solvents, and the same sheets with those struck. Every sheet asked is
-//! compared with the reference too.
+//! compared with the reference's plain call too.
 //!
-//! strike [--count N] [--seed S] [--task K] [--wilson]     N accepted sheets, as many of each task, or of task K; of NRTL books, or of
-//! Wilson books and tasks 1 to 7
+//! strike [--count N] [--seed S] [--task K] [--wilson] [--feeds]     N accepted sheets, as many of each task, or of task K; of
+//! NRTL books, or of Wilson books and tasks 1 to 7; by the plain call, or as one of several feeds (tasks 1, 2, 3, 6, 7)
 
 use std::process::ExitCode;
 
@@ -10,9 +10,9 @@ use reference::command::not_built_in_fails;
 use reference::generate::absent::Base;
 use reference::generate::Rng;
 use reference::sheet::blocks::{rule_of, Rule};
-use reference::sheet::ANSWER_BYTES;
+use reference::sheet::{feeds, ANSWER_BYTES};
 use reference::stage::{hex_bytes, Stage};
-use reference::strike::{core, reference, shown, Call, Sheet, Shown, TASKS};
+use reference::strike::{core, core_feeds, reference, shown, Call, Sheet, Shown, TASKS};
 
 /// Books that are tried with a question.
 const TRIES: usize = 4;
@@ -35,23 +35,27 @@ struct Counts {
 }
 
 fn main() -> ExitCode {
-    let Some(Options { count, seed, tasks, wilson }) = options() else {
-        eprintln!("usage: strike [--count N] [--seed S] [--task K] [--wilson]");
+    let Some(Options { count, seed, tasks, wilson, by }) = options() else {
+        eprintln!("usage: strike [--count N] [--seed S] [--task K] [--wilson] [--feeds]");
         return ExitCode::from(2);
     };
-    if !Stage::Sheet.built_in() {
+    if !by.built_in() {
         println!("strike: not built in");
         return ExitCode::from(u8::from(not_built_in_fails()));
     }
     let mut rng = Rng::new(seed);
     let mut all = [0; 3];
     for task in &tasks {
-        let counts = run(&mut rng, *task, wilson, count.div_ceil(tasks.len()));
+        let counts = run(&mut rng, *task, wilson, call_of(by), count.div_ceil(tasks.len()));
         print(*task, &counts);
         all = [all[0] + counts.accepted, all[1] + counts.failures, all[2] + counts.differences];
     }
     let model = if wilson { "Wilson" } else { "NRTL" };
-    println!("strike, {model}: {} accepted with absent solvents, {} failures, {} differences", all[0], all[1], all[2]);
+    let by = by.name();
+    println!(
+        "strike, {model}, {by}: {} accepted with absent solvents, {} failures, {} differences",
+        all[0], all[1], all[2]
+    );
     ExitCode::from(u8::from(all[1] + all[2] > 0))
 }
 
@@ -61,11 +65,20 @@ struct Options {
     tasks: Vec<u64>,
     /// Of Wilson books; of NRTL books otherwise.
     wilson: bool,
+    /// The stage whose call is made.
+    by: Stage,
+}
+
+fn call_of(by: Stage) -> Call {
+    match by {
+        Stage::Feeds => core_feeds,
+        _ => core,
+    }
 }
 
 /// `None` where a word is not understood.
 fn options() -> Option<Options> {
-    let (mut count, mut seed, mut task, mut wilson) = (80_000, 1, None, false);
+    let (mut count, mut seed, mut task, mut wilson, mut by) = (80_000, 1, None, false, Stage::Sheet);
     let mut words = std::env::args().skip(1);
     while let Some(word) = words.next() {
         match word.as_str() {
@@ -73,15 +86,23 @@ fn options() -> Option<Options> {
             "--seed" => seed = words.next()?.parse().ok()?,
             "--task" => task = Some(words.next()?.parse().ok().filter(|task| TASKS.contains(task))?),
             "--wilson" => wilson = true,
+            "--feeds" => by = Stage::Feeds,
             _ => return None,
         }
     }
     // Tasks 8 and 9 have no model.
-    let all = if wilson { &TASKS[..7] } else { &TASKS };
-    Some(Options { count, seed, tasks: task.map_or(all.to_vec(), |task| vec![task]), wilson })
+    let all = match by {
+        Stage::Feeds => &feeds::TASKS[..],
+        _ if wilson => &TASKS[..7],
+        _ => &TASKS,
+    };
+    if by == Stage::Feeds && task.is_some_and(|task| !all.contains(&task)) {
+        return None;
+    }
+    Some(Options { count, seed, tasks: task.map_or(all.to_vec(), |task| vec![task]), wilson, by })
 }
 
-fn run(rng: &mut Rng, task: u64, wilson: bool, wanted: usize) -> Counts {
+fn run(rng: &mut Rng, task: u64, wilson: bool, call: Call, wanted: usize) -> Counts {
     let mut counts = Counts::default();
     let draw = if wilson { Base::of_wilson } else { Base::draw };
     while counts.accepted < wanted {
@@ -89,14 +110,14 @@ fn run(rng: &mut Rng, task: u64, wilson: bool, wanted: usize) -> Counts {
         for _ in 0..TRIES {
             let sheet = Sheet { book: base.aimed(rng), question: base.question() };
             counts.calls += 1;
-            if differs(&sheet) {
+            if differs(call, &sheet) {
                 counts.differences += 1;
                 if counts.differences <= SHOWN {
                     show("differs", &sheet);
                 }
             }
             // No sheet depends on the answers before it.
-            match shown(&mut rng.clone(), core, &sheet) {
+            match shown(&mut rng.clone(), call, &sheet) {
                 Shown::Refused(_) => continue,
                 Shown::Equal => {}
                 failed => {
@@ -112,9 +133,9 @@ fn run(rng: &mut Rng, task: u64, wilson: bool, wanted: usize) -> Counts {
     counts
 }
 
-/// Whether the core answers a sheet otherwise than the reference.
-fn differs(sheet: &Sheet) -> bool {
-    let [a, b] = [core as Call, reference].map(|call| {
+/// Whether the core answers a sheet otherwise than the reference's plain call.
+fn differs(call: Call, sheet: &Sheet) -> bool {
+    let [a, b] = [call, reference].map(|call| {
         let mut answer = [0xa5; ANSWER_BYTES];
         (call(&sheet.book, &sheet.question, &mut answer), answer)
     });

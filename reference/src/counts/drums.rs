@@ -1,75 +1,36 @@
 //! Drums and totals of the sheets with drums.
 
-use std::collections::BTreeMap;
-
-use super::{is_wilson, version};
+use super::kinds::{how_many, model_is, Kinds};
 use crate::sheet::blocks::{words_of, BLOCK};
 use crate::sheet::pool::{drums_of, total, DRUM, MOST, MOST_DRUMS};
 use crate::stage::Case;
-
-/// How many calls, and how many of them were accepted.
-type Counts = BTreeMap<&'static str, (usize, usize)>;
+use crate::with::With;
 
 #[derive(Debug, Default)]
 pub struct Drums {
-    drums: Counts,
-    totals: Counts,
-    books: Counts,
+    drums: Kinds,
+    totals: Kinds,
+    books: Kinds,
 }
 
 impl Drums {
     pub fn add(&mut self, case: &Case, refusal: u32) {
-        let Case::Pooled { book, drums, .. } = case else { return };
+        let Case::With { with: With::Drums, book, lent: drums, .. } = case else { return };
         let accepted = refusal == 0;
-        count(&mut self.drums, drums_are(drums), accepted);
+        self.drums.add(how_many(drums.len()), accepted);
         if let Some(model) = model_is(book) {
-            count(&mut self.books, model, accepted);
+            self.books.add(model, accepted);
         }
         let n = book.get(..BLOCK).map_or(0, |head| words_of(head)[2].min(8) as usize);
         for what in totals_are(drums, n) {
-            count(&mut self.totals, what, accepted);
+            self.totals.add(what, accepted);
         }
     }
 
     pub fn print(&self) {
-        print("drums", &self.drums);
-        print("totals", &self.totals);
-        print("books", &self.books);
-    }
-}
-
-fn count(counts: &mut Counts, what: &'static str, accepted: bool) {
-    let (all, yes) = counts.entry(what).or_default();
-    *all += 1;
-    *yes += usize::from(accepted);
-}
-
-fn print(what: &str, counts: &Counts) {
-    let parts: Vec<String> =
-        counts.iter().map(|(what, (all, yes))| format!("{what}: {all} ({yes} accepted)")).collect();
-    println!("{what}: {}", parts.join(", "));
-}
-
-fn drums_are(drums: &[u8]) -> &'static str {
-    let whole = drums.len().is_multiple_of(DRUM);
-    match drums.len() / DRUM {
-        _ if !whole => "cut",
-        0 => "none",
-        1 => "1",
-        2..MOST_DRUMS => "2 to 63",
-        MOST_DRUMS => "64",
-        65 => "65",
-        _ => "above 65",
-    }
-}
-
-fn model_is(book: &[u8]) -> Option<&'static str> {
-    let wilson = is_wilson(book);
-    match version(book)? {
-        1 => Some("NRTL 1"),
-        2 => Some(if wilson { "Wilson 2" } else { "NRTL 2" }),
-        3 => Some(if wilson { "Wilson 3" } else { "NRTL 3" }),
-        _ => None,
+        self.drums.print("drums");
+        self.totals.print("totals");
+        self.books.print("books");
     }
 }
 

@@ -119,7 +119,7 @@ fn correlation(rng: &mut Rng, words: &mut Words, at: usize, t_r: f64, reducing: 
     }
 }
 
-fn pair(rng: &mut Rng, i: usize, j: usize, polar: bool, junk: bool) -> Words {
+pub(super) fn pair(rng: &mut Rng, i: usize, j: usize, polar: bool, junk: bool) -> Words {
     let mut words = unread(rng, junk);
     words[..3].copy_from_slice(&[3, i as u64, j as u64]);
     for direction in 0..2 {
@@ -213,7 +213,7 @@ fn wild_range(rng: &mut Rng, words: &mut Words, at: usize) {
     }
 }
 
-fn wild_pair(rng: &mut Rng, words: &mut Words) {
+pub(super) fn wild_pair(rng: &mut Rng, words: &mut Words) {
     let term = TAU + rng.below(8);
     match rng.below(10) {
         0 => put(words, term, numbers::finite(rng)),
@@ -275,8 +275,13 @@ pub fn at_the_edge(rng: &mut Rng, draft: &mut Draft) {
         }
         _ => words[2] = u64::MAX - i as u64,
     }
-    let Some(at) = pair else { return };
-    let words = &mut draft.blocks[at];
+    if let Some(at) = pair {
+        pair_at_the_edge(rng, &mut draft.blocks[at]);
+    }
+}
+
+/// Bounds that are not read, or in the wrong order; alphas that are equal as floats.
+pub(super) fn pair_at_the_edge(rng: &mut Rng, words: &mut Words) {
     match rng.below(3) {
         0 => {
             words[FLAG] = 0;
@@ -293,6 +298,12 @@ pub fn at_the_edge(rng: &mut Rng, draft: &mut Draft) {
             put(words, ALPHA_JI + 1, -0.0);
         }
     }
+}
+
+/// The bytes of the book with one or two things wrong.
+pub fn spoiled(rng: &mut Rng, draft: &Draft) -> Vec<u8> {
+    let both = [rng.between(1, 9) as u32, rng.between(1, 9) as u32];
+    damaged(rng, draft, &both[..rng.clone().between(1, 2)])
 }
 
 /// The bytes of the book with one thing wrong for each of the numbers.
@@ -387,7 +398,13 @@ fn damage_correlation(rng: &mut Rng, words: &mut Words, at: usize) {
 
 fn damage_pair(rng: &mut Rng, draft: &mut Draft, number: u32) {
     let Some(at) = draft.any_pair(rng) else { return };
-    let Some(words) = draft.blocks.get_mut(at) else { return };
+    if let Some(words) = draft.blocks.get_mut(at) {
+        spoil_pair(rng, words, number);
+    }
+}
+
+/// One thing wrong in an NRTL pair block for 7, 8 or 9.
+pub(super) fn spoil_pair(rng: &mut Rng, words: &mut Words, number: u32) {
     match number {
         7 => match rng.below(5) {
             0 => words[0] = rng.pick(&[0, 2, 4, 1 << 40 | 3]),

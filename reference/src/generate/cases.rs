@@ -1,7 +1,9 @@
 //! The cases of each stage.
 
 use super::exchanged::Exchange;
-use super::{books, differences, exchanged, feeds, mass, numbers, pooled, questions, rice, small, wilson, Rng};
+use super::{
+    batches, books, differences, exchanged, feeds, mass, numbers, pooled, questions, rice, small, wilson, Rng,
+};
 use crate::sheet::open_book;
 use crate::stage::{Case, Function, Stage};
 
@@ -54,6 +56,7 @@ impl Cases {
             Stage::Exchanged if !compact => exchanged::borders().into_iter().map(|(case, _)| case).collect(),
             Stage::Wilson if !compact => wilson::borders().into_iter().map(|(case, _)| case).collect(),
             Stage::Pooled if !compact => pooled::borders().into_iter().map(|(case, _)| case).collect(),
+            Stage::Feeds if !compact => batches::borders().into_iter().map(|(case, _)| case).collect(),
             _ => Vec::new(),
         };
         let rng = if compact { Rng::tidy(seed) } else { Rng::new(seed) };
@@ -85,17 +88,13 @@ impl Cases {
             return (drawn.kind, drawn.case);
         }
         let n = self.solvents();
-        if self.stage == Stage::Sheet {
-            return self.draw_sheet(n);
-        }
-        if self.stage == Stage::Mass {
-            return mass::draw(&mut self.rng, n);
-        }
-        if self.stage == Stage::Wilson {
-            return wilson::draw(&mut self.rng, n);
-        }
-        if self.stage == Stage::Pooled {
-            return pooled::draw(&mut self.rng, n);
+        match self.stage {
+            Stage::Sheet => return self.draw_sheet(n),
+            Stage::Mass => return mass::draw(&mut self.rng, n),
+            Stage::Wilson => return wilson::draw(&mut self.rng, n),
+            Stage::Pooled => return pooled::draw(&mut self.rng, n),
+            Stage::Feeds => return batches::draw(&mut self.rng, n),
+            _ => {}
         }
         // The stored ones of versions 2 and 3 stand among the sheets.
         let later = matches!(self.stage, Stage::Book | Stage::Excess) && !self.compact && self.rng.one_in(3);
@@ -144,7 +143,7 @@ fn plain(rng: &mut Rng, stage: Stage, n: usize) -> Case {
         Stage::Book => Case::Book { book: book(rng, n) },
         Stage::Pressure => pressure(rng, n),
         Stage::Excess => excess(rng, n),
-        Stage::Rice | Stage::Sheet | Stage::Mass | Stage::Exchanged | Stage::Wilson | Stage::Pooled => split(rng, n),
+        _ => split(rng, n),
     }
 }
 
@@ -276,10 +275,7 @@ fn sheet(rng: &mut Rng, n: usize, kind: Kind) -> Case {
                 questions::damage(rng, &mut question, number);
             }
         }
-        Kind::DamagedBook => {
-            let numbers = [rng.between(1, 9) as u32, rng.between(1, 9) as u32];
-            book = books::damaged(rng, &draft, &numbers[..rng.clone().between(1, 2)]);
-        }
+        Kind::DamagedBook => book = books::spoiled(rng, &draft),
         _ if rng.one_in(200) => questions::make_patient(&mut question, &book),
         _ => {}
     }

@@ -178,10 +178,7 @@ fn sheet(rng: &mut Rng, n: usize, part: Part) -> Case {
                 overflow(rng, &mut draft, &w);
             }
         }
-        Part::DamagedBook => {
-            let both = [rng.between(1, 9) as u32, rng.between(1, 9) as u32];
-            book = Some(books::damaged(rng, &draft, &both[..rng.clone().between(1, 2)]));
-        }
+        Part::DamagedBook => book = Some(books::spoiled(rng, &draft)),
         _ if rng.one_in(200) => questions::make_patient(&mut question, &draft.bytes()),
         _ => {}
     }

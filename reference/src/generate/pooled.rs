@@ -12,6 +12,7 @@ use crate::sheet::pool::{self, bytes_of, Drum, DRUM, MOST, MOST_DRUMS};
 use crate::sheet::question::{BASIS, BY_MASS, BY_MOLES, FRACTIONS};
 use crate::sheet::{open_book, ANSWER_BYTES};
 use crate::stage::Case;
+use crate::with::With;
 
 /// Micromoles that a pool may hold at most.
 const FULL: u64 = MOST as u64;
@@ -97,7 +98,7 @@ fn sheet(rng: &mut Rng, n: usize, part: Part) -> Case {
     let Ok(opened) = open_book(&right) else {
         // A wild value that question 5, 8 or 9 refuses.
         let question = Ask::new(task, &[1.0]).bytes_for(&right);
-        return Case::Pooled { book: right, question, drums: drums(rng, &counts), room: ANSWER_BYTES };
+        return case(right, question, drums(rng, &counts), ANSWER_BYTES);
     };
     let x = pool::feed(&counts).expect("a total from 1 to 2^53");
     let mut question = questions::with_feed(rng, &opened, task, &x);
@@ -114,7 +115,11 @@ fn sheet(rng: &mut Rng, n: usize, part: Part) -> Case {
     }
     let book = spoil(rng, part, &mut draft, &mut question);
     fill_unread(rng, &mut question);
-    Case::Pooled { book, question: question.question(), drums, room: question.room }
+    case(book, question.question(), drums, question.room)
+}
+
+fn case(book: Vec<u8>, question: Vec<u8>, drums: Vec<u8>, room: usize) -> Case {
+    Case::With { with: With::Drums, book, question, lent: drums, room }
 }
 
 /// What is wrong, or beside an edge, in book and question; the book's bytes.
@@ -136,17 +141,14 @@ fn spoil(rng: &mut Rng, part: Part, draft: &mut Draft, question: &mut questions:
         Part::Edge => questions::at_the_edge(rng, question),
         Part::WildQuestion => questions::make_wild(rng, question),
         Part::DamagedQuestion => (0..rng.between(1, 2)).for_each(|_| mass::damage(rng, question)),
-        Part::DamagedBook => {
-            let both = [rng.between(1, 9) as u32, rng.between(1, 9) as u32];
-            return books::damaged(rng, draft, &both[..rng.clone().between(1, 2)]);
-        }
+        Part::DamagedBook => return books::spoiled(rng, draft),
         _ => {}
     }
     draft.bytes()
 }
 
 /// A book of either model, of any version that has it.
-fn realistic(rng: &mut Rng, n: usize) -> Draft {
+pub(super) fn realistic(rng: &mut Rng, n: usize) -> Draft {
     if rng.percent(40) {
         return wilson::realistic(rng, n);
     }
@@ -202,6 +204,11 @@ fn make_absent(rng: &mut Rng, draft: &mut Draft, counts: &mut [u64], i: usize) {
     if counts.iter().all(|count| *count == 0) {
         counts[(i + 1) % counts.len()] = 1 + rng.bits() % 1_000_000;
     }
+    make_extreme(rng, draft, i);
+}
+
+/// Data of a solvent at the ends of the floats, as the book's model has them.
+pub(super) fn make_extreme(rng: &mut Rng, draft: &mut Draft, i: usize) {
     if draft.blocks[0][MODEL] == WILSON && rng.percent(70) {
         for at in draft.pairs_of(i) {
             wilson::aim(rng, &mut draft.blocks[at], None);
@@ -216,13 +223,18 @@ fn make_absent(rng: &mut Rng, draft: &mut Draft, counts: &mut [u64], i: usize) {
 
 /// Drums that pool to the counts; anything behind them.
 fn drums(rng: &mut Rng, counts: &[u64]) -> Vec<u8> {
-    let m = match rng.below(10) {
+    let m = how_many(rng);
+    shared_out(rng, counts, m)
+}
+
+/// Of drums or feeds, 1 to 64.
+pub(super) fn how_many(rng: &mut Rng) -> usize {
+    match rng.below(10) {
         0..=2 => 1,
         3..=6 => rng.between(2, 6),
         7 => MOST_DRUMS,
         _ => rng.between(1, MOST_DRUMS),
-    };
-    shared_out(rng, counts, m)
+    }
 }
 
 /// Over m drums.
@@ -264,8 +276,8 @@ fn fill_behind(rng: &mut Rng, drums: &mut [Drum], n: usize) {
     }
 }
 
-/// Another length; at times with no right total either.
-fn no_drums(rng: &mut Rng, drums: &mut Vec<u8>) {
+/// Another length than that of 1 to 64 drums, or feeds; at times with no right total either.
+pub(super) fn no_drums(rng: &mut Rng, drums: &mut Vec<u8>) {
     let longer = |rng: &mut Rng, drums: &mut Vec<u8>, length: usize| {
         let small = rng.one_in(2);
         drums.resize_with(length, || if small { 0 } else { rng.bits() as u8 });
@@ -327,7 +339,7 @@ fn fill_to(rng: &mut Rng, drums: &mut [Drum], n: usize, total: u64) {
     }
 }
 
-fn no_basis(rng: &mut Rng) -> u64 {
+pub(super) fn no_basis(rng: &mut Rng) -> u64 {
     if rng.one_in(2) {
         BY_MASS
     } else {
@@ -336,7 +348,7 @@ fn no_basis(rng: &mut Rng) -> u64 {
 }
 
 /// 38, 37 or, from version 2 on, 35.
-fn no_book(rng: &mut Rng, draft: &mut Draft) {
+pub(super) fn no_book(rng: &mut Rng, draft: &mut Draft) {
     let i = rng.below(draft.n);
     match rng.below(3) {
         0 => draft.blocks[0][1] = rng.pick(&NO_VERSION),
@@ -346,7 +358,7 @@ fn no_book(rng: &mut Rng, draft: &mut Draft) {
 }
 
 /// Words 4 to 11, which are under the check alone.
-fn fill_unread(rng: &mut Rng, question: &mut questions::Draft) {
+pub(super) fn fill_unread(rng: &mut Rng, question: &mut questions::Draft) {
     let kind = rng.below(6);
     for at in FRACTIONS..FRACTIONS + 8 {
         match kind {
@@ -363,7 +375,7 @@ fn fill_unread(rng: &mut Rng, question: &mut questions::Draft) {
 type Asked = (Vec<Words>, Ask, Vec<u8>, u32);
 
 /// Two solvents, both models, in the versions that have them.
-fn books_of_two() -> Vec<Vec<Words>> {
+pub(super) fn books_of_two() -> Vec<Vec<Words>> {
     let masses = [0.06009502, 0.018015268];
     let mut all = Vec::new();
     for version in 1..=3 {
@@ -379,7 +391,7 @@ fn books_of_two() -> Vec<Vec<Words>> {
     all
 }
 
-fn two() -> Vec<Words> {
+pub(super) fn two() -> Vec<Words> {
     mass::entered(&[0.06009502, 0.018015268])
 }
 
@@ -400,12 +412,12 @@ fn some(m: usize) -> Vec<u8> {
 
 /// Sheets at the borders of 31, 32 and 36, with their numbers; compared before any others.
 pub fn borders() -> Vec<(Case, u32)> {
-    let case = |(book, ask, drums, number): Asked| {
+    let asked = |(book, ask, drums, number): Asked| {
         let book = bytes(&book);
         let question = ask.bytes_for(&book);
-        (Case::Pooled { book, question, drums, room: ANSWER_BYTES }, number)
+        (case(book, question, drums, ANSWER_BYTES), number)
     };
-    let cases = [samples(), answers(), lengths(), totals(), wraps(), places()].into_iter().flatten().map(case);
+    let cases = [samples(), answers(), lengths(), totals(), wraps(), places()].into_iter().flatten().map(asked);
     cases.chain([no_room()]).collect()
 }
 
@@ -440,13 +452,34 @@ fn answers() -> Vec<Asked> {
     all
 }
 
-/// Bytes from 1 to 64 whole drums, and beside them.
+/// Bytes of 1 to 64 whole drums, or feeds, and beside them; whether a call takes them.
+pub(super) const LENGTHS: [(usize, bool); 19] = [
+    (0, false),
+    (1, false),
+    (8, false),
+    (16, false),
+    (63, false),
+    (64, true),
+    (65, false),
+    (127, false),
+    (128, true),
+    (129, false),
+    (2048, true),
+    (4032, true),
+    (4095, false),
+    (4096, true),
+    (4097, false),
+    (4159, false),
+    (4160, false),
+    (6400, false),
+    (1 << 16, false),
+];
+
 fn lengths() -> Vec<Asked> {
     let mut all = Vec::new();
-    for length in [0, 1, 8, 16, 63, 64, 65, 127, 128, 129, 2048, 4032, 4095, 4096, 4097, 4159, 4160, 6400, 1 << 16] {
+    for (length, right) in LENGTHS {
         let mut drums = some(1024);
         drums.truncate(length);
-        let right = matches!(length, 64 | 128 | 2048 | 4032 | 4096);
         all.push((two(), ask(8), drums, if right { 0 } else { 31 }));
     }
     all
@@ -537,6 +570,5 @@ fn places() -> Vec<Asked> {
 
 /// 10 ahead of 11 and 31.
 fn no_room() -> (Case, u32) {
-    let case = Case::Pooled { book: bytes(&two()), question: Vec::new(), drums: Vec::new(), room: ANSWER_BYTES - 1 };
-    (case, 10)
+    (case(bytes(&two()), Vec::new(), Vec::new(), ANSWER_BYTES - 1), 10)
 }

@@ -159,10 +159,7 @@ fn spoil(rng: &mut Rng, part: Part, draft: &mut Draft, question: &mut questions:
             questions::at_the_edge(rng, question);
         }
         Part::DamagedQuestion => (0..rng.between(1, 2)).for_each(|_| mass::damage(rng, question)),
-        Part::DamagedBook => {
-            let both = [rng.between(1, 9) as u32, rng.between(1, 9) as u32];
-            return books::damaged(rng, draft, &both[..rng.clone().between(1, 2)]);
-        }
+        Part::DamagedBook => return books::spoiled(rng, draft),
         _ if rng.one_in(200) => questions::make_patient(question, &draft.bytes()),
         _ => {}
     }
@@ -197,13 +194,17 @@ pub fn pair(rng: &mut Rng, draft: &mut Draft) {
     let n = draft.n;
     let ln_volume: Vec<f64> = (0..n).map(|_| rng.range(-0.9, 0.9)).collect();
     for (place, (i, j)) in due_pairs(n).into_iter().enumerate() {
-        let words = &mut draft.blocks[1 + n + place];
-        let a = if rng.one_in(4) { rng.range(-2.0, 2.0) } else { ln_volume[j] - ln_volume[i] };
-        let terms = [a, -energy(rng), if rng.one_in(4) { rng.range(-2.0, 2.0) } else { -a }, -energy(rng)];
-        put_terms(words, &terms);
-        let junk = rng.junk();
-        UNREAD.for_each(|at| words[at] = if junk { anything(rng) } else { 0 });
+        enter_pair(rng, &mut draft.blocks[1 + n + place], ln_volume[j] - ln_volume[i]);
     }
+}
+
+/// Makes a Wilson pair of an NRTL pair; ln(V_j/V_i) is given.
+pub(super) fn enter_pair(rng: &mut Rng, words: &mut Words, ln_ratio: f64) {
+    let a = if rng.one_in(4) { rng.range(-2.0, 2.0) } else { ln_ratio };
+    let terms = [a, -energy(rng), if rng.one_in(4) { rng.range(-2.0, 2.0) } else { -a }, -energy(rng)];
+    put_terms(words, &terms);
+    let junk = rng.junk();
+    UNREAD.for_each(|at| words[at] = if junk { anything(rng) } else { 0 });
 }
 
 /// (λ_ij − λ_ii)/R, K.
@@ -342,10 +343,14 @@ fn no_mass(rng: &mut Rng, draft: &mut Draft) {
     put(&mut draft.blocks[1 + i], MOLAR_MASS, mass::no_mass(rng));
 }
 
-/// One that 8 is put to, or all those that are not read.
 fn not_finite(rng: &mut Rng, draft: &mut Draft) {
-    let Some(at) = draft.any_pair(rng) else { return };
-    let words = &mut draft.blocks[at];
+    if let Some(at) = draft.any_pair(rng) {
+        spoil_pair(rng, &mut draft.blocks[at]);
+    }
+}
+
+/// A float of a Wilson pair block that 8 is put to, or all those that are not read.
+pub(super) fn spoil_pair(rng: &mut Rng, words: &mut Words) {
     match rng.below(5) {
         0 => UNREAD.for_each(|at| put(words, at, numbers::not_finite(rng))),
         1 => {

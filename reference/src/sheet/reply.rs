@@ -14,6 +14,7 @@ use crate::named::solvers::{
 use crate::types::{CalculationError as Error, Phase, Pressure, Temperature};
 
 /// Places of the answer's words.
+pub const REFUSAL: usize = 2;
 pub const OUTCOME: usize = 3;
 pub const T: usize = 4;
 pub const P: usize = 5;

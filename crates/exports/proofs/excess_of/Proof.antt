@@ -1,7 +1,7 @@
 -- `exports::excess_of` meets its contract: the temperature's two answers. Assumes nothing.
 use borrow.Author.Needs.{needs}
 use Rattle.floats.proofs.Outcomes.{bind-yes, bind-no}
-use Rattle.sheet.proofs.Replies.{kelvin-ok, kelvin-no}
+use Rattle.sheet.proofs.Shared.{kelvin-ok, kelvin-no}
 use Rattle.exports.proofs.Ways.{excess-as, excess-none}
 use Rattle.exports.specs.Models.{excessFrom}
 use Rattle.exports.proofs.excess_of.Statement.{statement}

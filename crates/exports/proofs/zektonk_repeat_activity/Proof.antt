@@ -1,4 +1,4 @@
-use Rattle.sheet.proofs.Replies.{kelvin-ok, kelvin-no}
+use Rattle.sheet.proofs.Shared.{kelvin-ok, kelvin-no}
 use Rattle.exports.specs.Slices.{repeated}
 use borrow.Author.Needs.{needs}
 use Rattle.exports.proofs.zektonk_repeat_activity.Statement.{statement}

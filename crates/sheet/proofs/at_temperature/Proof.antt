@@ -1,43 +1,22 @@
 -- `sheet::at_temperature` meets its contract. Assumes nothing.
 use borrow.Author.Needs.{needs}
-use Rattle.sheet.proofs.Replies.{temperature-no}
-use Rattle.sheet.proofs.Dispatch.{temperature-given}
+use lib.ListN.{length-replicate}
+use Rattle.floats.specs.Arithmetic.{0f}
 use Rattle.sheet.proofs.at_temperature.Statement.{statement}
 use Rattle.sheet.proofs.at_temperature.Tie as tie
 
-new-requires : tie.Need-new-requires
-new-requires c κs = search needs
+make-ready-requires : tie.Need-make-ready-requires
+make-ready-requires c κs = search needs
 
-enum-known-made : tie.Need-enum-known-made
-enum-known-made c = search needs
-
-enum-known-made-2 : tie.Need-enum-known-made-2
-enum-known-made-2 c = search needs
-
-parameters-requires : tie.Need-parameters-requires
-parameters-requires c κs = search needs
-
-task-at-requires : tie.Need-task-at-requires
-task-at-requires c κs = search needs
-
-returns : tie.Need-returns
-returns c = search temperature-no
+answer-at-requires : tie.Need-answer-at-requires
+answer-at-requires c κs = search needs
 
 same-length : tie.Need-same-length
 same-length c = search needs
 
-returns-2 : tie.Need-returns-2
-returns-2 c = search temperature-given
+returns : tie.Need-returns
+returns c = c .before .before .answer-at .ensures (c .before .before .before .before .before .before .make-ready .ensures (length-replicate 512 0f))
 
 pub at-temperature-spec : {M : Type 1} → statement M
 at-temperature-spec =
-    tie.close
-    (tie.spec
-    new-requires
-    enum-known-made
-    enum-known-made-2
-    parameters-requires
-    task-at-requires
-    returns
-    same-length
-    returns-2)
+    tie.close (tie.spec make-ready-requires answer-at-requires same-length returns)

@@ -5,9 +5,6 @@ use Rattle.sheet.proofs.Replies.{excess-asked}
 use Rattle.sheet.proofs.task_1.Statement.{statement}
 use Rattle.sheet.proofs.task_1.Tie as tie
 
-tables-requires : tie.Need-tables-requires
-tables-requires c κs = search needs
-
 excess-requires : tie.Need-excess-requires
 excess-requires c κs = search needs
 
@@ -25,13 +22,12 @@ same-length c = search needs
 
 returns : tie.Need-returns
 unfolding task1
-returns c = search excess-asked
+returns c P h = search (excess-asked, h)
 
 pub task-1-spec : {M : Type 1} → statement M
 task-1-spec =
     tie.close
     (tie.spec
-    tables-requires
     excess-requires
     validity-requires
     value-requires

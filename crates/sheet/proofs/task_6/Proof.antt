@@ -5,9 +5,6 @@ use Rattle.sheet.proofs.Replies.{stability-fits, stability-says}
 use Rattle.sheet.proofs.task_6.Statement.{statement}
 use Rattle.sheet.proofs.task_6.Tie as tie
 
-tables-requires : tie.Need-tables-requires
-tables-requires c κs = search needs
-
 liquid-stability-requires : tie.Need-liquid-stability-requires
 liquid-stability-requires c κs = search needs
 
@@ -21,13 +18,12 @@ same-length : tie.Need-same-length
 same-length c = search needs
 
 returns : tie.Need-returns
-returns c = search stability-says
+returns c m h = search (stability-says, h)
 
 pub task-6-spec : {M : Type 1} → statement M
 task-6-spec =
     tie.close
     (tie.spec
-    tables-requires
     liquid-stability-requires
     stability-block-requires
     write-answer-requires

@@ -18,13 +18,13 @@ flash-block-requires : tie.Need-flash-block-requires
 flash-block-requires c κs = search needs
 
 write-answer-requires : tie.Need-write-answer-requires
-write-answer-requires c κs = let z = flash-fits _ _ _ _ _ _ _ _ (c .before .before .before .before .before .activity-tp-flash .ensures) (c .before .flash-block .ensures) in (z .0, z .1, omega arith)
+write-answer-requires c κs = let z = flash-fits _ _ _ _ _ _ (c .before .before .before .before .before .activity-tp-flash .ensures) (c .before .flash-block .ensures) in (z .0, z .1, omega arith)
 
 same-length : tie.Need-same-length
 same-length c = search needs
 
 returns : tie.Need-returns
-returns c = search flash-says
+returns c m h w = search (flash-says, h, w)
 
 pub task-7-spec : {M : Type 1} → statement M
 task-7-spec =

@@ -1,0 +1,2 @@
+-- What the contracts of batch cite. Assumes nothing.
+pub mod Feeds

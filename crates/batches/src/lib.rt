@@ -1,0 +1,1 @@
+// Laws of many feeds at one temperature; no code.
