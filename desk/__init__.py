@@ -23,6 +23,7 @@ from .errors import DeskError
 from .library import Library, find
 from .openbook import open_book, open_yard
 from .pool import Drum
+from .preview import Preview, pair_block
 from .question import Options, Question
 from .tasks import BUBBLE_PRESSURE, BUBBLE_TEMPERATURE, DEW_PRESSURE, DEW_TEMPERATURE, FLASH, STABILITY, TASKS, Task
 
@@ -38,7 +39,7 @@ def open_core(book: bytes) -> Union[Library, Core]:
 
 __all__ = [
     "Blocks", "Book", "Core", "Correlation", "DeskError", "Drum", "Interval", "Library", "Model", "Options", "Pair",
-    "Question", "Solvent", "Task", "WilsonPair", "BUBBLE_PRESSURE", "BUBBLE_TEMPERATURE", "DEW_PRESSURE",
+    "Preview", "Question", "Solvent", "Task", "WilsonPair", "BUBBLE_PRESSURE", "BUBBLE_TEMPERATURE", "DEW_PRESSURE",
     "DEW_TEMPERATURE", "EXCESS", "FLASH", "RACHFORD_RICE", "RACHFORD_RICE_NEGATIVE", "STABILITY", "TASKS", "answer",
-    "batch", "encode", "find", "open_book", "open_core", "open_yard", "pool", "refusals",
+    "batch", "encode", "find", "open_book", "open_core", "open_yard", "pair_block", "pool", "refusals",
 ]  # fmt: skip

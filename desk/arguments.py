@@ -38,6 +38,11 @@ DRUMS_HELP = (
     "many drums in place of --drum: a table as CSV with a column for each solvent and one called label, a line for "
     "each drum; the core is asked for up to 64 at a time"
 )
+TRY_HELP = (
+    "a pair in place of the book's own, for this sheet alone, which says that it is a preview: a file with its section "
+    "of a yard text, the section itself as 'pair NAME NAME: KEY = VALUE; KEY = VALUE', or a pair's block of 512 bytes"
+)
+TRYING = "./sheet bubble-temperature --drum ethanol=0.3,water=0.7 --pressure 1atm --try yard/try.txt"
 MANY = "./sheet flash --drums yard/week.csv --temperature 76C --pressure 1bar"
 TEMPERATURE_HELP = "with its unit: 351.44K, 78.29C or 78.29°C"
 PRESSURE_HELP = "with its unit: 90000Pa, 90kPa, 0.9bar, 900mbar, 1atm, 675mmHg, 675Torr or 13psi"
@@ -88,7 +93,7 @@ def parser() -> Parser:
         + "\n  ".join(EXAMPLES.values())
         + "\n  ./sheet strike flash --drum ethanol=0.5,water=0.5 --temperature 78.29C --pressure 90kPa"
         + "\n  "
-        + "\n  ".join((*WEIGHED, MANY, *LAYERS))
+        + "\n  ".join((*WEIGHED, MANY, TRYING, *LAYERS))
         + "\n  ./sheet diagram txy --pair ethanol,water --pressure 101325Pa -o txy.svg"
         + f"\n\n{STATUSES}",
     )
@@ -154,6 +159,7 @@ def _add_task(commands, task: tasks.Task) -> None:
         example.replace("./sheet ", "./sheet strike ", 1),
     )
     _add_book_options(command)
+    _add_try(command)
     feed = command.add_mutually_exclusive_group(required=True)
     feed.add_argument("--drum", action="append", metavar="NAME=X,NAME=X", help=DRUM_HELP)
     feed.add_argument("--mass", action="append", metavar="NAME=W,NAME=W", help=MASS_HELP)
@@ -208,6 +214,7 @@ def _add_layers(commands) -> None:
         *LAYERS,
     )
     _add_book_options(command)
+    _add_try(command)
     command.add_argument("--drum", action="append", metavar="NAME=X,NAME=X", help=DRUM_HELP)
     command.add_argument("--mass", action="append", metavar="NAME=W,NAME=W", help=MASS_HELP)
     command.add_argument(
@@ -217,6 +224,10 @@ def _add_layers(commands) -> None:
     command.add_argument("--pressure", metavar="P", help=f"at which the layers boil, {PRESSURE_HELP}")
     command.add_argument("--bracket", metavar="LOW:HIGH", help=BRACKET_HELP)
     _add_sheet_options(command)
+
+
+def _add_try(command: Parser) -> None:
+    command.add_argument("--try", dest="tried", metavar="PAIR", help=TRY_HELP)
 
 
 def _add_book_options(command: Parser) -> None:
@@ -316,6 +327,7 @@ def _add_diagram(commands) -> None:
     )
     command.add_argument("kind", choices=("txy", "pxy", "xy"))
     _add_book_options(command)
+    _add_try(command)
     command.add_argument("--pair", required=True, metavar="NAME,NAME", help="the first one's mole fraction is drawn")
     command.add_argument("--temperature", metavar="T", help="held in pxy, and in xy if no pressure is given")
     command.add_argument("--pressure", metavar="P", help="held in txy, and in xy if no temperature is given")

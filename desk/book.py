@@ -123,6 +123,11 @@ def due_pairs(n: int) -> List[Tuple[int, int]]:
     return [(i, j) for i in range(n) for j in range(i + 1, n)]
 
 
+def pair_place(n: int, i: int, j: int) -> int:
+    """Which block of a book of n solvents is the pair of i < j."""
+    return 1 + n + due_pairs(n).index((i, j))
+
+
 def block_count(n: int) -> int:
     return 1 + n + n * (n - 1) // 2
 
@@ -134,7 +139,7 @@ def encode(book: Book, version: Optional[int] = None) -> bytes:
         raise DeskError("a Wilson book is of version 2 or 3, with the molar mass of every solvent")
     head = [KIND_HEAD, version, n, book.model.value]
     solvents = [_solvent_words(i, solvent, version) for i, solvent in enumerate(book.solvents)]
-    pairs = [_pair_words(i, j, pair) for (i, j), pair in zip(due_pairs(n), book.pairs)]
+    pairs = [pair_words(i, j, pair) for (i, j), pair in zip(due_pairs(n), book.pairs)]
     return joined([head] + solvents + pairs)
 
 
@@ -150,7 +155,7 @@ def _solvent_words(index: int, solvent: Solvent, version: int) -> Words:
     return words
 
 
-def _pair_words(i: int, j: int, pair: AnyPair) -> Words:
+def pair_words(i: int, j: int, pair: AnyPair) -> Words:
     words = [KIND_PAIR, i, j] + [0] * (CHECK - 3)
     for at, values in _parameters(pair):
         put_floats(words, at, values)
@@ -223,8 +228,8 @@ def decode(content: bytes) -> Book:
         raise DeskError(
             f"its first block gives model {model_word(content)}; there are 0, NRTL, and 1, Wilson, from version 2 on"
         )
-    pair = {Model.NRTL: _pair, Model.WILSON: _wilson_pair}[model]
-    return Book(tuple(map(_solvent, blocks[1 : 1 + n], masses)), tuple(map(pair, blocks[1 + n :])), model)
+    pairs = tuple(pair_of(words, model) for words in blocks[1 + n :])
+    return Book(tuple(map(_solvent, blocks[1 : 1 + n], masses)), pairs, model)
 
 
 def common_range(book: Book) -> Tuple[float, float]:
@@ -244,6 +249,11 @@ def _correlation(words: Words, at: int) -> Correlation:
     coefficients = floats_at(words, at + COEFFICIENTS, count)
     exponents = floats_at(words, at + EXPONENTS, count)
     return Correlation(*floats_at(words, at, 4), tuple(zip(coefficients, exponents)))
+
+
+def pair_of(words: Words, model: Model) -> AnyPair:
+    """What a pair's block says."""
+    return {Model.NRTL: _pair, Model.WILSON: _wilson_pair}[model](words)
 
 
 def _pair(words: Words) -> Pair:

@@ -1,18 +1,19 @@
 """What each command does."""
 
 import argparse
+import contextlib
 import os
 import sys
 from dataclasses import replace
-from typing import Optional, Tuple, Union
+from typing import Iterator, Optional, Tuple, Union
 
 from . import (
-    answer, building, core, diagram, drumlist, explain, files, jsonsheet, layersreport, library, listreport, picture
+    answer, batch, building, core, diagram, drumlist, explain, files, jsonsheet, layersreport, library, listreport
 )
-from . import refusals, report, strikereport, tasks, text, units, yardcheck
+from . import picture, refusals, report, strikereport, tasks, text, units, yardcheck
 from .arguments import commands_of, options_of, parser
 from .book import VERSION, Model, encode
-from .errors import DeskError, quoted, suggestion
+from .errors import CoreRefusal, DeskError, quoted, suggestion
 from .feed import Feed
 from .judgement import judged
 from .layersheet import layers_sheet
@@ -20,11 +21,13 @@ from .listsheet import MARKED as MARKED_ROW
 from .listsheet import REFUSED as REFUSED_ROW
 from .listsheet import list_sheet
 from .openbook import bracket_of, feed_of, is_binary, k_values_of, open_book, open_yard, place_of, shown, yard_of
+from .preview import Preview
 from .question import Question
 from .ranges import Ranges, ranges_at
 from .sheet import SHORT, NamedBook, Sheet, checksum, today
 from .showbook import listing
 from .sweep import Setting, curves
+from .tried import Tried, offered_of, trying
 from .yard import Yard
 from .yardwrite import write
 
@@ -54,14 +57,46 @@ def ask(arguments: argparse.Namespace) -> int:
     book = open_book(arguments.book, arguments.names)
     feed = feed_of(book, arguments.drum, arguments.mass, arguments.normalize)
     question = _question(arguments, book, feed)
-    with core.Core(book.content, arguments.program) as program:
-        blocks = program.ask_pooled(question, feed.charge.counts) if feed.charge else program.ask(question)
-        sheet = Sheet(book, feed, question, blocks, judged(program, book, question, blocks, feed=feed))
-        sheet = replace(sheet, ranges=_ranges(program, sheet), label=_label(arguments), date=today())
+    with _asking(arguments, book) as (program, asked, tried):
+        sheet = _sheet(program, asked, feed, question)
+        if tried and sheet.blocks.refusal not in batch.OF_THE_BOOK:
+            tried = replace(tried, own=_sheet(program.core, book, feed, question, advise=False))
+        sheet = replace(sheet, label=_label(arguments), date=today(), tried=tried)
     if arguments.strike:
         return _strike(arguments, sheet)
     sys.stdout.write((jsonsheet if arguments.json else report).render(sheet, arguments.details))
     return _ended(sheet)
+
+
+Asked = Union[core.Core, library.Library, Preview]
+
+
+def _sheet(program: Asked, book: NamedBook, feed: Feed, question: Question, advise: bool = True) -> Sheet:
+    blocks = program.ask_pooled(question, feed.charge.counts) if feed.charge else program.ask(question)
+    sheet = Sheet(book, feed, question, blocks, judged(program, book, question, blocks, advise, feed))
+    return replace(sheet, ranges=_ranges(program, sheet))
+
+
+@contextlib.contextmanager
+def _asking(
+    arguments: argparse.Namespace, book: NamedBook, call: str = ""
+) -> Iterator[Tuple[Asked, NamedBook, Optional[Tried]]]:
+    """Who is asked, and about which book: with --try about a copy that holds the pair. The library is asked where it is
+    built and has the call that is wanted; else the program, and where one was named."""
+    offered = offered_of(book, arguments.tried) if arguments.tried is not None else None
+    call = "zektonk_preview" if offered else call
+    if call and arguments.program == core.PROGRAM and library.offers(call):
+        opened = library.Library(book.content)
+    else:
+        opened = core.Core(book.content, arguments.program)
+    with opened:
+        yield trying(opened, book, offered) if offered else (opened, book, None)
+
+
+def _expect_offered(tried: Optional[Tried]) -> None:
+    """Where there is no sheet that could say that the pair is refused."""
+    if tried and tried.refusal:
+        raise CoreRefusal(refusals.line(tried.refusal, offered=True))
 
 
 def ask_many(arguments: argparse.Namespace) -> int:
@@ -74,8 +109,9 @@ def ask_many(arguments: argparse.Namespace) -> int:
     skip = [name.strip() for name in arguments.skip.split(",")] if arguments.skip else []
     drums = drumlist.read(arguments.drums, book, arguments.by_mass, arguments.normalize, skip)
     question = _question(arguments, book, Feed(()))
-    with _many(arguments, book) as program:
-        sheet = list_sheet(program, book, shown(arguments.drums), drums, question, _label(arguments))
+    with _asking(arguments, book, "zektonk_feeds") as (program, asked, tried):
+        _expect_offered(tried)
+        sheet = list_sheet(program, asked, shown(arguments.drums), drums, question, _label(arguments), tried)
     if arguments.csv:
         sys.stdout.write(listreport.written(sheet))
     elif arguments.json:
@@ -88,18 +124,11 @@ def ask_many(arguments: argparse.Namespace) -> int:
     return REFUSED if sheet.of(REFUSED_ROW) else MARKED if sheet.of(MARKED_ROW) else 0
 
 
-def _many(arguments: argparse.Namespace, book: NamedBook) -> Union[core.Core, library.Library]:
-    """The library where it is built, since it takes 64 drums in a call; else the program, and where one was named."""
-    if arguments.program == core.PROGRAM and library.offers("zektonk_feeds"):
-        return library.Library(book.content)
-    return core.Core(book.content, arguments.program)
-
-
 def _label(arguments: argparse.Namespace) -> str:
     return " ".join(arguments.label.split())
 
 
-def _ranges(program: core.Core, sheet: Sheet) -> Optional[Ranges]:
+def _ranges(program: Asked, sheet: Sheet) -> Optional[Ranges]:
     """At the temperature found or asked; none of a refusal, and of a split by given K values."""
     if sheet.question.task.takes_k or sheet.blocks.refusal:
         return None
@@ -126,7 +155,8 @@ def _ended(sheet: Sheet) -> int:
     number, mark = sheet.blocks.refusal, sheet.judgement.mark
     if number or mark:
         sys.stdout.flush()
-        refused = f"{refusals.line(number)}{explain.detail(sheet)}{explain.hint(sheet)}" if number else ""
+        line = refusals.line(number, sheet.offered_refused)
+        refused = f"{line}{explain.detail(sheet)}{explain.hint(sheet)}" if number else ""
         print(f"sheet: {'; '.join(filter(None, (refused, mark.line if mark else '')))}", file=sys.stderr)
     return REFUSED if number else MARKED if mark else 0
 
@@ -157,8 +187,9 @@ def layers(arguments: argparse.Namespace) -> int:
     pair = _pair(arguments.pair, book) if arguments.pair is not None else None
     feed = None if pair else feed_of(book, arguments.drum, arguments.mass, arguments.normalize)
     bracket = options_of(arguments, bracket_of(book)).bracket
-    with core.Core(book.content, arguments.program) as program:
-        sheet = layers_sheet(program, book, feed, pair, kelvin, pascals, bracket, _label(arguments))
+    with _asking(arguments, book) as (program, asked, tried):
+        _expect_offered(tried)
+        sheet = layers_sheet(program, asked, feed, pair, kelvin, pascals, bracket, _label(arguments), tried)
     if arguments.json:
         sys.stdout.write(jsonsheet.dumped(layersreport.document(sheet, arguments.details)))
     else:
@@ -176,7 +207,9 @@ def draw(arguments: argparse.Namespace) -> int:
     points = units.whole(arguments.points, "--points")
     if not 3 <= points <= MOST_POINTS:
         raise DeskError(f"--points: {points} is not from 3 to {MOST_POINTS}")
-    with core.Core(setting.book.content, arguments.program) as program:
+    with _asking(arguments, setting.book) as (program, asked, tried):
+        _expect_offered(tried)
+        setting = replace(setting, book=asked, tried=tried)
         found = curves(program, setting, points, with_dew=arguments.kind != "xy")
     if arguments.kind == "xy":
         drawn = diagram.composition(setting, found)
@@ -185,7 +218,7 @@ def draw(arguments: argparse.Namespace) -> int:
     picture.write(arguments.output, drawn)
     to_output = arguments.output == picture.STANDARD_OUTPUT
     name = "diagram" if to_output else arguments.output
-    said = [f"{name}: {arguments.kind} of {diagram.caption(setting)}"]
+    said = [f"{name}: {diagram.title_of(arguments.kind, setting)}"]
     said += [f"  {line}" for line in diagram.findings(arguments.kind, setting, found, unit)]
     print("\n".join(said), file=sys.stderr if to_output else sys.stdout)
     return 0
@@ -286,6 +319,9 @@ def explain_numbers(arguments: argparse.Namespace) -> int:
         print(f"{number:2}  {refusals.matter(number)}\n    what to do: {refusals.advice(number)}")
         for command, advice in refusals.REFUSALS[number].by_command.items():
             print(f"    after {command}: {advice}")
+        if number in refusals.OFFERED:
+            print(f"    of a pair that is tried: {refusals.matter(number, offered=True)}")
+            print(f"    what to do then: {refusals.OFFERED[number].advice}")
     return 0
 
 

@@ -7,8 +7,8 @@ import tempfile
 from pathlib import Path
 from typing import Dict, List, Sequence
 
-from . import answer, batch, pool
-from .blocks import rule_of
+from . import answer, batch, pool, preview
+from .blocks import rule_of, sealed
 from .errors import DeskError
 from .feed import Fractions
 from .pool import Drum
@@ -32,12 +32,15 @@ class Core:
         self.book, self.rule = book, rule_of(book)
         self._folder = tempfile.TemporaryDirectory(prefix="sheet-")
         self._answers: Dict[bytes, answer.Blocks] = {}
+        self._copies: Dict[bytes, Core] = {}  # of the book, with a pair that is offered
         (Path(self._folder.name) / BOOK_NAME).write_bytes(book)
 
     def __enter__(self) -> "Core":
         return self
 
     def __exit__(self, *_: object) -> None:
+        for copy in self._copies.values():
+            copy.__exit__()
         self._folder.cleanup()
 
     def ask(self, question: Question) -> answer.Blocks:
@@ -50,6 +53,18 @@ class Core:
     def ask_feeds(self, question: Question, feeds: Sequence[Fractions]) -> List[answer.Blocks]:
         """With each of 1 to 64 feeds in place of the question's fractions."""
         return batch.ask_plainly(self, question, feeds)
+
+    def ask_preview(self, block: bytes, offered: bytes) -> answer.Blocks:
+        """With an offered block in place of the book's pair of the same two solvents."""
+        found = self.ask_block(b"")
+        if found.refusal in batch.OF_THE_BOOK:
+            return found
+        number = preview.refusal_of(offered, self.book)
+        if number:
+            return answer.read(sealed([answer.KIND_ANSWER, 0, number], self.rule), self.rule)
+        if offered not in self._copies:
+            self._copies[offered] = Core(preview.copy_of(self.book, offered), self.program)
+        return self._copies[offered].ask_block(block)
 
     def ask_block(self, block: bytes) -> answer.Blocks:
         if block not in self._answers:

@@ -5,7 +5,7 @@ from dataclasses import dataclass
 from functools import cached_property
 from typing import Callable, Iterable, List, NamedTuple, Optional, Tuple
 
-from . import text, units
+from . import text, tryreport, units
 from .book import AnyPair
 from .ranges import is_outside, pairs_of
 from .refusals import line as refusal_line
@@ -192,6 +192,10 @@ def caption(setting: Setting) -> str:
     return f"{' and '.join(setting.names)} at {held(setting)}, {setting.book.model_words}"
 
 
+def title_of(kind: str, setting: Setting) -> str:
+    return tryreport.title(f"{kind} of {caption(setting)}", setting.tried)
+
+
 @dataclass(frozen=True)
 class Drawing:
     """What the three kinds of diagram have in common."""
@@ -211,7 +215,14 @@ class Drawing:
         return self.pair is not None and 0 < point.x < 1 and is_outside(self.pair, point.temperature)
 
     def legend(self) -> List[Entry]:
-        return [*self._azeotropes(), *self._layers(), *self._interval(), *self._missing()]
+        return [*self._tried(), *self._azeotropes(), *self._layers(), *self._interval(), *self._missing()]
+
+    def _tried(self) -> Iterable[Entry]:
+        tried = self.setting.tried
+        if tried:
+            shows = not tried.absent([self.setting.first, self.setting.second])
+            said = f"PREVIEW: {tried.pair} as tried, from {tried.offered.source}, not as in the book"
+            yield Entry(said if shows else f"{said}; that pair doesn't show here")
 
     def _azeotropes(self) -> Iterable[Entry]:
         for point in self.curves.azeotropes:
@@ -307,7 +318,7 @@ def saturation(kind: str, setting: Setting, curves: Curves, unit: str) -> str:
         Entry("dew point (vapor y)", "line", DEW_COLOR),
         *drawing.legend(),
     ]
-    title = f"{KINDS[kind]} of {caption(setting)}"
+    title = title_of(KINDS[kind], setting)
     canvas = Canvas(title, UNIT_AXIS, f"mole fraction of {first}", upward, quantity, legend)
     for three in curves.three_phases:
         canvas.box(three.low, three.high, value(three), upward.low if kind == "txy" else upward.high)
@@ -339,7 +350,7 @@ def composition(setting: Setting, curves: Curves) -> str:
     """x-y with its diagonal."""
     drawing = Drawing(setting, curves, Units())
     first, second = setting.names
-    title = f"x-y of {caption(setting)}"
+    title = title_of("x-y", setting)
     legend = [
         Entry("vapor over the boiling liquid", "line", BUBBLE_COLOR),
         Entry("y = x", "dots", GUIDE_COLOR),

@@ -70,6 +70,8 @@ def _sums(sheet: Sheet) -> bool:
 def advice(sheet: Sheet) -> List[str]:
     """Sentences: what holds instead where the liquid splits, else what the number's entry says."""
     number = sheet.blocks.refusal
+    if sheet.offered_refused:
+        return [f"What to do: {refusals.OFFERED[number].advice}."]
     if sheet.judgement.mark:
         return list(sheet.judgement.mark.advice)
     if number == FRACTIONS_DO_NOT_SUM and not _sums(sheet):

@@ -13,6 +13,7 @@ from .question import Options
 from .ranges import Ranges
 from .report import phase_amounts
 from .sheet import NamedBook, Sheet
+from .tried import Tried, value_of
 from .version import VERSION
 
 ENERGIES = (
@@ -89,7 +90,8 @@ class Document:
             "version": VERSION,
             "date": sheet.date,
             "label": sheet.label or None,
-            "book": book_document(sheet.book, self.details),
+            **({"preview": preview_document(sheet.tried, self.details)} if sheet.tried else {}),
+            "book": book_document(sheet.tried.book if sheet.tried else sheet.book, self.details),
             "question": self._question(),
             "warning": {"kind": mark.kind, "line": mark.line, "advice": list(mark.advice)} if mark else None,
             "one_liquid_layer": sheet.book.one_layer(judgement.one_layer, sheet.present()),
@@ -100,7 +102,7 @@ class Document:
         }
 
     def _refusal(self, number: int) -> Dict[str, Any]:
-        matter = refusals.matter(number)
+        matter = refusals.matter(number, self.sheet.offered_refused)
         return {
             "number": number,
             "matter": matter,
@@ -181,6 +183,35 @@ class Document:
             "trivial": bool(words[answer.TRIAL_TRIVIAL]),
             "stopped_at": self.numbers.by_name(floats_at(words, answer.TRIAL_FRACTIONS, len(self.sheet.book.names))),
         }
+
+
+def preview_document(tried: Tried, details: bool, own: bool = True) -> Dict[str, Any]:
+    """Of the pair that is tried the words that differ from the book's; with `own` also what the book itself says to the
+    same question."""
+    numbers = Numbers(tried.book.names, (), details)
+    found: Dict[str, Any] = {
+        "pair": list(tried.names) if tried.names else None,
+        "source": tried.offered.source,
+        "refused": tried.refusal or None,
+        "words": _words_document(tried, numbers) if tried.places and not tried.refusal else None,
+    }
+    if own:
+        names = ("warning", "one_liquid_layer", "refusal", "answer")
+        whole = document(tried.own, details) if tried.own else {}
+        found["by_the_book"] = {name: whole[name] for name in names} if whole else None
+    return found
+
+
+def _words_document(tried: Tried, numbers: Numbers) -> Dict[str, Any]:
+    own, offered = tried.words()
+
+    def written(value: Any) -> Any:
+        return value if isinstance(value, bool) else numbers.number(value)
+
+    return {
+        word.name: {"in_the_book": written(value_of(own, word)), "as_tried": written(value_of(offered, word))}
+        for word in tried.differing()
+    }
 
 
 def options_document(options: Options, number: Callable[[float], Any]) -> Dict[str, Any]:

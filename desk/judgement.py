@@ -16,7 +16,7 @@ from .liquids import ONE_LAYER, OUT_OF_PRESSURES, SPLITS, UNTESTED, Fractions, L
 from .question import Question
 from .refusals import matter
 from .search import NotShown
-from .sheet import DEFAULT_BOOK, NamedBook, feed_words
+from .sheet import NamedBook, book_options, feed_words
 
 MAY_SPLIT = (26, 27, 28, 29, 30)  # refusals that a liquid in two layers can lead to
 NO_RESIDUAL = 1e-5
@@ -186,8 +186,7 @@ class Judge:
             return (f"What holds instead can't be shown: {reason}.",)
 
     def _command(self, *options: str) -> str:
-        book = [f"--book {self.book.file}"] if self.book.file != DEFAULT_BOOK else []
-        return " ".join(["./sheet layers", feed_words(self.book, self._feed), *options, *book])
+        return " ".join(["./sheet layers", feed_words(self.book, self._feed), *options, *book_options(self.book)])
 
     def _at_temperature(self) -> str:
         return self._command(f"--temperature {text.exact(self.question.temperature)}K")

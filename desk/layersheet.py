@@ -14,6 +14,7 @@ from .ranges import ranges_at
 from .refusals import matter
 from .search import NotShown
 from .sheet import NamedBook, today
+from .tried import Tried
 
 
 
@@ -26,11 +27,10 @@ def layers_sheet(
     pascals: Optional[float],
     bracket: Tuple[float, float],
     label: str = "",
+    tried: Optional[Tried] = None,
 ) -> LayersSheet:
     liquids = Liquids(core)
-    asked = {
-        "book": book, "pair": pair, "kelvin": kelvin, "pascals": pascals, "label": label, "date": today()
-    }
+    asked = {"book": book, "pair": pair, "kelvin": kelvin, "pascals": pascals, "label": label, "date": today()}
     feed = feed or Feed(splitting(liquids, len(book.names), pair, kelvin, pascals, bracket))
     mass = by_mass(book.molar_masses, feed)
     drum = mass.moles if mass else feed.fractions
@@ -41,7 +41,7 @@ def layers_sheet(
     layers = found.get("layers")
     at = layers.kelvin if layers else kelvin if pair else found.get("one_layer_at") or kelvin
     ranges = ranges_at(core, book, drum, at) if at is not None and not found.get("reason") else None
-    return LayersSheet(**asked, drum=drum, feed=feed, ranges=ranges, **found)
+    return LayersSheet(**asked, drum=drum, feed=feed, ranges=ranges, tried=tried, **found)
 
 
 def _feed_refused(core: Core, feed: Feed, kelvin: float) -> str:

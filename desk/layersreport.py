@@ -3,12 +3,13 @@
 from dataclasses import dataclass
 from typing import Any, Dict, List, Optional, Tuple
 
-from . import charge, jsonsheet, ranges, text
+from . import charge, jsonsheet, ranges, text, tryreport
 from .feed import ByMass, Feed, by_mass
 from .layers import Boiling, Layers
 from .ranges import Ranges
-from .report import drum_rows, marked, mass_tables
-from .sheet import NamedBook, book_words
+from .report import drum_rows, mass_tables
+from .sheet import NamedBook
+from .tried import Tried
 from .version import VERSION
 
 COMPOSITIONS = 127  # of a pair that are tried
@@ -40,6 +41,7 @@ class LayersSheet:
     one_layer_at: Optional[float] = None  # boiling point (K) of a drum in one layer
     boils_at: Optional[float] = None  # boiling point (K) at the pressure asked, where a temperature was asked too
     ranges: Optional[Ranges] = None
+    tried: Optional[Tried] = None  # then `book` is the copy that holds the pair
 
     @property
     def is_pair(self) -> bool:
@@ -65,15 +67,15 @@ class LayersSheet:
 
 
 def render(sheet: LayersSheet, details: bool = False) -> str:
-    lines = _head(sheet, details) + [text.RULE]
+    lines = _head(sheet, details) + [text.RULE] + tryreport.stars(sheet.tried)
     if sheet.reason:
-        lines += marked("NO LAYERS CAN BE SHOWN") + text.wrapped(f"{sheet.reason[0].upper()}{sheet.reason[1:]}.")
+        lines += text.marked("NO LAYERS CAN BE SHOWN") + text.wrapped(f"{sheet.reason[0].upper()}{sheet.reason[1:]}.")
         return "\n".join(lines) + "\n"
     if sheet.ranges and sheet.ranges.line():
         lines += text.wrapped(sheet.ranges.line(), indent="") + [""]
     lines += _one_layer(sheet, details) if sheet.layers is None else _layers(sheet, sheet.layers, details)
     found = ranges.table(sheet.ranges) if sheet.ranges else []
-    return "\n".join(lines + ([""] + found if found else [])) + "\n"
+    return "\n".join(lines + ([""] + found if found else []) + tryreport.tables(sheet.tried, details)) + "\n"
 
 
 def _head(sheet: LayersSheet, details: bool) -> Lines:
@@ -82,7 +84,7 @@ def _head(sheet: LayersSheet, details: bool) -> Lines:
         return ", ".join(f"{sheet.book.names[i]} {written(values[i])}{unit}" for i in sheet.present)
 
     rows = [("Label", sheet.label)] if sheet.label else []
-    rows += [("Date", sheet.date), ("Book", book_words(sheet.book, details))]
+    rows += [("Date", sheet.date), *tryreport.book_rows(sheet.book, sheet.tried, details)]
     if sheet.is_pair:
         rows.append(("Pair", " and ".join(sheet.book.names[i] for i in sheet.present)))
     else:
@@ -93,7 +95,8 @@ def _head(sheet: LayersSheet, details: bool) -> Lines:
         rows.append(("T asked", text.temperature(sheet.kelvin, details)))
     if sheet.pascals is not None:
         rows.append(("p asked", text.pressure(sheet.pascals, details)))
-    lines = ["LAYERS: the two liquids that a drum splits in, and where they boil"] + text.fields(rows)
+    lines = [tryreport.title("LAYERS: the two liquids that a drum splits in, and where they boil", sheet.tried)]
+    lines += text.fields(rows)
     return lines + (charge.table(sheet.feed, sheet.book.names, details) if sheet.feed.charge else [])
 
 
@@ -186,7 +189,8 @@ def document(sheet: LayersSheet, details: bool = False) -> Dict[str, Any]:
         "version": VERSION,
         "date": sheet.date,
         "label": sheet.label or None,
-        "book": jsonsheet.book_document(sheet.book, details),
+        **({"preview": jsonsheet.preview_document(sheet.tried, details, own=False)} if sheet.tried else {}),
+        "book": jsonsheet.book_document(sheet.tried.book if sheet.tried else sheet.book, details),
         "question": {
             "pair": [sheet.book.names[i] for i in sheet.present] if sheet.is_pair else None,
             **(NO_FEED if sheet.is_pair else jsonsheet.feed_document(sheet.feed, numbers)),

@@ -85,10 +85,22 @@ class Library:
             raise batch.CallRefused(number)
         return batch.parts_of(room.raw, count, self.rule)
 
+    def ask_preview(self, block: bytes, offered: bytes) -> answer.Blocks:
+        """With an offered block in place of the book's pair of the same two solvents."""
+        return answer.read(self.preview_bytes(block, offered), self.rule)
+
+    def preview_bytes(self, block: bytes, offered: bytes) -> bytes:
+        """The same as `ask_bytes` with an offered block."""
+        asked = block[:QUESTION_MOST]
+        return self._ended(_loaded(self.path, "zektonk_preview"), asked, _lent(self.book, offered, asked))
+
     def _written(self, call: Callable[..., int], block: bytes, *drums: bytes) -> bytes:
         asked = block[:QUESTION_MOST]
+        return self._ended(call, asked, _lent(self.book, asked, *drums))
+
+    def _ended(self, call: Callable[..., int], asked: bytes, lent: List[object]) -> bytes:
         room = ctypes.create_string_buffer(ANSWER_ROOM)
-        number = call(*_lent(self.book, asked, *drums), room, ANSWER_ROOM)
+        number = call(*lent, room, ANSWER_ROOM)
         if number:
             task = 0 if number in WITHOUT_TASK else words_of(asked)[answer.TASK]
             return sealed([answer.KIND_ANSWER, task, number], self.rule)

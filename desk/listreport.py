@@ -5,12 +5,12 @@ import io
 import math
 from typing import Any, Callable, Dict, Iterable, List, Optional, Sequence, Tuple
 
-from . import answer, explain, jsonsheet, ranges, text
+from . import answer, explain, jsonsheet, ranges, text, tryreport
 from .feed import MASSES, Feed
 from .jsonsheet import Document
 from .listsheet import ANSWERED, MARKED, REFUSED, ListSheet, Row, reason
-from .report import BUBBLE_POINTS, marked, phase_amounts, shown_exp
-from .sheet import DEFAULT_BOOK, book_words, feed_words
+from .report import BUBBLE_POINTS, phase_amounts, shown_exp
+from .sheet import book_options, feed_words
 from .tasks import EXCESS, FLASH, STABILITY
 from .units import in_unit
 from .version import VERSION
@@ -31,24 +31,27 @@ class ListReport:
         self.sheet, self.details, self.task = sheet, details, sheet.question.task
 
     def text(self) -> str:
-        lines = self.head() + [text.RULE] + self._marks() + self._table()
+        lines = self.head() + [text.RULE] + tryreport.stars(self.sheet.tried) + self._marks() + self._table()
         for table in self._compositions() + [self._kilograms()]:
             lines += [""] + table if table else []
         lines += self._remarks()
         found = ranges.table(self.sheet.ranges)
-        return "\n".join(lines + ([""] + found if found else [])) + "\n"
+        tried = tryreport.tables(self.sheet.tried, self.details)
+        return "\n".join(lines + ([""] + found if found else []) + tried) + "\n"
 
     def head(self) -> Lines:
         sheet, question = self.sheet, self.sheet.question
         rows = [("Label", sheet.label)] if sheet.label else []
-        rows += [("Date", sheet.date), ("Book", book_words(sheet.book, self.details)), ("Drums", self._counts())]
+        rows += [("Date", sheet.date), *tryreport.book_rows(sheet.book, sheet.tried, self.details)]
+        rows.append(("Drums", self._counts()))
         absent = [name for place, name in enumerate(sheet.book.names) if place not in sheet.present]
         rows += [("Absent", f"{', '.join(absent)} (from every drum)")] if absent else []
         rows.append(("T asked", text.temperature(question.temperature, self.details)))
         if question.pressure is not None:
             rows.append(("p asked", text.pressure(question.pressure, self.details)))
         rows += [("Task", f"{self.task.number}, {self.task.function}")] if self.details else []
-        return [f"{self.task.title.upper()}, MANY DRUMS: {self.task.about}"] + text.fields(rows)
+        title = f"{self.task.title.upper()}, MANY DRUMS: {self.task.about}"
+        return [tryreport.title(title, sheet.tried)] + text.fields(rows)
 
     def _counts(self) -> str:
         sheet = self.sheet
@@ -75,7 +78,7 @@ class ListReport:
         return lines + [""] if lines else []
 
     def _starred(self, words: str, rows: Sequence[Row]) -> Lines:
-        return marked(f"{words}: {', '.join(row.drum.name for row in rows)}") if rows else []
+        return text.marked(f"{words}: {', '.join(row.drum.name for row in rows)}") if rows else []
 
     # tables, a line for each drum
 
@@ -211,7 +214,7 @@ class ListReport:
         words = [f"./sheet {self.task.command}", feed_words(book, row.drum.feed)]
         words.append(f"--temperature {text.exact(question.temperature)}K")
         words += [f"--pressure {text.exact(question.pressure)}Pa"] if question.pressure is not None else []
-        return " ".join(words + ([f"--book {book.file}"] if book.file != DEFAULT_BOOK else []))
+        return " ".join(words + book_options(book))
 
 
 def _weight(row: Row, name: str, at: int, amounts: Dict[str, float]) -> float:
@@ -250,7 +253,8 @@ def document(sheet: ListSheet, details: bool = False) -> Dict[str, Any]:
         "version": VERSION,
         "date": sheet.date,
         "label": sheet.label or None,
-        "book": jsonsheet.book_document(sheet.book, details),
+        **({"preview": jsonsheet.preview_document(sheet.tried, details, own=False)} if sheet.tried else {}),
+        "book": jsonsheet.book_document(sheet.tried.book if sheet.tried else sheet.book, details),
         "file": sheet.file,
         "question": {
             "temperature_K": number(question.temperature),
@@ -279,6 +283,9 @@ def written(sheet: ListSheet) -> str:
     """A line for each drum, with the numbers of its answer and the names that JSON has for them, to all digits."""
     rows = [_cells(_drum(row, False), reason(row) if row.status == REFUSED else "") for row in sheet.rows]
     heads = list(CSV_FIRST)
+    if sheet.tried:
+        heads.insert(0, "preview")
+        rows = [{"preview": f"{sheet.tried.pair} as tried, not as in the book", **row} for row in rows]
     for row in rows:
         heads += [head for head in row if head not in heads]
     out = io.StringIO()

@@ -3,7 +3,7 @@ of its own."""
 
 from collections import Counter
 from dataclasses import dataclass, replace
-from typing import Dict, Iterator, List, Sequence, Tuple, Union
+from typing import Dict, Iterator, List, Optional, Sequence, Tuple, Union
 
 from . import batch, refusals
 from .answer import Blocks
@@ -12,10 +12,14 @@ from .drumlist import Listed
 from .explain import detail
 from .judgement import judged
 from .library import Library
+from .preview import Preview
 from .progress import Progress
 from .question import Question
 from .ranges import PairRemark, Ranges, ranges_at
 from .sheet import NamedBook, Sheet, today
+from .tried import Tried
+
+Asked = Union[Core, Library, Preview]
 
 ANSWERED, MARKED, REFUSED = "answered", "marked", "refused"
 
@@ -50,6 +54,7 @@ class ListSheet:
     rows: Tuple[Row, ...]
     label: str
     date: str
+    tried: Optional[Tried] = None  # then `book` is the copy that holds the pair
 
     def of(self, status: str) -> List[Row]:
         return [row for row in self.rows if row.status == status]
@@ -93,14 +98,20 @@ class ListSheet:
 
 
 def list_sheet(
-    core: Union[Core, Library], book: NamedBook, file: str, drums: Sequence[Listed], question: Question, label: str = ""
+    core: Asked,
+    book: NamedBook,
+    file: str,
+    drums: Sequence[Listed],
+    question: Question,
+    label: str = "",
+    tried: Optional[Tried] = None,
 ) -> ListSheet:
     rows: Dict[int, Row] = {}
     with Progress(file, len(drums), of="drums") as progress:
         for places in _calls(drums):
             for k, blocks in zip(places, _asked(core, [drums[k] for k in places], question)):
                 rows[k] = progress.stepped(Row(drums[k], _sheet(core, book, drums[k], question, blocks)))
-    return ListSheet(book, file, question, tuple(rows[k] for k in range(len(drums))), label, today())
+    return ListSheet(book, file, question, tuple(rows[k] for k in range(len(drums))), label, today(), tried)
 
 
 def _calls(drums: Sequence[Listed]) -> Iterator[List[int]]:
@@ -112,7 +123,7 @@ def _calls(drums: Sequence[Listed]) -> Iterator[List[int]]:
     yield from ([k] for k, drum in enumerate(drums) if _unpooled(drum))
 
 
-def _asked(core: Union[Core, Library], drums: Sequence[Listed], question: Question) -> List[Blocks]:
+def _asked(core: Asked, drums: Sequence[Listed], question: Question) -> List[Blocks]:
     """What one call answers."""
     feed = drums[0].feed
     if _unpooled(drums[0]):
@@ -125,7 +136,7 @@ def _unpooled(drum: Listed) -> bool:
     return bool(drum.feed.charge and drum.feed.charge.refusal)
 
 
-def _sheet(core: Union[Core, Library], book: NamedBook, drum: Listed, question: Question, blocks: Blocks) -> Sheet:
+def _sheet(core: Asked, book: NamedBook, drum: Listed, question: Question, blocks: Blocks) -> Sheet:
     asked = replace(question, fractions=drum.feed.fractions, by_mass=drum.feed.by_mass)
     judgement = judged(core, book, asked, blocks, advise=False, feed=drum.feed)
     sheet = Sheet(book, drum.feed, asked, blocks, judgement, label=drum.label)

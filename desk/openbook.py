@@ -31,7 +31,7 @@ def open_book(path: str, names_from: Optional[str] = None) -> NamedBook:
 
 def named(yard: Yard, path: str) -> NamedBook:
     cas = tuple(solvent.cas for solvent in yard.book.solvents)
-    return NamedBook(encode(yard.book), yard.names, cas, shown(path), yard.lacking)
+    return NamedBook(encode(yard.book), yard.names, cas, shown(path), yard.lacking, tuple(yard.volumes.items()))
 
 
 def shown(path: str) -> str:

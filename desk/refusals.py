@@ -136,6 +136,24 @@ REFUSALS: Dict[int, Refusal] = {
     ),
 }
 
+OFFERED: Dict[int, Refusal] = {  # of a pair that is tried, behind all that the book itself is asked
+    1: Refusal(
+        "the pair tried is not one whole block of 512 bytes",
+        "look at what wrote the file; a pair is also tried as a text, with its section of a yard text",
+    ),
+    2: Refusal(
+        "the check word of the pair tried is wrong, by the rule of the book's version",
+        "the block was damaged, or sealed for a book of another version",
+    ),
+    7: Refusal(
+        "the pair tried isn't of kind 3, names no two solvents of the book with i < j, or has a flag that is neither 0 "
+        "nor 1",
+        "look at words 0 to 2, 15 and 18 of the block",
+    ),
+    8: Refusal("the pair tried has a number that isn't finite", "look at what wrote the block"),
+    9: Refusal("the pair tried has two alphas that are not equal", "give one alpha for both directions"),
+}
+
 UNKNOWN = Refusal("a number that this tool doesn't know", "look into docs/FORMAT.md of the core's version")
 
 
@@ -148,8 +166,13 @@ def numbers() -> str:
     return f"{', '.join(all_but_one)} and {last}" if all_but_one else last
 
 
-def matter(number: int) -> str:
-    return REFUSALS.get(number, UNKNOWN).matter
+def matter(number: int, offered: bool = False) -> str:
+    return (OFFERED if offered else REFUSALS).get(number, UNKNOWN).matter
+
+
+def whose(offered: bool) -> str:
+    """Behind the number."""
+    return " of the pair tried" if offered else ""
 
 
 def advice(number: int, command: str = "") -> str:
@@ -157,5 +180,5 @@ def advice(number: int, command: str = "") -> str:
     return refusal.by_command.get(command, refusal.advice)
 
 
-def line(number: int) -> str:
-    return f"refused, number {number}: {matter(number)}"
+def line(number: int, offered: bool = False) -> str:
+    return f"refused, number {number}{whose(offered)}: {matter(number, offered)}"

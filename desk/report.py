@@ -3,10 +3,10 @@
 import math
 from typing import Callable, Dict, List, Optional, Sequence, Tuple
 
-from . import answer, charge, explain, ranges, refusals, text
+from . import answer, charge, explain, ranges, refusals, text, tryreport
 from .blocks import float_of, floats_at
 from .feed import ByMass, Feed, Fractions
-from .sheet import Sheet, book_words
+from .sheet import Sheet
 from .tasks import BUBBLE_PRESSURE, BUBBLE_TEMPERATURE, DEW_PRESSURE, DEW_TEMPERATURE, FLASH, NEGATIVE_SPLIT, SPLIT
 
 ENERGY_NAMES = (
@@ -47,14 +47,15 @@ class Report:
     def text(self) -> str:
         lines = self.head() + [text.RULE] + self._marks()
         body = self._refusal() if self.sheet.blocks.refusal else _BODIES[self.sheet.question.task.command](self)
-        return "\n".join(lines + body + self._pairs()) + "\n"
+        tried = tryreport.tables(self.sheet.tried, self.details, self.sheet)
+        return "\n".join(lines + body + self._pairs() + tried) + "\n"
 
     # what was asked
 
     def head(self) -> Lines:
         sheet, question, task = self.sheet, self.sheet.question, self.sheet.question.task
         rows = [("Label", sheet.label)] if sheet.label else []
-        rows += [("Date", sheet.date), ("Book", book_words(sheet.book, self.details))]
+        rows += [("Date", sheet.date), *tryreport.book_rows(sheet.book, sheet.tried, self.details)]
         rows += drum_rows(sheet.feed, sheet.by_mass, self._listed)
         if sheet.absent():
             rows.append(("Absent", ", ".join(sheet.book.names[i] for i in sheet.absent())))
@@ -67,7 +68,7 @@ class Report:
         if question.k_values is not None:
             rows.append(("K", self._listed(question.k_values)))
         rows += [("Task", f"{task.number}, {task.function}")] if self.details else []
-        lines = [f"{task.title.upper()}: {task.about}"] + text.fields(rows)
+        lines = [tryreport.title(f"{task.title.upper()}: {task.about}", sheet.tried)] + text.fields(rows)
         return lines + (charge.table(sheet.feed, sheet.book.names, self.details) if sheet.feed.charge else [])
 
     def _listed(self, values: Sequence[float], unit: str = "") -> str:
@@ -78,8 +79,8 @@ class Report:
 
     def _marks(self) -> Lines:
         """One line that nobody overlooks, what holds instead, and the pairs that are out of their range."""
-        mark, found = self.sheet.judgement.mark, self.sheet.ranges
-        lines = marked(mark.line) if mark else []
+        sheet, mark, found = self.sheet, self.sheet.judgement.mark, self.sheet.ranges
+        lines = tryreport.stars(sheet.tried) + (text.marked(mark.line) if mark else [])
         if mark and not self.sheet.blocks.refusal:
             lines += text.sentences(mark.advice) + [""]
         if found and found.line():
@@ -87,9 +88,9 @@ class Report:
         return lines
 
     def _refusal(self) -> Lines:
-        number = self.sheet.blocks.refusal
-        sentences = [f"{refusals.matter(number)}{explain.detail(self.sheet)}.", *explain.advice(self.sheet)]
-        return [f"REFUSED, number {number}"] + text.sentences(sentences)
+        number, offered = self.sheet.blocks.refusal, self.sheet.offered_refused
+        sentences = [f"{refusals.matter(number, offered)}{explain.detail(self.sheet)}.", *explain.advice(self.sheet)]
+        return [f"REFUSED, number {number}{refusals.whose(offered)}"] + text.sentences(sentences)
 
     def _pairs(self) -> Lines:
         found = ranges.table(self.sheet.ranges) if self.sheet.ranges else []
@@ -285,12 +286,6 @@ def mass_tables(
         rows += [[name] + [text.plain(values[i], details) for values in kilograms] for i, name in zip(places, names)]
         lines += [""] + text.table(["kg"] + [name for name, _ in weighed], rows)
     return lines + text.wrapped(f"Reckoned by {feed.reckoned}.")
-
-
-def marked(line: str) -> Lines:
-    """Stars around a line that must not be overlooked."""
-    parts = text.wrapped(line, text.WIDTH - 8, "")
-    return [f"*** {part}{' ' * (text.WIDTH - 8 - text.width(part))} ***" for part in parts]
 
 
 def shown_exp(value: float) -> float:

@@ -4,6 +4,7 @@ import hashlib
 import os
 import time
 from dataclasses import dataclass
+from fractions import Fraction
 from typing import TYPE_CHECKING, List, Optional, Sequence, Tuple
 
 from .answer import Blocks
@@ -17,6 +18,7 @@ from .text import counted
 if TYPE_CHECKING:  # both need the names below
     from .judgement import Judgement
     from .ranges import Ranges
+    from .tried import Tried
 
 DEFAULT_BOOK = "yard/yard.txt"  # from the root of the repository
 SHORT = 12  # hex digits of a checksum that are enough to tell two books apart
@@ -27,13 +29,16 @@ DATE_SETTING = "SOURCE_DATE_EPOCH"  # seconds since 1970; fixes the date (UTC), 
 @dataclass(frozen=True)
 class NamedBook:
     """The bytes of a book, the names and CAS numbers of its solvents in order, the file that it came from, and those
-    solvents whose molar mass its text lacks."""
+    solvents whose molar mass its text lacks; molar volumes (m3/mol) that the text has. Of a copy with a pair that is
+    tried the option that tries it."""
 
     content: bytes
     names: Tuple[str, ...]
     cas: Tuple[int, ...]
     file: str
     lacking: Tuple[str, ...] = ()
+    volumes: Tuple[Tuple[str, Fraction], ...] = ()
+    trying: str = ""
 
     @property
     def molar_masses(self) -> Optional[Fractions]:
@@ -85,6 +90,11 @@ def book_words(book: NamedBook, details: bool) -> str:
     return f"{book.file}, {counted(len(book.names), 'solvent')}, {book.model_words}, SHA-256 {digest}"
 
 
+def book_options(book: NamedBook) -> List[str]:
+    """For a command to paste."""
+    return ([f"--book {book.file}"] if book.file != DEFAULT_BOOK else []) + ([book.trying] if book.trying else [])
+
+
 def checksum(content: bytes) -> str:
     """SHA-256 of the book.bin, as sha256sum prints it."""
     return hashlib.sha256(content).hexdigest()
@@ -98,7 +108,8 @@ def today() -> str:
 
 @dataclass(frozen=True)
 class Sheet:
-    """`ranges` is None where there is no temperature."""
+    """`ranges` is None where there is no temperature. With a pair that is tried `book` is the copy that holds it, and
+    `tried` has the book itself."""
 
     book: NamedBook
     feed: Feed
@@ -108,6 +119,12 @@ class Sheet:
     ranges: Optional["Ranges"] = None
     label: str = ""
     date: str = ""
+    tried: Optional["Tried"] = None
+
+    @property
+    def offered_refused(self) -> bool:
+        """Whether the refusal is of the pair that is tried, and not of the book."""
+        return bool(self.tried and self.tried.refusal)
 
     @property
     def by_mass(self) -> Optional[ByMass]:

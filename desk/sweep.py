@@ -15,6 +15,7 @@ from .question import Options, Question
 from .refusals import line
 from .search import NotShown
 from .sheet import NamedBook
+from .tried import Tried
 
 NEAR_PURE = 1e-6  # an azeotrope nearer to a pure solvent isn't looked for
 FLAT = 1e-9  # of ln volatility
@@ -33,6 +34,7 @@ class Setting:
     temperature: Optional[float] = None
     pressure: Optional[float] = None
     options: Options = field(default_factory=Options)
+    tried: Optional[Tried] = None  # then `book` is the copy that holds the pair
 
     @property
     def names(self) -> Tuple[str, str]:

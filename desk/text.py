@@ -132,3 +132,9 @@ def sentences(all_words: Sequence[str]) -> List[str]:
     for words in all_words:
         lines += [f"    {words}"] if words.startswith(("./sheet", "--drum", "--mass")) else wrapped(words)
     return lines
+
+
+def marked(line: str) -> List[str]:
+    """Stars around a line that must not be overlooked."""
+    parts = wrapped(line, WIDTH - 8, "")
+    return [f"*** {part}{' ' * (WIDTH - 8 - width(part))} ***" for part in parts]

@@ -27,6 +27,7 @@ stand; pairs may stand in any order."""
 
 import re
 from dataclasses import replace
+from fractions import Fraction
 from typing import Callable, Dict, List, Optional, Tuple
 
 from . import parameters, units
@@ -229,6 +230,24 @@ def _pairs(sections: List[Section], yard: Yard) -> Tuple[AnyPair, ...]:
     return tuple(_due(key, found, yard.names) for key in due_pairs(len(yard.names)))
 
 
+def parse_pair(
+    text: str, names: Tuple[str, ...], model: Model, volumes: Dict[str, Fraction]
+) -> Tuple[Tuple[int, int], AnyPair]:
+    """A text with one pair's section alone, about solvents of these names: their places in order, and the pair."""
+    before, sections = sections_of(text)
+    if before and _model(before) is not model:
+        raise DeskError(f"line {before[0][2]}: the model is {_model(before).title}, and that of the book {model.title}")
+    if [section.kind for section in sections] != ["pair"]:
+        raise DeskError(f"it has {len(sections)} headings, and one is due, [pair NAME NAME]")
+    yard = Yard(names, Book((), (), model), volumes=dict(volumes))
+    places = {name.lower(): place for place, name in enumerate(names)}
+    i, j = (_place(name, places, sections[0]) for name in sections[0].names)
+    if i == j:
+        raise DeskError(f"line {sections[0].line}: [{sections[0].title}] names one solvent twice")
+    pair = _pair(sections[0], yard, (names[i], names[j]), of_the_book=True)
+    return ((i, j), pair) if i < j else ((j, i), pair.turned())
+
+
 def _due(key: Tuple[int, int], found: Dict[Tuple[int, int], AnyPair], names: Tuple[str, ...]) -> AnyPair:
     if key not in found:
         raise DeskError(f"[pair {names[key[0]]} {names[key[1]]}] is missing")
@@ -241,9 +260,9 @@ def _place(name: str, places: Dict[str, int], section: Section) -> int:
     return places[name.lower()]
 
 
-def _pair(section: Section, yard: Yard, names: Tuple[str, str]) -> AnyPair:
+def _pair(section: Section, yard: Yard, names: Tuple[str, str], of_the_book: bool = False) -> AnyPair:
     what = f"[{section.title}]"
-    _expect_parameters(section, yard.book.model)
+    _expect_parameters(section, yard.book.model, of_the_book)
     pair = {Model.NRTL: _nrtl, Model.WILSON: _wilson}[yard.book.model](section, yard, names)
     _note_source(section, yard, tuple(sorted(names, key=yard.names.index)))
     known = section.optional("azeotrope")
@@ -262,14 +281,19 @@ def _pair(section: Section, yard: Yard, names: Tuple[str, str]) -> AnyPair:
     return pair
 
 
-def _expect_parameters(section: Section, model: Model) -> None:
-    """None of another model."""
+def _expect_parameters(section: Section, model: Model, of_the_book: bool) -> None:
+    """None of another model, which is the text's own or that of the book that a pair is tried in."""
     for other in Model:
         for key, _, line in section.entries:
             if other is not model and key.split()[0] in PARAMETERS[other]:
+                whose = (
+                    f"the book's model is {model.title}"
+                    if of_the_book
+                    else f"the text's model is {model.title}; 'model = {other.title.lower()}' before the first heading "
+                    "changes it"
+                )
                 raise DeskError(
-                    f"line {line}: [{section.title}] has '{key}', which is of {other.title}, and the text's model is "
-                    f"{model.title}; 'model = {other.title.lower()}' before the first heading changes it"
+                    f"line {line}: [{section.title}] has '{key}', which is of {other.title}, and {whose}"
                 )
 
 

@@ -2,7 +2,8 @@
  * SPDX-License-Identifier: MIT
  *
  * The core as a C program calls it: a book, a question and room for an answer in, the answer's blocks or a number out;
- * by a second call with drums besides, whose pool is the feed; by a third with up to 64 feeds, each answered by itself.
+ * by a second call with drums besides, whose pool is the feed; by a third with up to 64 feeds, each answered by itself;
+ * by a fourth with a pair's block that is tried in place of the book's own.
  * docs/FORMAT.md says what each word holds, docs/LINKING.md has the commands. Link with libzektonk.a, for x86-64 Linux.
  *
  * A block is 512 bytes: 64 little-endian words of 64 bits, a float as its bits. Word 63 is the check of words 0 to 62,
@@ -213,17 +214,17 @@ enum zektonk_validity { ZEKTONK_UNASSESSED = 0, ZEKTONK_WITHIN = 1, ZEKTONK_EXTR
  * The first question that was answered no: 1 to 21 in this order, with 38 between 1 and 2, 37 after 3, 35 after 5, 36
  * after 12 and, of a feed by mass, 34 after 18; the others, and 15 to 18 and 34 once more, where the calculation puts
  * them. 31 and 32 are zektonk_pooled's alone, after 12 and ahead of 36; 33 is zektonk_feeds's alone, after 9 and ahead
- * of 10.
+ * of 10. There zektonk_preview puts 1, 2, 7, 8 and 9 to the offered block too.
  */
 enum zektonk_refusal {
     ZEKTONK_ANSWERED = 0,
-    ZEKTONK_BOOK_LENGTH = 1,              /* no whole blocks, or none */
-    ZEKTONK_BOOK_CHECK = 2,               /* a block's word 63, by the version */
+    ZEKTONK_BOOK_LENGTH = 1,              /* no whole blocks, or none; an offered block that isn't 512 bytes */
+    ZEKTONK_BOOK_CHECK = 2,               /* a block's word 63, by the version; the offered block's too */
     ZEKTONK_BOOK_HEAD = 3,                /* kind, n of 1 to 8, or the number of blocks */
     ZEKTONK_SOLVENT_BLOCK = 4,            /* kind, index, CAS number 0, or a term count not of 1 to 8 */
     ZEKTONK_SOLVENT_NUMBER = 5,           /* not finite, not 0 < low <= high < t_r, or a reducing value not positive */
     ZEKTONK_SOLVENT_TWICE = 6,            /* one CAS number for two solvents */
-    ZEKTONK_PAIR_BLOCK = 7,               /* kind, i and j, or a flag not 0 or 1 */
+    ZEKTONK_PAIR_BLOCK = 7,               /* kind, i and j, or a flag not 0 or 1; offered, any i < j of the book's */
     ZEKTONK_PAIR_NUMBER = 8,              /* a float not finite */
     ZEKTONK_PAIR_ALPHAS = 9,              /* alpha_ij and alpha_ji differ; NRTL */
     ZEKTONK_ANSWER_SHORT = 10,            /* fewer than ZEKTONK_ANSWER_ROOM bytes, of zektonk_feeds for each feed */
@@ -318,6 +319,23 @@ uint64_t zektonk_pooled(const uint8_t *book, size_t book_len, const uint8_t *que
  */
 uint64_t zektonk_feeds(const uint8_t *book, size_t book_len, const uint8_t *question, size_t question_len,
                        const uint8_t *feeds, size_t feeds_len, uint8_t *answers, size_t answers_len);
+
+/*
+ * What zektonk_answer would say of a copy of `book` that holds the block `offered` in place of the pair with the same i
+ * and j: a newly fitted pair is tried before it is entered. No byte of `book` changes.
+ *
+ * The book is put its own questions first, its pair that is to be replaced too. Then the offered block is: 1 where it
+ * isn't one whole block of ZEKTONK_BLOCK bytes, 2 where its check is wrong by the book's version (zektonk_seal_by), 7
+ * where it isn't a pair of solvents i < j of the book with flags of 0 or 1, 8 and 9 as the book's model has them. Who
+ * wants to know whether such a number is of the book or of the offered block asks zektonk_answer about the book: with a
+ * question of no bytes it says 11 where the book passes.
+ *
+ * - All that holds of zektonk_answer holds of this call, of `offered` what holds of `book` and `question`: it is only
+ *   read, any alignment and length will do, and `answer` doesn't overlap it.
+ * - Offering the book's own pair, byte for byte, changes nothing.
+ */
+uint64_t zektonk_preview(const uint8_t *book, size_t book_len, const uint8_t *offered, size_t offered_len,
+                         const uint8_t *question, size_t question_len, uint8_t *answer, size_t answer_len);
 
 /* Word `at` of a block, 0 to 63, copied: x86-64 has the lowest byte first, as blocks have. */
 static inline uint64_t zektonk_get_word(const uint8_t *block, size_t at)

@@ -74,6 +74,20 @@ class Examples(InFolder):
         run = self.run_in_folder("sh", "-c", f'"{program}" nowhere "{QUESTION}"; echo "status $?"')
         self.assertTrue(run.stdout.endswith(b"refused: 1\nstatus 1\n"))
 
+    def test_preview_tries_a_pair(self):
+        program = self.compiled(C / "preview.c")
+        self.assert_stored("preview.txt", self.run_in_folder(program, BOOK, QUESTION).stdout.decode("ascii"))
+        book = desk.open_yard(str(ROOT / "yard" / "sample.txt")).book
+        t1 = [0.0, -45.938911213102365, 0.0, 0.0], [0.0, 651.4780724581726, 0.0, 0.0]
+        pair = desk.Pair(*map(tuple, t1), (0.2937, 0.0))
+        changed = desk.encode(dataclasses.replace(book, pairs=(pair,)), 1)
+        for name, content in (("by the book", BOOK.read_bytes()), ("as tried", changed)):
+            with desk.Core(content) as core:
+                due = core.ask_block(QUESTION.read_bytes()).real(desk.answer.VAPOR_FRACTION)
+            self.assertIn(f"{name}: vapor fraction {due:.17g}\n", (C / "preview.txt").read_text(encoding="ascii"))
+        run = self.run_in_folder("sh", "-c", f'"{program}" nowhere "{QUESTION}"; echo "status $?"')
+        self.assertTrue(run.stdout.endswith(b"by the book: refused: 1\nstatus 1\n"))
+
     def test_header_alone(self):
         self.compiled(C / "ask.c")
         strict = ("-fsyntax-only", "-Wsign-conversion", *WARNINGS)

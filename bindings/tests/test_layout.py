@@ -10,6 +10,7 @@ import desk.batch
 import desk.blocks
 import desk.book
 import desk.pool
+import desk.preview
 import desk.question
 import desk.refusals
 import desk.tasks
@@ -234,6 +235,28 @@ class Definitions(unittest.TestCase):
         self.assertIn(f"bind (taskIn (ruleOf book) question) (λ task. {asked}", body("taskAmong"))
         self.assertIn("put l (answerRoom * j) (feedReply ", body("partsTo"))
         self.assertEqual(body("needsTemperature"), "within 1 3 k || within 6 7 k")
+
+    def test_offered(self):
+        """Behind the book: 1, 2, 7, 8 and 9 of one block, a pair of any i < j below n; then as on the copy."""
+        numbers = [REFUSAL[name] for name in ("BOOK_LENGTH", "BOOK_CHECK", "PAIR_BLOCK", "PAIR_NUMBER", "PAIR_ALPHAS")]
+        tests = (
+            f"eqb (length offered) {macros()['ZEKTONK_BLOCK']}",
+            "checkRight rule (word offered)",
+            "offeredRight (h .n) (word offered)",
+            "pairFinite (h .model) (word offered)",
+            "alphasEqual (h .model) (word offered)",
+        )
+        asked = " (".join(f"need ({test}) {number}" for test, number in zip(tests, numbers))
+        self.assertTrue(body("offeredOf").startswith(f"{asked} (ok h)"), body("offeredOf"))
+        i, j = PAIR["I"], PAIR["J"]
+        places = f"ltb (w {i}) (w {j}) && ltb (w {j}) n && pairRight w (w {i}) (w {j})"
+        self.assertEqual(body("offeredRight"), places)
+        first = "bind (bookOf book) (λ h. bind (offeredOf (ruleOf book) h offered)"
+        self.assertTrue(body("previewOf").startswith(first), body("previewOf"))
+        self.assertEqual((desk.preview.I, desk.preview.J), (i, j))
+        found = [getattr(desk.preview, name) for name in ("LENGTH", "CHECK", "PLACES", "NUMBERS", "ALPHAS")]
+        self.assertEqual((found, desk.preview.QUESTION), (numbers, REFUSAL["QUESTION_BLOCK"]))
+        self.assertEqual(list(desk.refusals.OFFERED), numbers)
 
 
 def summed(name: str) -> int:

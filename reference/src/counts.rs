@@ -3,11 +3,13 @@
 mod drums;
 mod feeds;
 mod kinds;
+mod pairs;
 
 use std::collections::BTreeMap;
 
 use drums::Drums;
 use feeds::Feeds;
+use pairs::Pairs;
 
 use crate::generate::cases::{Cases, Kind};
 use crate::generate::exchanged::{Exchange, PLACES};
@@ -279,6 +281,7 @@ pub struct Counts {
     sheets: SheetCounts,
     drums: Drums,
     feeds: Feeds,
+    pairs: Pairs,
 }
 
 impl Counts {
@@ -287,6 +290,7 @@ impl Counts {
         self.sheets.add(kind, case, found);
         self.drums.add(case, found.refusal);
         self.feeds.add(case, found);
+        self.pairs.add(case, found.refusal);
     }
 
     pub fn print(&self, stage: Stage) {
@@ -294,6 +298,7 @@ impl Counts {
         match stage {
             Stage::Pooled => self.drums.print(),
             Stage::Feeds => self.feeds.print(),
+            Stage::Preview => self.pairs.print(),
             _ => {}
         }
     }

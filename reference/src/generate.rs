@@ -10,6 +10,7 @@ pub mod feeds;
 pub mod mass;
 pub mod numbers;
 pub mod pooled;
+pub mod previews;
 pub mod questions;
 pub mod rice;
 pub mod small;

@@ -87,6 +87,17 @@ extern "C" {
         answers: *mut u8,
         answers_len: usize,
     ) -> u64;
+    /// The same with an offered pair.
+    pub fn zektonk_preview(
+        book: *const u8,
+        book_len: usize,
+        offered: *const u8,
+        offered_len: usize,
+        question: *const u8,
+        question_len: usize,
+        answer: *mut u8,
+        answer_len: usize,
+    ) -> u64;
 }
 
 /// `Some` of the call where its stage is built in.
@@ -214,4 +225,8 @@ pub fn pooled(book: &[u8], question: &[u8], drums: &[u8], answer: &mut [u8]) -> 
 
 pub fn feeds(book: &[u8], question: &[u8], feeds: &[u8], answers: &mut [u8]) -> Option<u64> {
     with_one_more!("feeds", zektonk_feeds(book, question, feeds, answers))
+}
+
+pub fn preview(book: &[u8], offered: &[u8], question: &[u8], answer: &mut [u8]) -> Option<u64> {
+    with_one_more!("preview", zektonk_preview(book, offered, question, answer))
 }

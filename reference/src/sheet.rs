@@ -5,6 +5,7 @@ pub mod blocks;
 pub mod book;
 pub mod feeds;
 pub mod pool;
+pub mod preview;
 pub mod question;
 pub mod reply;
 

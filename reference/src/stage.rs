@@ -34,9 +34,11 @@ pub enum Stage {
     Pooled,
     /// Sheets with many feeds.
     Feeds,
+    /// Sheets with an offered pair.
+    Preview,
 }
 
-pub const STAGES: [Stage; 12] = [
+pub const STAGES: [Stage; 13] = [
     Stage::Numbers,
     Stage::Fractions,
     Stage::Book,
@@ -49,6 +51,7 @@ pub const STAGES: [Stage; 12] = [
     Stage::Wilson,
     Stage::Pooled,
     Stage::Feeds,
+    Stage::Preview,
 ];
 
 impl Stage {
@@ -66,6 +69,7 @@ impl Stage {
             Stage::Wilson => "wilson",
             Stage::Pooled => "pooled",
             Stage::Feeds => "feeds",
+            Stage::Preview => "preview",
         }
     }
 
@@ -91,6 +95,7 @@ impl Stage {
             Stage::Wilson => cfg!(feature = "wilson"),
             Stage::Pooled => cfg!(feature = "pooled"),
             Stage::Feeds => cfg!(feature = "feeds"),
+            Stage::Preview => cfg!(feature = "preview"),
         }
     }
 

@@ -50,6 +50,23 @@ pub fn core_feeds(book: &[u8], question: &[u8], answer: &mut [u8]) -> u64 {
     refusal
 }
 
+/// The core's preview of one of the book's pairs, offered to a book with another there; the plain call where there is no pair.
+pub fn core_preview(book: &[u8], question: &[u8], answer: &mut [u8]) -> u64 {
+    let n = word(book, 2) as usize;
+    let pairs = due_pairs(n).len();
+    if pairs == 0 {
+        return core(book, question, answer);
+    }
+    let block = |k: usize| BLOCK * (1 + n + k)..BLOCK * (2 + n + k);
+    // By the question's check, which is as good as any.
+    let k = (word(question, 63) % pairs as u64) as usize;
+    let (offered, mut words) = (&book[block(k)], words_of(&book[block((k + 1) % pairs)]));
+    words[1..3].copy_from_slice(&words_of(offered)[1..3]);
+    let mut other = book.to_vec();
+    other[block(k)].copy_from_slice(&sealed_by(rule_of(book), words));
+    crate::rattle::preview(&other, offered, question, answer).expect("built with the preview")
+}
+
 #[derive(Debug, Clone)]
 pub struct Sheet {
     pub book: Vec<u8>,

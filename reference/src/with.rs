@@ -1,7 +1,7 @@
 //! The calls that take one slice more than the plain one.
 
 use crate::rattle;
-use crate::sheet::{feeds, pool};
+use crate::sheet::{feeds, pool, preview};
 
 /// What that slice holds.
 #[derive(Debug, Clone, Copy, PartialEq, Eq)]
@@ -10,6 +10,8 @@ pub enum With {
     Drums,
     /// Feeds, each with its own part of the answer slice.
     Feeds,
+    /// A pair block that is tried.
+    Pair,
 }
 
 impl With {
@@ -18,6 +20,7 @@ impl With {
         match self {
             With::Drums => "pooled",
             With::Feeds => "feeds",
+            With::Pair => "preview",
         }
     }
 
@@ -25,6 +28,7 @@ impl With {
         match self {
             With::Drums => pool::answer(book, question, lent, answer),
             With::Feeds => feeds::answer(book, question, lent, answer),
+            With::Pair => preview::answer(book, lent, question, answer),
         }
     }
 
@@ -33,6 +37,7 @@ impl With {
         match self {
             With::Drums => rattle::pooled(book, question, lent, answer),
             With::Feeds => rattle::feeds(book, question, lent, answer),
+            With::Pair => rattle::preview(book, lent, question, answer),
         }
     }
 }

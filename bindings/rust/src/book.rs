@@ -221,7 +221,7 @@ pub struct Pair {
 }
 
 impl Pair {
-    fn words(&self, i: usize, j: usize) -> Words {
+    pub(crate) fn words(&self, i: usize, j: usize) -> Words {
         pair_words(i, j, self.interval)
             .floats(pair::TAU_IJ, &self.tau_ij)
             .floats(pair::TAU_JI, &self.tau_ji)
@@ -243,7 +243,7 @@ pub struct WilsonPair {
 }
 
 impl WilsonPair {
-    fn words(&self, i: usize, j: usize) -> Words {
+    pub(crate) fn words(&self, i: usize, j: usize) -> Words {
         pair_words(i, j, self.interval).floats(wilson::A_IJ, &self.ij).floats(wilson::A_JI, &self.ji)
     }
 }

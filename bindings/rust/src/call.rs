@@ -1,4 +1,4 @@
-//! The three calls of the core.
+//! The four calls of the core.
 
 use crate::Refusal;
 
@@ -32,6 +32,17 @@ extern "C" {
         feeds_len: usize,
         answers: *mut u8,
         answers_len: usize,
+    ) -> u64;
+
+    fn zektonk_preview(
+        book: *const u8,
+        book_len: usize,
+        offered: *const u8,
+        offered_len: usize,
+        question: *const u8,
+        question_len: usize,
+        answer: *mut u8,
+        answer_len: usize,
     ) -> u64;
 }
 
@@ -180,6 +191,51 @@ pub fn feeds_bytes(book: &[u8], question: &[u8], feeds: &[u8], answers: &mut [u8
             feeds.len(),
             answers.as_mut_ptr(),
             answers.len(),
+        )
+    };
+    ended(number)
+}
+
+/// What [`answer_bytes`] would say of a copy of `book` that holds the block `offered` in place of the pair with the same
+/// i and j. No byte of `book` changes. What is said of [`answer_bytes`] holds of this call too.
+///
+/// # Errors
+///
+/// The core's number, as a [`Refusal`]. Behind the book's own questions 1, 2, 7, 8 and 9 are put to the offered block:
+/// 512 bytes, its check by the book's version, a pair of solvents i < j of the book, finite numbers, equal alphas.
+///
+/// # Panics
+///
+/// Where the core gives a number that is no refusal, which it is proved not to.
+///
+/// ```
+/// use zektonk::{answer_bytes, preview_bytes, Refusal, ANSWER_ROOM};
+///
+/// let book = include_bytes!("../../../crates/still/data/book.bin");
+/// let question = include_bytes!("../../../crates/still/stdin");
+/// let expected = include_bytes!("../../../crates/still/stdout");
+/// // The book's own pair, its last block, changes nothing.
+/// let pair = &book[3 * 512..];
+/// let mut room = [0; ANSWER_ROOM];
+/// preview_bytes(book, pair, question, &mut room)?;
+/// assert_eq!(&room[..expected.len()], expected);
+/// assert_eq!(preview_bytes(book, &pair[1..], question, &mut room), Err(Refusal::BookLength));
+/// assert_eq!(preview_bytes(book, &book[..512], question, &mut room), Err(Refusal::PairBlock));
+/// # Ok::<(), Refusal>(())
+/// ```
+pub fn preview_bytes(book: &[u8], offered: &[u8], question: &[u8], answer: &mut [u8]) -> Result<(), Refusal> {
+    // SAFETY: as above.
+    #[allow(unsafe_code)]
+    let number = unsafe {
+        zektonk_preview(
+            book.as_ptr(),
+            book.len(),
+            offered.as_ptr(),
+            offered.len(),
+            question.as_ptr(),
+            question.len(),
+            answer.as_mut_ptr(),
+            answer.len(),
         )
     };
     ended(number)

@@ -79,8 +79,8 @@ macro_rules! refusals {
 }
 
 refusals! {
-    1 BookLength "the book is empty or not of whole blocks"
-    2 BookCheck "a check of the book is wrong"
+    1 BookLength "the book is empty or not of whole blocks, or an offered block is not 512 bytes"
+    2 BookCheck "a check of the book or of the offered block is wrong"
     3 BookHead "the book's kind, number of solvents or number of blocks is wrong"
     4 SolventBlock "a solvent's kind, index, CAS number or term count is wrong"
     5 SolventNumber "a solvent's numbers are not finite, not ordered as 0 < low ≤ high < t_r, or its reducing value is not positive"

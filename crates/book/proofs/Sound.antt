@@ -1,22 +1,26 @@
 -- What one scan of a block shows: the floats that a question asks for are among the finite ones, and equal words are equal floats. Assumes nothing.
 use mathlib.Core.Path.{_≡_, refl, sym, ap, _∙_}
-use mathlib.Core.Bool.{Bool, true, false, cond, _&&_, true≢false, false≢true}
+use mathlib.Core.Bool.{Bool, true, false, not, cond, _&&_, true≢false, false≢true}
 use Prim.Native.Nat.{ℕ, zero, suc, _+_, _-_, _*_, _≤_, _<_}
 use native.Mathlib.Nat.{min-le-right}
 use native.Mathlib.Omega.{arith}
 use borrow.Author.Tests.{eqb-true}
-use lib.Dec.{T, eqb, eqb-refl}
+use lib.Dec.{T, eqb, ltb, eqb-refl}
+use mathlib.Core.List.{List}
+use lib.ListN.{length}
+use lib.Seq.{take-all}
+use Rattle.blocks.specs.Words.{word, block}
 use lib.Ieee.{Float, nan, inf, fin, up, down, eq}
 use Rattle.floats.specs.Small.{isFinite, floatOf, float}
 use Rattle.floats.specs.Fold.{allTo}
-use Rattle.floats.proofs.Folds.{all-at, all-done}
+use Rattle.floats.proofs.Folds.{all-at, all-done, was-yes}
 use Rattle.book.proofs.Laws.{says-yes, says-no}
 use Rattle.book.specs.declared.Model.{Model}
 use Rattle.book.specs.declared.Model.the-variants.{Nrtl, Wilson}
 use Rattle.book.specs.declared.Head.{Head}
 use Rattle.book.specs.declared.Opened.the-variants.{Book, No}
-use Rattle.book.specs.Places.{pairCount, rowFrom}
-use Rattle.book.specs.Book.{floatsFinite, rangeRight, termCount, recordRight, recordsRight, rowRight}
+use Rattle.book.specs.Places.{words, pairCount, rowFrom}
+use Rattle.book.specs.Book.{floatsFinite, rangeRight, termCount, recordRight, recordsRight, pairRight, rowRight, offeredRight}
 use Rattle.book.specs.Book.{parametersFinite, boundsFinite, pairFinite, alphasEqual, pairsOf, openedOf}
 
 first : (a b : Bool) → a && b ≡ true → a ≡ true
@@ -145,3 +149,22 @@ module _ (w : ℕ → ℕ → ℕ) (h : Head) {count : ℕ} {b : Bool} (e : coun
       let finite = sym (all-done _ count (pairCount (h .n)) e f) ∙ t in
       let unequal = second-no (finite-at w h) (equal-at w h) (pairCount (h .n)) (sym due ∙ u) finite in
       says-yes 7 _ rows (says-yes 8 _ finite (says-no 9 _ unequal))
+
+-- a pair offered: i < j below n, and the alphas of one that is finite
+pub offered-named : (n : ℕ) (w : ℕ → ℕ) {i j : ℕ} {b : Bool} → i ≡ w 1 → j ≡ w 2 → b ≡ pairRight w i j → (ltb i j && ltb j n && b) ≡ offeredRight n w
+offered-named n w p q e = rw (e, p, q)
+
+pub finite-equal : (m : Model) (w : ℕ → ℕ) {a b : Bool} → not a ≡ false → a ≡ pairFinite m w → b ≡ (pairFinite m w && alphasEqual m w) → b ≡ alphasEqual m w
+finite-equal m w n e h = rw (was-yes n e) at h
+
+-- a block by itself is its own block 0
+of-one : (s : List ℕ) (f : (ℕ → ℕ) → Bool) {b : Bool} → length s ≡ 512 → b ≡ allTo (λ d. f (words s (0 + d))) 1 → b ≡ f (word s)
+unfolding allTo block
+of-one s f l e = e ∙ ap (λ (t : List ℕ). f (word t)) (take-all 512 s (omega (arith, l)))
+
+pub finite-one : (m : Model) (s : List ℕ) {b : Bool} → length s ≡ 512 → b ≡ allTo (λ d. pairFinite m (words s (0 + d))) 1 → b ≡ pairFinite m (word s)
+finite-one m s l e = of-one s (pairFinite m) l e
+
+pub sound-one : (m : Model) (s : List ℕ) {b : Bool} → length s ≡ 512 → b ≡ allTo (λ d. pairFinite m (words s (0 + d)) && alphasEqual m (words s (0 + d))) 1
+    → b ≡ (pairFinite m (word s) && alphasEqual m (word s))
+sound-one m s l e = of-one s (λ w. pairFinite m w && alphasEqual m w) l e

@@ -6,7 +6,7 @@ use Prim.Native.Nat.{ℕ, _+_, _-_, _/_, _%_}
 use lib.Dec.{eqb, ltb, leb}
 use lib.Ieee.{Float, lt, le, eq}
 use lib.ListN.{length}
-use Rattle.blocks.specs.Words.{checkRight}
+use Rattle.blocks.specs.Words.{word, checkRight}
 use Rattle.blocks.specs.declared.Rule.{Rule}
 use Rattle.blocks.specs.declared.Rule.the-variants.{Plain, Running}
 use Rattle.floats.specs.Arithmetic.{0f}
@@ -152,6 +152,18 @@ bookOf s =
     (need (ltb 0 (length s)) 1
     (need (versionRight (words s 0)) 38
     (need (allTo (λ k. checkRight (ruleOf s) (words s k)) (length s / 512)) 2 (headOf (words s) (length s / 512)))))
+
+-- ---- a pair's block offered for a book with head h: exactly one whole block (1), its check by the book's rule (2), any i < j below n (7), then 8 and 9
+abbrev pub offeredRight : ℕ → (ℕ → ℕ) → Bool
+offeredRight n w = ltb (w 1) (w 2) && ltb (w 2) n && pairRight w (w 1) (w 2)
+
+unfoldable pub offeredOf : Rule → Head → List ℕ → Out Head
+offeredOf rule h offered =
+    need (eqb (length offered) 512) 1
+    (need (checkRight rule (word offered)) 2
+    (need (offeredRight (h .n) (word offered)) 7
+    (need (pairFinite (h .model) (word offered)) 8
+    (need (alphasEqual (h .model) (word offered)) 9 (ok h)))))
 
 -- as the code answers
 unfoldable pub openedOf : Out Head → Opened

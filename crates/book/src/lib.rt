@@ -8,7 +8,7 @@ ghost use Rattle.blocks.specs.Words.{word, wordFrom, block, checkRight};
 ghost use Rattle.floats.specs.Small.{isFinite, positive, floatOf, float};
 ghost use Rattle.floats.specs.Fold.{allTo};
 ghost use Rattle.book.specs.Places.{words, pairCount, blockCount, rowFrom};
-ghost use Rattle.book.specs.Book.{floatsFinite, versionRight, headRight, modelRight, modelOf, solventRight, rangeRight, recordRight, recordsRight, hasMasses, molarMass, massesRight, casNew, pairRight, rowRight, parametersFinite, boundsFinite, pairFinite, alphasEqual, pairsOf, solventsOf, headOf, ruleOf, bookOf, openedOf};
+ghost use Rattle.book.specs.Book.{floatsFinite, versionRight, headRight, modelRight, modelOf, solventRight, rangeRight, recordRight, recordsRight, hasMasses, molarMass, massesRight, casNew, pairRight, rowRight, parametersFinite, boundsFinite, pairFinite, alphasEqual, pairsOf, solventsOf, headOf, ruleOf, bookOf, offeredOf, openedOf};
 use blocks::Rule;
 
 // What the activity coefficients are worked out by.
@@ -528,4 +528,44 @@ pub fn open_book(book: &[u8]) -> Opened
         return Opened::No(2);
     }
     open_head(book, count)
+}
+
+// Questions 8, and 8 and 9 in one reading, of one block by itself: through the loops over a book's pairs, so that these keep their bodies to themselves.
+fn one_finite(model: Model, s: &[u8]) -> bool
+    requires { ⌜ length (now s) ≡ 512 ⌝ }
+    ensures { λ r. ⌜ r ≡ pairFinite model (word (now (s .entry))) ⌝ }
+{
+    pairs_finite(model, s, 0, 1)
+}
+
+fn one_sound(model: Model, s: &[u8]) -> bool
+    requires { ⌜ length (now s) ≡ 512 ⌝ }
+    ensures { λ r. ⌜ r ≡ (pairFinite model (word (now (s .entry))) && alphasEqual model (word (now (s .entry)))) ⌝ }
+{
+    pairs_sound(model, s, 0, 1)
+}
+
+// A pair's block offered for a book that passed: exactly one whole block (1), its check (2), any i < j below n (7), then 8 and 9.
+pub fn open_offered(rule: Rule, head: Head, offered: &[u8]) -> Opened
+    ensures { λ r. ⌜ r ≡ openedOf (offeredOf rule head (now (offered .entry))) ⌝ }
+{
+    if offered.len() != 512 {
+        return Opened::No(1);
+    }
+    if !blocks::check_right(rule, offered) {
+        return Opened::No(2);
+    }
+    let i = word(offered, 1);
+    let j = word(offered, 2);
+    if !((i < j) & (j < head.n as u64) & pair_right(offered, i, j)) {
+        return Opened::No(7);
+    }
+    let model = head.model;
+    if !one_finite(model, offered) {
+        return Opened::No(8);
+    }
+    if !one_sound(model, offered) {
+        return Opened::No(9);
+    }
+    Opened::Book(head)
 }

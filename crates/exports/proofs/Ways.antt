@@ -1,7 +1,7 @@
 -- What the exports learn from a temperature, a book and a verdict, and what each of their ways out gives. Assumes nothing.
 use Prim.Native.Nat.{ℕ, _≤_, _<_}
 use mathlib.Core.Path.{_≡_, refl, ap, _∙_}
-use mathlib.Core.List.{List}
+use mathlib.Core.List.{List, []}
 use native.Mathlib.Omega.{arith}
 use borrow.Author.Tests.{le-leb, lt-leb}
 use lib.ListN.{set, replicate, length}
@@ -17,7 +17,9 @@ use Rattle.thermo_types.specs.Composition.{normalizeOf}
 use Rattle.thermo_types.proofs.Normalizing.{normalized-passed, normalized-refused}
 use Rattle.liquid.specs.declared.VaporPressure.{VaporPressure}
 use Rattle.liquid.specs.Vapor.{Vapor, vaporAnswer}
+use Rattle.records.specs.Offered.{withPair}
 use Rattle.records.specs.Parameters.{parametersOf}
+use Rattle.records.proofs.Offered.{copy-nothing}
 use Rattle.excess.specs.declared.Energies.{Energies}
 use Rattle.excess.specs.State.{Excess}
 use Rattle.excess.specs.Answers.{energiesOf, excessLnGammas, excessSlopes, Gives}
@@ -90,20 +92,20 @@ module _ {e : Energies} {lg sl : List Float} (a : Assessment) where
   excess-given (ok s) g q w = record { number = refl; floats = w ∙ rw (g .energies, g .values, g .slopes) }
   excess-given (no r) g q w = let z : _≡_ {A = ℕ} 0 1 = cc (ap (λ (e : Energies). e .verdict) (g .energies)) in absurd (omega arith)
 
--- from the book's parameters, by a table made for t
-module _ (book : List ℕ) (n : ℕ) (x : List Float) {P : List Float} {t : Temperature} {s : Tabled} {table : List Float} (p : P ≡ parametersOf book n) (h : Stands book P n t s (replicate 512 0f) table)
+-- from the book's parameters, no pair offered, by a table made for t
+module _ (book : List ℕ) (n : ℕ) (x : List Float) {P : List Float} {t : Temperature} {s : Tabled} {table : List Float} (p : P ≡ parametersOf (withPair n book []) n) (h : Stands book P n t s (replicate 512 0f) table)
     {e : Energies} {lg sl : List Float} (g : Gives (excessOn table s x) e lg sl) where
   known : Gives (excessOf book (parametersOf book n) n (t .0) x) e lg sl
-  known = let k = ap (λ (E : List Float → Out Excess). E x) (excess-fresh h) in rw p at (rw k at g)
+  known = let k = ap (λ (E : List Float → Out Excess). E x) (excess-fresh h) in rw (p, copy-nothing) at (rw k at g)
 
   pub excess-no : {r : ℕ} {old : List Float} → e .verdict ≡ Refused r → ExcessGives (excessIn (mixtureOf book n) (t .0) x) r old old
   unfolding excessIn
   excess-no q = excess-refused _ _ known q
 
-  pub excess-ok : {a : Assessment} {old new : List Float} → e .verdict ≡ Passed → a ≡ validityOf book n (t .0) x
+  pub excess-ok : {a : Assessment} {old new : List Float} → e .verdict ≡ Passed → a ≡ validityOf (withPair n book []) n (t .0) x
       → new ≡ energiesStored e a (fillFrom (at sl) 8 8 (fillFrom (at lg) 0 8 old)) → ExcessGives (excessIn (mixtureOf book n) (t .0) x) 0 old new
   unfolding excessIn
-  excess-ok q v w = excess-given _ _ known q (rw v at w)
+  excess-ok q v w = excess-given _ _ known q (rw (v, copy-nothing) at w)
 
 -- a book has at most eight solvents
 pub excess-few : (book : List ℕ) (n : ℕ) (t : Float) (x : List Float) {r : ℕ} {old new : List Float} → n ≤ 8 → ExcessGives (excessFrom book (places n) t x) r old new → ExcessGives (excessFrom book n t x) r old new

@@ -1,7 +1,6 @@
 -- The places of pairs as the code works them out: at n up to 8 antt computes both sides. Assumes nothing.
 use mathlib.Core.Path.{_≡_, refl, sym, _∙_}
 use mathlib.Core.Bool.{Bool, true}
-use mathlib.Core.List.{List}
 use mathlib.Core.Logic.{⊎-elim}
 use Prim.Native.Nat.{ℕ, zero, suc, _+_, _-_, _*_, _/_, _≤_, _<_}
 use native.Mathlib.Nat.{eq-or-lt-of-le, add-zero}
@@ -9,14 +8,8 @@ use native.Mathlib.Omega.{arith}
 use borrow.Author.Tests.{leb-true, eqb-true}
 use lib.Dec.{eqb, leb}
 use Rattle.floats.specs.Fold.{allTo}
-use Rattle.floats.specs.Vector.{places}
 use Rattle.floats.proofs.Folds.{all-at}
-use Rattle.blocks.specs.Words.{word, block}
-use Rattle.book.specs.Places.{words, rowFrom, pairPlace}
-use Rattle.book.specs.declared.Model.{Model}
-use Rattle.book.specs.Book.{modelOf}
-use Rattle.records.specs.declared.Pair.{Pair}
-use Rattle.records.specs.Records.{pairOf}
+use Rattle.book.specs.Places.{rowFrom, pairPlace}
 
 every : (p : ℕ → ℕ → Bool) (n i : ℕ) → n ≤ 8 → i ≤ n → allTo (λ m. allTo (p m) (suc m)) 9 ≡ true → p n i ≡ true
 every p n i a b h = all-at (p n) (suc n) i (omega arith) (all-at (λ m. allTo (p m) (suc m)) 9 n (omega arith) h)
@@ -56,8 +49,3 @@ place-behind n i j e p = p ∙ rw e
 pub place-first : (n i j : ℕ) {from : ℕ} → from ≡ rowFrom n i → j ≤ i → from ≡ pairPlace n i j
 unfolding pairPlace
 place-first n i j e h = let z : j - i - 1 ≡ 0 = omega arith in rw (z, e) (sym (add-zero (rowFrom n i)))
-
--- a pair, from the code's model and places
-pub pair-placed : (book : List ℕ) (n i j : ℕ) {M : Model} {m k l : ℕ} {s : List ℕ} {r : Pair} → M ≡ modelOf book → m ≡ places n → k ≡ places i → l ≡ places j
-    → s ≡ block book (pairPlace m k l) → r ≡ pairOf M (word s) → r ≡ pairOf (modelOf book) (words book (pairPlace (places n) (places i) (places j)))
-pair-placed book n i j eM em ek el es h = rw (← eM, ← em, ← ek, ← el, ← es) h

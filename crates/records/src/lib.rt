@@ -8,6 +8,7 @@ ghost use Rattle.book.specs.Places.{words, rowFrom, pairPlace};
 ghost use Rattle.floats.specs.Small.{float};
 ghost use Rattle.book.specs.Book.{modelOf};
 ghost use Rattle.records.specs.Records.{ancillaryOf, rangeOf, regressionOf, pairOf};
+ghost use Rattle.records.specs.Offered.{offeredPlace, pairAt, withPair};
 ghost use Rattle.records.specs.Parameters.{termsOf, termIn, wilsonTerm, pairTerm, lowerFrom, parameter, parameterRow, parameterRows, parametersOf};
 use blocks::word;
 use book::Model;
@@ -154,11 +155,26 @@ fn pair_place(n: usize, i: usize, j: usize) -> usize
     from
 }
 
-fn pair_block(book: &[u8], n: usize, i: usize, j: usize) -> &[u8]
-    requires { ⌜ (n ≤ 8) × (j ≤ 8) ⌝ }
-    ensures { λ r. ⌜ now r ≡ block (now (book .entry)) (pairPlace n i j) ⌝ }
+// ---- a pair offered in the place of the book's own
+
+// The block in whose place it stands; 0 where it is for no pair of the book's first n solvents.
+pub fn offered_place(book: &[u8], offered: &[u8], n: usize) -> usize
+    ensures { λ r. ⌜ r ≡ offeredPlace (places n) (now (book .entry)) (now (offered .entry)) ⌝ }
 {
-    blocks::block(book, pair_place(n, i, j))
+    if offered.len() != 512 {
+        return 0;
+    }
+    let m = floats::places(n);
+    let i = word(offered, 1);
+    let j = word(offered, 2);
+    if j <= i {
+        return 0;
+    }
+    if m as u64 <= j {
+        return 0;
+    }
+    let place = pair_place(m, i as usize, j as usize);
+    if place < book.len() / 512 { place } else { 0 }
 }
 
 fn regression_at(s: &[u8]) -> Regression
@@ -235,30 +251,56 @@ fn pair_at(model: Model, s: &[u8]) -> Pair
     }
 }
 
-// The pair (i, j), i < j, of a book of n solvents.
-pub fn pair_record(book: &[u8], n: usize, i: usize, j: usize) -> Pair
-    ensures { λ r. ⌜ r ≡ pairOf (modelOf (now (book .entry))) (words (now (book .entry)) (pairPlace (places n) (places i) (places j))) ⌝ }
+// The pair (i, j), i < j, of a book of n solvents, where a block is offered for the pair at `place`.
+pub fn pair_record(book: &[u8], offered: &[u8], place: usize, n: usize, i: usize, j: usize) -> Pair
+    ensures { λ r. ⌜ r ≡ pairOf (modelOf (now (book .entry))) (word (pairAt (now (book .entry)) (now (offered .entry)) place (pairPlace (places n) (places i) (places j)))) ⌝ }
 {
     let model = book::model_of(book);
-    let block = pair_block(
-        book,
-        floats::places(n),
-        floats::places(i),
-        floats::places(j),
-    );
-    pair_at(model, block)
+    let k = pair_place(floats::places(n), floats::places(i), floats::places(j));
+    if k == place {
+        return pair_at(model, offered);
+    }
+    pair_at(model, blocks::block(book, k))
+}
+
+// Those of the pair (i, j), i < j.
+fn upper_of(model: Model, book: &[u8], offered: &[u8], place: usize, k: usize) -> Terms
+    ensures { λ r. ⌜ r ≡ termsOf (pairTerm model (word (pairAt (now (book .entry)) (now (offered .entry)) place k)) 3) ⌝ }
+{
+    if k == place {
+        return upper_terms(model, offered);
+    }
+    upper_terms(model, blocks::block(book, k))
+}
+
+// And of (j, i).
+fn lower_of(model: Model, book: &[u8], offered: &[u8], place: usize, k: usize) -> Terms
+    ensures { λ r. ⌜ r ≡ termsOf (pairTerm model (word (pairAt (now (book .entry)) (now (offered .entry)) place k)) (lowerFrom model)) ⌝ }
+{
+    if k == place {
+        return lower_terms(model, offered);
+    }
+    lower_terms(model, blocks::block(book, k))
 }
 
 // The terms of the ordered pair (i, j), +0 for i = j.
-fn terms_of(model: Model, book: &[u8], n: usize, i: usize, j: usize) -> Terms
+fn terms_of(
+    model: Model,
+    book: &[u8],
+    offered: &[u8],
+    place: usize,
+    n: usize,
+    i: usize,
+    j: usize,
+) -> Terms
     requires { ⌜ (n ≤ 8) × (i ≤ 8) × (j ≤ 8) ⌝ }
-    ensures { λ r. ⌜ r ≡ termsOf (parameter model (words (now (book .entry))) n i j) ⌝ }
+    ensures { λ r. ⌜ r ≡ termsOf (parameter model (λ k. word (pairAt (now (book .entry)) (now (offered .entry)) place k)) n i j) ⌝ }
 {
     if i < j {
-        return upper_terms(model, pair_block(book, n, i, j));
+        return upper_of(model, book, offered, place, pair_place(n, i, j));
     }
     if j < i {
-        return lower_terms(model, pair_block(book, n, j, i));
+        return lower_of(model, book, offered, place, pair_place(n, j, i));
     }
     Terms {
         t0: 0.0,
@@ -282,30 +324,47 @@ fn set_terms(plane: &mut [f64; 384], from: usize, t: Terms)
     plane[from + 5] = t.a1;
 }
 
-fn fill_row(model: Model, book: &[u8], n: usize, i: usize, plane: &mut [f64; 384])
+fn fill_row(
+    model: Model,
+    book: &[u8],
+    offered: &[u8],
+    place: usize,
+    n: usize,
+    i: usize,
+    plane: &mut [f64; 384],
+)
     requires { ⌜ (n ≤ 8) × (i < 8) ⌝ }
-    ensures { λ _. ⌜ now (plane .exit) ≡ parameterRow (parameter model (words (now (book .entry))) n i) n i (now (plane .entry)) ⌝ }
+    ensures { λ _. ⌜ now (plane .exit) ≡ parameterRow (parameter model (λ k. word (pairAt (now (book .entry)) (now (offered .entry)) place k)) n i) n i (now (plane .entry)) ⌝ }
 {
     for j in 0..n {
-        let t = terms_of(model, book, n, i, j);
+        let t = terms_of(model, book, offered, place, n, i, j);
         set_terms(plane, (i * 8 + j) * 6, t);
     }
 }
 
-fn fill(model: Model, book: &[u8], n: usize, plane: &mut [f64; 384])
+fn fill(model: Model, book: &[u8], offered: &[u8], place: usize, n: usize, plane: &mut [f64; 384])
     requires { ⌜ n ≤ 8 ⌝ }
-    ensures { λ _. ⌜ now (plane .exit) ≡ parameterRows (parameter model (words (now (book .entry))) n) n n ⌝ }
+    ensures { λ _. ⌜ now (plane .exit) ≡ parameterRows (parameter model (λ k. word (pairAt (now (book .entry)) (now (offered .entry)) place k)) n) n n ⌝ }
 {
     *plane = [0.0; 384];
     for i in 0..n {
-        fill_row(model, book, n, i, plane);
+        fill_row(model, book, offered, place, n, i, plane);
     }
 }
 
 // The parameters of all ordered pairs, from (i * 8 + j) * 6 on: NRTL, tau's t0 to t3, alpha's a0 and a1; Wilson, a and b,
-// then +0. All +0 for i = j and past n.
-pub fn parameters(book: &[u8], n: usize, plane: &mut [f64; 384])
-    ensures { λ _. ⌜ now (plane .exit) ≡ parametersOf (now (book .entry)) (places n) ⌝ }
+// then +0. All +0 for i = j and past n. A pair offered stands in the place of the book's own; with nothing offered they are
+// the book's.
+pub fn parameters(book: &[u8], offered: &[u8], n: usize, plane: &mut [f64; 384])
+    ensures { λ _. ⌜ now (plane .exit) ≡ parametersOf (withPair (places n) (now (book .entry)) (now (offered .entry))) (places n) ⌝ }
 {
-    fill(book::model_of(book), book, floats::places(n), plane);
+    let place = offered_place(book, offered, n);
+    fill(
+        book::model_of(book),
+        book,
+        offered,
+        place,
+        floats::places(n),
+        plane,
+    );
 }

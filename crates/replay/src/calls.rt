@@ -272,11 +272,12 @@ fn answer(words: &[u64; 4096], out: &mut [u64; 640]) -> Called {
     answer_sizes(words, size as usize, asked as usize, room as usize, out)
 }
 
-// The calls with one slice more: 15 drums, 16 feeds.
+// The calls with one slice more: 15 drums, 16 feeds, 17 an offered pair.
 fn with_slices(k: usize, book: &[u8], question: &[u8], lent: &[u8], slice: &mut [u8]) -> u64 {
     match k {
         15 => pool::answer(book, question, lent, slice),
-        _ => batch::answer(book, question, lent, slice),
+        16 => batch::answer(book, question, lent, slice),
+        _ => preview::answer(book, lent, question, slice),
     }
 }
 

@@ -24,11 +24,13 @@ use Rattle.book.specs.Book.{molarMass, bookOf, ruleOf, openedOf}
 use Rattle.book.proofs.Laws.{opened-ok, opened-no}
 use Rattle.book.proofs.Accepted.{accepted}
 use Rattle.blocks.specs.Bytes.{wordAt, blockBytes}
+use Rattle.records.specs.Offered.{withPair}
 use Rattle.records.specs.Parameters.{parametersOf}
 use Rattle.thermo_models.specs.Domain.{pureLiquidsOf}
 use Rattle.thermo_models.specs.declared.Tabled.{Tabled}
 use Rattle.thermo_models.specs.Activity.{activityOf, activityOn}
 use Rattle.thermo_models.specs.Mixture.{Mixture, mixtureWith, mixtureOf}
+use Rattle.thermo_models.proofs.Offered.{copy-mixture}
 use Rattle.rachford_rice.specs.declared.RachfordRice.{RachfordRice}
 use Rattle.rachford_rice.specs.Rachford.{constrained, negative, splitOf, answerOf}
 use Rattle.saturation.specs.declared.ActivitySaturation.{ActivitySaturation}
@@ -50,12 +52,12 @@ use Rattle.sheet.proofs.Laws.{says-no, says-yes, refuses, goes-on, same
 use Rattle.sheet.proofs.Shared.{table-activity, bubble-from, dew-from, pressures-2, pressures-3, task-refused}
 use Rattle.sheet.proofs.Replies.{refused, given, pressure-ok, constrained-says, split-says}
 
--- ---- the tasks, with the book's parameters
-module _ (rule : Rule) (book : List ℕ) (n : ℕ) (q : Question) {P : List Float} {r : ℕ} {old new : List ℕ} where
-  pub pressure-given : {made : NewPressure} {v : Pressure} → P ≡ parametersOf book n → made ≡ newPressure (positiveOf (q .pressure) 14) → made ≡ pressure.Valid v
-      → Answers (replied rule (q .task) (taskUnder (mixtureWith book P n) q (v .0))) r old new
-      → Answers (replied rule (q .task) (bind (positiveOf (q .pressure) 14) (taskUnder (mixtureOf book n) q))) r old new
-  pressure-given p e d h = pressure-ok rule (q .task) _ _ e d (rw p at h)
+-- ---- the tasks, with the book's parameters and a pair offered
+module _ (rule : Rule) (n : ℕ) (book offered : List ℕ) (q : Question) {P : List Float} {r : ℕ} {old new : List ℕ} where
+  pub pressure-given : {made : NewPressure} {v : Pressure} → P ≡ parametersOf (withPair n book offered) n → made ≡ newPressure (positiveOf (q .pressure) 14) → made ≡ pressure.Valid v
+      → ((copy : List ℕ) → Answers (replied rule (q .task) (taskUnder (mixtureWith book P copy n) q (v .0))) r old new)
+      → Answers (replied rule (q .task) (bind (positiveOf (q .pressure) 14) (taskUnder (mixtureOf (withPair n book offered) n) q))) r old new
+  pressure-given p e d h = pressure-ok rule (q .task) _ _ e d (rw (copy-mixture n book offered) (rw p at (h (withPair n book offered))))
 
 -- ---- by the task's number; t in K, p in Pa
 module _ (rule : Rule) (m : Mixture) (q : Question) (t : Float) {r : ℕ} {old new : List ℕ} where
@@ -99,14 +101,14 @@ module _ (rule : Rule) (q : Question) {m : Mixture} {s : Tabled} {table ps : Lis
       let b : pressuresIn (m .liquids (s .t .0)) ≡ ok ps = sym (pressures-3 m (q .pressure) (s .t .0) e) ∙ w in
       at-3 rule m q (s .t .0) e (g .says _ (rw (dew-from m (q .options) (s .t .0) (q .fractions) b) (rw (table-activity h, h .count) at a)))
 
-module _ (rule : Rule) (book : List ℕ) (n : ℕ) (q : Question) (P : List Float) (t : Float) {r : ℕ} {old new : List ℕ} where
+module _ (rule : Rule) (book copy : List ℕ) (n : ℕ) (q : Question) (P : List Float) (t : Float) {r : ℕ} {old new : List ℕ} where
   pub under-4 : {s : ActivitySaturation} → q .task ≡ 4 → s ≡ saturationAnswer (bubbleTemperature (activityOf book P n) (pureLiquidsOf book n) n (q .options) t (q .fractions))
-      → Says rule (q .task) s r old new → Answers (replied rule (q .task) (taskUnder (mixtureWith book P n) q t)) r old new
+      → Says rule (q .task) s r old new → Answers (replied rule (q .task) (taskUnder (mixtureWith book P copy n) q t)) r old new
   unfolding taskUnder task4 activityOf
   under-4 e a h = is-task rule (q .task) _ _ e (h .says _ a)
 
   pub under-5 : {s : ActivitySaturation} → (q .task ≡ 4 → ⊥) → s ≡ saturationAnswer (dewTemperature (activityOf book P n) (pureLiquidsOf book n) n (q .options) t (q .fractions))
-      → Says rule (q .task) s r old new → Answers (replied rule (q .task) (taskUnder (mixtureWith book P n) q t)) r old new
+      → Says rule (q .task) s r old new → Answers (replied rule (q .task) (taskUnder (mixtureWith book P copy n) q t)) r old new
   unfolding taskUnder task5 activityOf
   under-5 e a h = not-task rule (q .task) _ _ e (h .says _ a)
 
@@ -184,12 +186,14 @@ unfolding askedOf
 asked-ok (ok a) e q = ap (λ (y : Asked). ok (y .question)) (sym e)
 asked-ok (no m) e q = let z : _≡_ {A = ℕ} 0 1 = cc in absurd (omega arith)
 
-module _ (book question : List ℕ) (version n : ℕ) {rule : Rule} (u : rule ≡ ruleOf book) {x : Asked} (e : x ≡ askedOf (questionOf rule question version (molarMass (words book)) n)) {r : ℕ} {old : List ℕ} where
-  pub question-no : x .verdict ≡ Refused r → Answers (bind (questionTo book version n question) (answerTo book n)) r old old
+-- with what comes behind it
+module _ (book question : List ℕ) (version n : ℕ) (k : Question → Out (List ℕ)) {rule : Rule} (u : rule ≡ ruleOf book) {x : Asked}
+    (e : x ≡ askedOf (questionOf rule question version (molarMass (words book)) n)) {r : ℕ} {old : List ℕ} where
+  pub question-no : x .verdict ≡ Refused r → Answers (bind (questionTo book version n question) k) r old old
   question-no q = refuses _ (asked-no _ (rw u at e) q)
 
-  pub question-ok : {new : List ℕ} → x .verdict ≡ Passed → answerRoom ≤ length old → Answers (roomy (length old) (answerTo book n (x .question))) r old new
-      → Answers (bind (questionTo book version n question) (answerTo book n)) r old new
+  pub question-ok : {new : List ℕ} → x .verdict ≡ Passed → answerRoom ≤ length old → Answers (roomy (length old) (k (x .question))) r old new
+      → Answers (bind (questionTo book version n question) k) r old new
   question-ok q l h = goes-on _ (asked-ok _ (rw u at e) q) (unroomed _ l h)
 
 -- ---- the book, with what comes behind it for its version and its count of solvents

@@ -24,11 +24,13 @@ use Rattle.thermo_types.specs.declared.NewTemperature.the-variants as temperatu
 use Rattle.thermo_types.specs.declared.NewPressure.the-variants as pressure
 use Rattle.thermo_types.specs.Verdicts.{verdictOf}
 use Rattle.thermo_types.specs.Quantities.{kelvin, pascal, positiveOf, newTemperature, newPressure}
+use Rattle.records.specs.Offered.{withPair}
 use Rattle.records.specs.Parameters.{parametersOf}
 use Rattle.thermo_models.specs.declared.Tabled.{Tabled}
 use Rattle.thermo_models.specs.Model.{Pures, PuresAre, pressuresOf, pressureInDomain}
 use Rattle.thermo_models.specs.Activity.{activityIn, activityOn, excessOf, Stands}
-use Rattle.thermo_models.specs.Mixture.{Mixture, activity, mixtureOf}
+use Rattle.thermo_models.specs.Mixture.{Mixture, activity, mixtureWith, mixtureOf}
+use Rattle.thermo_models.proofs.Offered.{copy-mixture}
 use Rattle.thermo_models.proofs.Answers.{verdict-passed, verdict-refused}
 use Rattle.saturation.proofs.Answers.{stands-places, stands-kelvin}
 use Rattle.saturation.specs.Saturation.{bubbleTask, dewTask, bubblePressure, dewPressurePoint}
@@ -64,13 +66,14 @@ pub table-activity : {m : Mixture} {s : Tabled} {table : List Float} → TableOf
 unfolding activityOn
 table-activity h = fun-ext (λ x. ap activityIn (h .excess x))
 
--- one that `tables` made of the book's parameters
-pub tabled : (book : List ℕ) (n : ℕ) {P old table : List Float} {t : Temperature} {s : Tabled} → P ≡ parametersOf book (places n) → Stands book P (places n) t s old table → length old ≡ 512
-    → (s .t ≡ t) × TableOf (mixtureOf book (places n)) s table
-tabled book n {t = t} {s = s} e h l = (stands-kelvin h, record { count = stands-places n h; excess = λ x. rw e at (h .agrees l x) ∙ later x })
+-- one that `tables` made of the book's parameters with a pair offered
+pub tabled : (book offered : List ℕ) (n : ℕ) {P old table : List Float} {t : Temperature} {s : Tabled} → P ≡ parametersOf (withPair (places n) book offered) (places n)
+    → Stands book P (places n) t s old table → length old ≡ 512 → (s .t ≡ t) × TableOf (mixtureOf (withPair (places n) book offered) (places n)) s table
+tabled book offered n {P} {t = t} {s = s} e h l =
+    (stands-kelvin h, rw (copy-mixture (places n) book offered, ← e) (record { count = stands-places n h; excess = λ x. h .agrees l x ∙ later x }))
   where
-    later : (x : List Float) → excessOf book (parametersOf book (places n)) (places n) (t .0) x ≡ excessOf book (parametersOf book (places n)) (places n) (s .t .0) x
-    later x = ap (λ (u : Temperature). excessOf book (parametersOf book (places n)) (places n) (u .0) x) (sym (stands-kelvin h))
+    later : (x : List Float) → excessOf book P (places n) (t .0) x ≡ excessOf book P (places n) (s .t .0) x
+    later x = ap (λ (u : Temperature). excessOf book P (places n) (u .0) x) (sym (stands-kelvin h))
 
 -- ---- tasks from the vapor pressures that they read
 same-value : {A : Type 0} {a b : A} → ok a ≡ ok b → a ≡ b
@@ -178,6 +181,12 @@ module _ (m : Mixture) (q : Question) {r : ℕ} where
 module _ {v : Verdict} {ps : List Float} where
   pub pressures-same : {o p : Out (List Float)} → p ≡ o → PressuresAre o v ps → PressuresAre p v ps
   pressures-same e h = rw e h
+
+  -- they are the book's, whatever its pairs
+  pub pressures-copied : (n : ℕ) (book offered : List ℕ) (task : ℕ) (p t : Float)
+      → ((P : List Float) (copy : List ℕ) → PressuresAre (pressuresFor (mixtureWith book P copy n) task p t) v ps)
+      → PressuresAre (pressuresFor (mixtureOf (withPair n book offered) n) task p t) v ps
+  pressures-copied n book offered task p t h = rw (copy-mixture n book offered) (h _ _)
 
   pub pures-pressures : (o : Out Pures) {dps : List Float} → PuresAre o v ps dps → PressuresAre (pressuresIn o) v ps
   unfolding pressuresIn bind verdictOf pressuresOf

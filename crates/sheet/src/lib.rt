@@ -2,7 +2,7 @@
 ghost use mathlib.Core.Path.{_≡_};
 ghost use mathlib.Core.Bool.{true};
 ghost use mathlib.Core.List.{List, _++_};
-ghost use Prim.Native.Nat.{_≤_, _<_, _+_, _*_};
+ghost use Prim.Native.Nat.{ℕ, _≤_, _<_, _+_, _*_};
 ghost use lib.ListN.{length, take, drop};
 ghost use lib.Ieee.{Float};
 ghost use Rattle.floats.specs.Vector.{places};
@@ -11,6 +11,7 @@ ghost use Rattle.thermo_types.specs.Quantities.{positiveOf};
 ghost use Rattle.blocks.specs.Bytes.{put, rowTo, blockBytes, wordAt};
 ghost use Rattle.excess.specs.State.{Excess};
 ghost use Rattle.excess.specs.Answers.{Gives};
+ghost use Rattle.records.specs.Offered.{withPair};
 ghost use Rattle.thermo_models.specs.Domain.{pureLiquidsOf};
 ghost use Rattle.thermo_models.specs.Mixture.{Mixture, mixtureWith, mixtureOf};
 ghost use Rattle.question.specs.Inputs.{needsTemperature};
@@ -141,6 +142,7 @@ fn reply_excess(
 fn task_1(
     rule: Rule,
     book: &[u8],
+    offered: &[u8],
     n: usize,
     s: Tabled,
     table: &[f64; 512],
@@ -148,14 +150,14 @@ fn task_1(
     out: &mut [u8],
 ) -> u64
     requires { ⌜ answerRoom ≤ length (now out) ⌝ }
-    ensures { λ r. ⌜ ((P : List Float) → TableOf (mixtureWith (now (book .entry)) P (places n)) s (now (table .entry)) → Answers (replied rule (q .task) (task1 (mixtureWith (now (book .entry)) P (places n)) q (s .t .0))) r (now (out .entry)) (now (out .exit))) ⌝ }
+    ensures { λ r. ⌜ (TableOf (mixtureOf (withPair (places n) (now (book .entry)) (now (offered .entry))) (places n)) s (now (table .entry)) → Answers (replied rule (q .task) (task1 (mixtureOf (withPair (places n) (now (book .entry)) (now (offered .entry))) (places n)) q (s .t .0))) r (now (out .entry)) (now (out .exit))) ⌝ }
 {
     let x = q.fractions;
     let t = s.t;
     let mut ln_gamma = [0.0; 8];
     let mut slopes = [0.0; 8];
     let e = thermo_models::excess(table, s, &x, &mut ln_gamma, &mut slopes);
-    let v = thermo_models::validity(book, n, t, &x);
+    let v = thermo_models::validity(book, offered, n, t, &x);
     reply_excess(rule, q.task, t.value(), v, e, ln_gamma, slopes, out)
 }
 
@@ -240,6 +242,7 @@ fn task_at_pressure(
 fn task_at(
     rule: Rule,
     book: &[u8],
+    offered: &[u8],
     n: usize,
     s: Tabled,
     table: &[f64; 512],
@@ -248,13 +251,13 @@ fn task_at(
     out: &mut [u8],
 ) -> u64
     requires { ⌜ answerRoom ≤ length (now out) ⌝ }
-    ensures { λ r. ⌜ ((P : List Float) → TableOf (mixtureWith (now (book .entry)) P (places n)) s (now (table .entry)) → pressuresFor (mixtureWith (now (book .entry)) P (places n)) (q .task) (q .pressure) (s .t .0) ≡ ok (now (ps .entry)) → Answers (replied rule (q .task) (taskAt (mixtureWith (now (book .entry)) P (places n)) q (s .t .0))) r (now (out .entry)) (now (out .exit))) ⌝ }
+    ensures { λ r. ⌜ (TableOf (mixtureOf (withPair (places n) (now (book .entry)) (now (offered .entry))) (places n)) s (now (table .entry)) → pressuresFor (mixtureOf (withPair (places n) (now (book .entry)) (now (offered .entry))) (places n)) (q .task) (q .pressure) (s .t .0) ≡ ok (now (ps .entry)) → Answers (replied rule (q .task) (taskAt (mixtureOf (withPair (places n) (now (book .entry)) (now (offered .entry))) (places n)) q (s .t .0))) r (now (out .entry)) (now (out .exit))) ⌝ }
 {
     let x = q.fractions;
     let o = q.options;
     let task = q.task;
     match task {
-        1 => task_1(rule, book, n, s, table, q, out),
+        1 => task_1(rule, book, offered, n, s, table, q, out),
         2 => {
             let point = saturation::activity_bubble_pressure(table, s, &x, ps);
             reply_saturation(rule, task, point, out)
@@ -279,7 +282,7 @@ fn task_under(
     out: &mut [u8],
 ) -> u64
     requires { ⌜ answerRoom ≤ length (now out) ⌝ }
-    ensures { λ r. ⌜ Answers (replied rule (q .task) (taskUnder (mixtureWith (now (book .entry)) (now (parameters .entry)) (places n)) q (p .0))) r (now (out .entry)) (now (out .exit)) ⌝ }
+    ensures { λ r. ⌜ ((copy : List ℕ) → Answers (replied rule (q .task) (taskUnder (mixtureWith (now (book .entry)) (now (parameters .entry)) copy (places n)) q (p .0))) r (now (out .entry)) (now (out .exit))) ⌝ }
 {
     let x = q.fractions;
     let o = q.options;
@@ -309,7 +312,7 @@ fn pure_pressures(book: &[u8], n: usize, t: Temperature, ps: &mut [f64; 8]) -> V
 
 // A flash's: 22, 23, 25.
 fn flash_pressures(book: &[u8], n: usize, t: Temperature, p: Pressure, ps: &mut [f64; 8]) -> Verdict
-    ensures { λ r. ⌜ ((P : List Float) → PressuresAre (flashPressures (mixtureWith (now (book .entry)) P (places n)) (t .0) (p .0)) r (now (ps .exit))) ⌝ }
+    ensures { λ r. ⌜ ((P : List Float) (copy : List ℕ) → PressuresAre (flashPressures (mixtureWith (now (book .entry)) P copy (places n)) (t .0) (p .0)) r (now (ps .exit))) ⌝ }
 {
     if !thermo_models::check_temperature(book, n, t) {
         return Verdict::Refused(22);
@@ -329,7 +332,7 @@ fn pressures_for(
     t: Temperature,
     ps: &mut [f64; 8],
 ) -> Verdict
-    ensures { λ r. ⌜ ((P : List Float) → PressuresAre (pressuresFor (mixtureWith (now (book .entry)) P (places n)) task pressure (t .0)) r (now (ps .exit))) ⌝ }
+    ensures { λ r. ⌜ ((P : List Float) (copy : List ℕ) → PressuresAre (pressuresFor (mixtureWith (now (book .entry)) P copy (places n)) task pressure (t .0)) r (now (ps .exit))) ⌝ }
 {
     match task {
         1 | 6 => {
@@ -347,16 +350,49 @@ fn pressures_for(
     }
 }
 
-// The tables of the book's parameters at t.
-fn tables_at(book: &[u8], n: usize, t: Temperature, table: &mut [f64; 512]) -> Tabled
-    ensures { λ r. ⌜ (length (now (table .entry)) ≡ 512 → (r .t ≡ t) × TableOf (mixtureOf (now (book .entry)) (places n)) r (now (table .exit))) ⌝ }
+// The tables of the book's parameters at t, with the pair offered in the place of its own.
+fn tables_at(
+    book: &[u8],
+    offered: &[u8],
+    n: usize,
+    t: Temperature,
+    table: &mut [f64; 512],
+) -> Tabled
+    ensures { λ r. ⌜ (length (now (table .entry)) ≡ 512 → (r .t ≡ t) × TableOf (mixtureOf (withPair (places n) (now (book .entry)) (now (offered .entry))) (places n)) r (now (table .exit))) ⌝ }
 {
     let mut parameters = [0.0; 384];
-    records::parameters(book, n, &mut parameters);
+    records::parameters(book, offered, n, &mut parameters);
     thermo_models::tables(book, &parameters, n, t, table)
 }
 
-// Makes ready for a task at a temperature (K), 7 at a pressure (Pa) too: the vapor pressures that it reads, then the tables.
+// Makes ready for a task at a temperature (K), 7 at a pressure (Pa) too: the vapor pressures that it reads, then the tables,
+// with a pair offered in the place of the book's own.
+fn ready_offered(
+    book: &[u8],
+    offered: &[u8],
+    n: usize,
+    task: u64,
+    temperature: f64,
+    pressure: f64,
+    table: &mut [f64; 512],
+    ps: &mut [f64; 8],
+) -> Ready
+    ensures { λ r. ⌜ (length (now (table .entry)) ≡ 512 → Readied (mixtureOf (withPair (places n) (now (book .entry)) (now (offered .entry))) (places n)) task temperature pressure r (now (table .exit)) (now (ps .exit))) ⌝ }
+{
+    let made = Temperature::new(temperature);
+    match made {
+        NewTemperature::No(number) => Ready::No(number),
+        NewTemperature::Valid(t) => {
+            let verdict = pressures_for(book, n, task, pressure, t, ps);
+            match verdict {
+                Verdict::Refused(number) => Ready::No(number),
+                Verdict::Passed => Ready::At(tables_at(book, offered, n, t, table)),
+            }
+        }
+    }
+}
+
+// With nothing offered.
 pub fn make_ready(
     book: &[u8],
     n: usize,
@@ -368,23 +404,14 @@ pub fn make_ready(
 ) -> Ready
     ensures { λ r. ⌜ (length (now (table .entry)) ≡ 512 → Readied (mixtureOf (now (book .entry)) (places n)) task temperature pressure r (now (table .exit)) (now (ps .exit))) ⌝ }
 {
-    let made = Temperature::new(temperature);
-    match made {
-        NewTemperature::No(number) => Ready::No(number),
-        NewTemperature::Valid(t) => {
-            let verdict = pressures_for(book, n, task, pressure, t, ps);
-            match verdict {
-                Verdict::Refused(number) => Ready::No(number),
-                Verdict::Passed => Ready::At(tables_at(book, n, t, table)),
-            }
-        }
-    }
+    ready_offered(book, b"", n, task, temperature, pressure, table, ps)
 }
 
 // The answer of a task at a temperature, from what was made ready for it.
 fn answer_at(
     rule: Rule,
     book: &[u8],
+    offered: &[u8],
     n: usize,
     made: Ready,
     table: &[f64; 512],
@@ -393,22 +420,30 @@ fn answer_at(
     out: &mut [u8],
 ) -> u64
     requires { ⌜ answerRoom ≤ length (now out) ⌝ }
-    ensures { λ r. ⌜ (Readied (mixtureOf (now (book .entry)) (places n)) (q .task) (q .temperature) (q .pressure) made (now (table .entry)) (now (ps .entry)) → Answers (replied rule (q .task) (bind (positiveOf (q .temperature) 13) (taskAt (mixtureOf (now (book .entry)) (places n)) q))) r (now (out .entry)) (now (out .exit))) ⌝ }
+    ensures { λ r. ⌜ (Readied (mixtureOf (withPair (places n) (now (book .entry)) (now (offered .entry))) (places n)) (q .task) (q .temperature) (q .pressure) made (now (table .entry)) (now (ps .entry)) → Answers (replied rule (q .task) (bind (positiveOf (q .temperature) 13) (taskAt (mixtureOf (withPair (places n) (now (book .entry)) (now (offered .entry))) (places n)) q))) r (now (out .entry)) (now (out .exit))) ⌝ }
 {
     match made {
         Ready::No(number) => number,
-        Ready::At(s) => task_at(rule, book, n, s, table, ps, q, out),
+        Ready::At(s) => task_at(rule, book, offered, n, s, table, ps, q, out),
     }
 }
 
-fn at_temperature(rule: Rule, book: &[u8], n: usize, q: Question, out: &mut [u8]) -> u64
+fn at_temperature(
+    rule: Rule,
+    book: &[u8],
+    offered: &[u8],
+    n: usize,
+    q: Question,
+    out: &mut [u8],
+) -> u64
     requires { ⌜ answerRoom ≤ length (now out) ⌝ }
-    ensures { λ r. ⌜ Answers (replied rule (q .task) (bind (positiveOf (q .temperature) 13) (taskAt (mixtureOf (now (book .entry)) (places n)) q))) r (now (out .entry)) (now (out .exit)) ⌝ }
+    ensures { λ r. ⌜ Answers (replied rule (q .task) (bind (positiveOf (q .temperature) 13) (taskAt (mixtureOf (withPair (places n) (now (book .entry)) (now (offered .entry))) (places n)) q))) r (now (out .entry)) (now (out .exit)) ⌝ }
 {
     let mut table = [0.0; 512];
     let mut ps = [0.0; 8];
-    let made = make_ready(
+    let made = ready_offered(
         book,
+        offered,
         n,
         q.task,
         q.temperature,
@@ -416,19 +451,26 @@ fn at_temperature(rule: Rule, book: &[u8], n: usize, q: Question, out: &mut [u8]
         &mut table,
         &mut ps,
     );
-    answer_at(rule, book, n, made, &table, &ps, q, out)
+    answer_at(rule, book, offered, n, made, &table, &ps, q, out)
 }
 
-fn at_pressure(rule: Rule, book: &[u8], n: usize, q: Question, out: &mut [u8]) -> u64
+fn at_pressure(
+    rule: Rule,
+    book: &[u8],
+    offered: &[u8],
+    n: usize,
+    q: Question,
+    out: &mut [u8],
+) -> u64
     requires { ⌜ answerRoom ≤ length (now out) ⌝ }
-    ensures { λ r. ⌜ Answers (replied rule (q .task) (bind (positiveOf (q .pressure) 14) (taskUnder (mixtureOf (now (book .entry)) (places n)) q))) r (now (out .entry)) (now (out .exit)) ⌝ }
+    ensures { λ r. ⌜ Answers (replied rule (q .task) (bind (positiveOf (q .pressure) 14) (taskUnder (mixtureOf (withPair (places n) (now (book .entry)) (now (offered .entry))) (places n)) q))) r (now (out .entry)) (now (out .exit)) ⌝ }
 {
     let made = Pressure::new(q.pressure);
     match made {
         NewPressure::No(number) => number,
         NewPressure::Valid(p) => {
             let mut parameters = [0.0; 384];
-            records::parameters(book, n, &mut parameters);
+            records::parameters(book, offered, n, &mut parameters);
             task_under(rule, book, &parameters, n, p, q, out)
         }
     }
@@ -456,29 +498,37 @@ fn task_split(rule: Rule, book: &[u8], n: usize, q: Question, out: &mut [u8]) ->
     }
 }
 
-fn solve(rule: Rule, book: &[u8], n: usize, q: Question, out: &mut [u8]) -> u64
+fn solve(rule: Rule, book: &[u8], offered: &[u8], n: usize, q: Question, out: &mut [u8]) -> u64
     requires { ⌜ answerRoom ≤ length (now out) ⌝ }
-    ensures { λ r. ⌜ Answers (replied rule (q .task) (taskOf (mixtureOf (now (book .entry)) (places n)) q)) r (now (out .entry)) (now (out .exit)) ⌝ }
+    ensures { λ r. ⌜ Answers (replied rule (q .task) (taskOf (mixtureOf (withPair (places n) (now (book .entry)) (now (offered .entry))) (places n)) q)) r (now (out .entry)) (now (out .exit)) ⌝ }
 {
     if needs_temperature(q.task) {
-        return at_temperature(rule, book, n, q, out);
+        return at_temperature(rule, book, offered, n, q, out);
     }
     if needs_pressure(q.task) {
-        return at_pressure(rule, book, n, q, out);
+        return at_pressure(rule, book, offered, n, q, out);
     }
     task_split(rule, book, n, q, out)
 }
 
 // ---- the call
 
-// The answer to a question that was read, for a book of n solvents: 10, then the task's own numbers.
-pub fn answer_asked(book: &[u8], n: usize, q: Question, out: &mut [u8]) -> u64
-    ensures { λ r. ⌜ Answers (roomy (length (now (out .entry))) (answerTo (now (book .entry)) (places n) q)) r (now (out .entry)) (now (out .exit)) ⌝ }
+// The answer to a question that was read, for a book of n solvents with a pair offered in the place of its own: 10, then the
+// task's own numbers.
+pub fn answer_offered(book: &[u8], offered: &[u8], n: usize, q: Question, out: &mut [u8]) -> u64
+    ensures { λ r. ⌜ Answers (roomy (length (now (out .entry))) (answerTo (withPair (places n) (now (book .entry)) (now (offered .entry))) (places n) q)) r (now (out .entry)) (now (out .exit)) ⌝ }
 {
     if out.len() < ANSWER_ROOM {
         return 10;
     }
-    solve(book::rule_of(book), book, n, q, out)
+    solve(book::rule_of(book), book, offered, n, q, out)
+}
+
+// With nothing offered.
+pub fn answer_asked(book: &[u8], n: usize, q: Question, out: &mut [u8]) -> u64
+    ensures { λ r. ⌜ Answers (roomy (length (now (out .entry))) (answerTo (now (book .entry)) (places n) q)) r (now (out .entry)) (now (out .exit)) ⌝ }
+{
+    answer_offered(book, b"", n, q, out)
 }
 
 // The answer to a question that was read, of a task at a temperature, from what was made ready for it: 10, then the task's own.
@@ -496,7 +546,7 @@ pub fn answer_ready(
     if out.len() < ANSWER_ROOM {
         return 10;
     }
-    answer_at(book::rule_of(book), book, n, made, table, ps, q, out)
+    answer_at(book::rule_of(book), book, b"", n, made, table, ps, q, out)
 }
 
 // Questions 11 to 21, then the task.

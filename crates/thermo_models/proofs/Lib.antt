@@ -4,3 +4,4 @@ pub mod Pures
 mod Stands
 pub mod Pairs
 pub mod Unread
+pub mod Offered

@@ -9,24 +9,16 @@ use lib.Dec.{ltb}
 use lib.Ieee.{Float, le}
 use Rattle.floats.specs.Arithmetic.{0f}
 use Rattle.floats.specs.Fold.{foldTo}
-use Rattle.floats.specs.Vector.{at, places}
+use Rattle.floats.specs.Vector.{at}
 use Rattle.floats.proofs.Folds.{fold-turn}
-use Rattle.book.specs.Places.{words, pairPlace}
-use Rattle.book.specs.Book.{modelOf}
-use Rattle.records.specs.declared.Pair.{Pair}
-use Rattle.records.specs.Records.{pairOf}
+use Rattle.records.specs.declared.Regression.{Regression}
 use Rattle.thermo_models.specs.declared.Seen.{Seen}
-use Rattle.thermo_models.specs.Validity.{noted, visited, rowSeen}
+use Rattle.thermo_models.specs.Validity.{intervalOf, noted, visited, rowSeen}
 
-pub visited-yes : (book : List ℕ) (n : ℕ) (t : Float) (x : List Float) (i j : ℕ) (s : Seen) {r : Pair} {q : Seen} → n ≤ 8 → i < n → j < n
-    → (not (le (at x i) 0f) && not (le (at x j) 0f)) ≡ true → r ≡ pairOf (modelOf book) (words book (pairPlace (places n) (places i) (places j))) → q ≡ noted (r .regression) t s
-    → q ≡ visited book n t x i j s
-unfolding visited pairOf
-visited-yes book n t x i j s a b c e p h =
-    let pn : places n ≡ n = omega arith in
-    let pi : places i ≡ i = omega arith in
-    let pj : places j ≡ j = omega arith in
-    rw e (h ∙ rw (p, pn, pi, pj))
+pub visited-yes : (book : List ℕ) (n : ℕ) (t : Float) (x : List Float) (i j : ℕ) (s : Seen) {r : Regression} {q : Seen}
+    → (not (le (at x i) 0f) && not (le (at x j) 0f)) ≡ true → r ≡ intervalOf book n i j → q ≡ noted r t s → q ≡ visited book n t x i j s
+unfolding visited
+visited-yes book n t x i j s e p h = rw e (h ∙ rw p)
 
 -- ---- the row i up to j
 module _ (book : List ℕ) (n : ℕ) (t : Float) (x : List Float) (i : ℕ) (s₀ : Seen) where

@@ -5,33 +5,48 @@ use mathlib.Core.List.{List}
 use native.Mathlib.Omega.{arith}
 use lib.Ieee.{Float}
 use Rattle.floats.proofs.Folds.{fold-cong, all-cong}
+use Rattle.book.specs.Book.{modelOf}
 use Rattle.book.proofs.Unread.{AgreeBehind}
 use Rattle.records.specs.Parameters.{parametersOf}
 use Rattle.records.proofs.Unread.{vapor-pressure-unread, vapor-pressure-range-unread, density-range-unread, regression-unread, parameters-unread}
 use Rattle.thermo_models.specs.declared.Seen.{Seen}
-use Rattle.thermo_models.specs.Domain.{solventCovers, temperatureInDomain, puresTo, pureLiquidsOf}
+use Rattle.thermo_models.specs.Domain.{vaporRecord, vaporRange, densityRange, solventCovers, temperatureInDomain, puresTo, pureLiquidsOf}
 use Rattle.thermo_models.specs.Validity.{unseen, visited, rowSeen, allSeen, validityOf}
 use Rattle.thermo_models.specs.Activity.{excessOf}
 use Rattle.thermo_models.specs.Mixture.{mixtureOf}
 
--- of two books of n solvents
-module _ (s t : List ℕ) (n : ℕ) (a : AgreeBehind s t n) where
+-- the same correlations of the solvents below n
+pub record SameSolvents (s t : List ℕ) (n : ℕ) : Type 0 where
+  pub vapor : (i : ℕ) → i < n → vaporRecord s i ≡ vaporRecord t i
+  pub vapors : (i : ℕ) → i < n → vaporRange s i ≡ vaporRange t i
+  pub densities : (i : ℕ) → i < n → densityRange s i ≡ densityRange t i
+
+module _ (s t : List ℕ) (n : ℕ) (a : SameSolvents s t n) where
   covers-same : (T : Float) (i : ℕ) → i < n → solventCovers s T i ≡ solventCovers t T i
   unfolding solventCovers
-  covers-same T i l = rw (vapor-pressure-range-unread s t n a i l, density-range-unread s t n a i l)
+  covers-same T i l = rw (a .vapors i l, a .densities i l)
 
-  domain-unread : (T : Float) → temperatureInDomain s n T ≡ temperatureInDomain t n T
+  pub domain-same : (T : Float) → temperatureInDomain s n T ≡ temperatureInDomain t n T
   unfolding temperatureInDomain
-  domain-unread T = rw (all-cong n (covers-same T))
+  domain-same T = rw (all-cong n (covers-same T))
 
   pures-same : (T : Float) (k : ℕ) → k ≤ n → puresTo s T k ≡ puresTo t T k
   unfolding puresTo
   pures-same T zero l = refl
-  pures-same T (suc k) l = rw (pures-same T k (omega arith), vapor-pressure-unread s t n a k (omega arith))
+  pures-same T (suc k) l = rw (pures-same T k (omega arith), a .vapor k (omega arith))
 
-  liquids-unread : (T : Float) → pureLiquidsOf s n T ≡ pureLiquidsOf t n T
+  pub liquids-same : (T : Float) → pureLiquidsOf s n T ≡ pureLiquidsOf t n T
   unfolding pureLiquidsOf
-  liquids-unread T = rw (domain-unread T, pures-same T n (omega arith))
+  liquids-same T = rw (domain-same T, pures-same T n (omega arith))
+
+pub excess-same : (s t : List ℕ) (P : List Float) (n : ℕ) → modelOf s ≡ modelOf t → (T : Float) (x : List Float) → excessOf s P n T x ≡ excessOf t P n T x
+unfolding excessOf
+excess-same s t P n e T x = rw e
+
+-- of two books of n solvents
+module _ (s t : List ℕ) (n : ℕ) (a : AgreeBehind s t n) where
+  solvents-unread : SameSolvents s t n
+  solvents-unread = record { vapor = vapor-pressure-unread s t n a; vapors = vapor-pressure-range-unread s t n a; densities = density-range-unread s t n a }
 
   module _ (T : Float) (x : List Float) where
     visited-same : (i j : ℕ) (w : Seen) → visited s n T x i j w ≡ visited t n T x i j w
@@ -50,9 +65,12 @@ module _ (s t : List ℕ) (n : ℕ) (a : AgreeBehind s t n) where
     unfolding validityOf
     validity-unread = rw all-same
 
-  excess-unread : (P : List Float) (T : Float) (x : List Float) → excessOf s P n T x ≡ excessOf t P n T x
-  unfolding excessOf
-  excess-unread P T x = rw (a .model)
-
   pub mixture-unread : mixtureOf s n ≡ mixtureOf t n
-  mixture-unread = rw (parameters-unread s t n a, fun-ext (λ T. fun-ext (excess-unread (parametersOf t n) T)), fun-ext liquids-unread, fun-ext domain-unread, fun-ext (λ T. fun-ext (validity-unread T)))
+  mixture-unread =
+      rw (
+        parameters-unread s t n a,
+        fun-ext (λ T. fun-ext (excess-same s t (parametersOf t n) n (a .model) T)),
+        fun-ext (liquids-same s t n solvents-unread),
+        fun-ext (domain-same s t n solvents-unread),
+        fun-ext (λ T. fun-ext (validity-unread T)),
+      )

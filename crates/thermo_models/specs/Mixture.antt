@@ -23,15 +23,15 @@ pub record Mixture : Type 0 where
 abbrev pub activity : Mixture → Activities
 activity m t x = activityIn (m .excess t x)
 
--- the book's, with the parameters P
-abbrev pub mixtureWith : List ℕ → List Float → ℕ → Mixture
-mixtureWith book P n = record {
+-- the book's, with the parameters P, and the intervals of the pairs in a copy of it
+abbrev pub mixtureWith : List ℕ → List Float → List ℕ → ℕ → Mixture
+mixtureWith book P copy n = record {
   n = n;
   excess = excessOf book P n;
   liquids = pureLiquidsOf book n;
   domain = temperatureInDomain book n;
-  validity = validityOf book n;
+  validity = validityOf copy n;
 }
 
 abbrev pub mixtureOf : List ℕ → ℕ → Mixture
-mixtureOf book n = mixtureWith book (parametersOf book n) n
+mixtureOf book n = mixtureWith book (parametersOf book n) book n

@@ -10,6 +10,7 @@ ghost use Rattle.floats.specs.Fold.{allTo};
 ghost use Rattle.floats.specs.Vector.{at, vec, places};
 ghost use Rattle.numerics.specs.Numerics.{expOf};
 ghost use Rattle.book.specs.declared.Model.the-variants.{Nrtl, Wilson};
+ghost use Rattle.records.specs.Offered.{offeredPlace, withPair};
 ghost use Rattle.liquid.specs.Vapor.{vaporOf};
 ghost use Rattle.excess.specs.Answers.{Gives};
 ghost use Rattle.thermo_models.specs.Model.{ActivityIs, PuresAre, pressureInDomain};
@@ -284,12 +285,22 @@ fn note(r: Regression, t: f64, s: Seen) -> Seen
     }
 }
 
-fn visit(book: &[u8], n: usize, t: f64, x: &[f64; 8], i: usize, j: usize, s: Seen) -> Seen
-    requires { ⌜ (n ≤ 8) × (i < n) × (j < n) ⌝ }
-    ensures { λ r. ⌜ r ≡ visited (now (book .entry)) n t (now (x .entry)) i j s ⌝ }
+fn visit(
+    book: &[u8],
+    offered: &[u8],
+    place: usize,
+    n: usize,
+    t: f64,
+    x: &[f64; 8],
+    i: usize,
+    j: usize,
+    s: Seen,
+) -> Seen
+    requires { ⌜ (n ≤ 8) × (i < j) × (j < n) × (place ≡ offeredPlace n (now book) (now offered)) ⌝ }
+    ensures { λ r. ⌜ r ≡ visited (withPair n (now (book .entry)) (now (offered .entry))) n t (now (x .entry)) i j s ⌝ }
 {
     if !(x[i] <= 0.0) & !(x[j] <= 0.0) {
-        let pair = records::pair_record(book, n, i, j);
+        let pair = records::pair_record(book, offered, place, n, i, j);
         let interval = pair.regression;
         note(interval, t, s)
     } else {
@@ -297,21 +308,31 @@ fn visit(book: &[u8], n: usize, t: f64, x: &[f64; 8], i: usize, j: usize, s: See
     }
 }
 
-fn see_row(book: &[u8], n: usize, t: f64, x: &[f64; 8], i: usize, seen: Seen) -> Seen
-    requires { ⌜ (n ≤ 8) × (i < n) ⌝ }
-    ensures { λ r. ⌜ r ≡ rowSeen (now (book .entry)) n t (now (x .entry)) i n seen ⌝ }
+fn see_row(
+    book: &[u8],
+    offered: &[u8],
+    place: usize,
+    n: usize,
+    t: f64,
+    x: &[f64; 8],
+    i: usize,
+    seen: Seen,
+) -> Seen
+    requires { ⌜ (n ≤ 8) × (i < n) × (place ≡ offeredPlace n (now book) (now offered)) ⌝ }
+    ensures { λ r. ⌜ r ≡ rowSeen (withPair n (now (book .entry)) (now (offered .entry))) n t (now (x .entry)) i n seen ⌝ }
 {
     let mut s = seen;
     for j in i + 1..n {
-        s = visit(book, n, t, x, i, j, s);
+        s = visit(book, offered, place, n, t, x, i, j, s);
     }
     s
 }
 
-fn see_all(book: &[u8], n: usize, t: f64, x: &[f64; 8]) -> Seen
+fn see_all(book: &[u8], offered: &[u8], n: usize, t: f64, x: &[f64; 8]) -> Seen
     requires { ⌜ n ≤ 8 ⌝ }
-    ensures { λ r. ⌜ r ≡ allSeen (now (book .entry)) n t (now (x .entry)) ⌝ }
+    ensures { λ r. ⌜ r ≡ allSeen (withPair n (now (book .entry)) (now (offered .entry))) n t (now (x .entry)) ⌝ }
 {
+    let place = records::offered_place(book, offered, n);
     let mut s = Seen {
         active: false,
         missing: false,
@@ -319,7 +340,7 @@ fn see_all(book: &[u8], n: usize, t: f64, x: &[f64; 8]) -> Seen
         inferred: false,
     };
     for i in 0..n {
-        s = see_row(book, n, t, x, i, s);
+        s = see_row(book, offered, place, n, t, x, i, s);
     }
     s
 }
@@ -336,11 +357,11 @@ fn status_of(s: Seen) -> ValidityStatus
     ValidityStatus::WithinDeclaredDomain
 }
 
-// Over pairs with both fractions positive.
-pub fn validity(book: &[u8], n: usize, t: Temperature, x: &[f64; 8]) -> Assessment
-    ensures { λ r. ⌜ r ≡ validityOf (now (book .entry)) (places n) (t .0) (now (x .entry)) ⌝ }
+// Over pairs with both fractions positive; a pair offered stands in the place of the book's own.
+pub fn validity(book: &[u8], offered: &[u8], n: usize, t: Temperature, x: &[f64; 8]) -> Assessment
+    ensures { λ r. ⌜ r ≡ validityOf (withPair (places n) (now (book .entry)) (now (offered .entry))) (places n) (t .0) (now (x .entry)) ⌝ }
 {
-    let s = see_all(book, floats::places(n), t.value(), x);
+    let s = see_all(book, offered, floats::places(n), t.value(), x);
     let inferred = s.inferred;
     Assessment {
         status: status_of(s),

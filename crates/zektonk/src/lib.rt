@@ -4,6 +4,7 @@ ghost use mathlib.Core.Path.{_≡_};
 ghost use Rattle.sheet.specs.Sheet.{sheetOf, numberOf, Answers};
 ghost use Rattle.pool.specs.Pool.{pooledOf};
 ghost use Rattle.batch.specs.Feeds.{feedsOf, sliceOf};
+ghost use Rattle.preview.specs.Preview.{previewOf};
 
 // 0 and the answer's blocks at the front of `out`; or the number of the question that was answered no, and `out` as it was.
 #[no_mangle]
@@ -28,4 +29,17 @@ pub extern "C" fn zektonk_feeds(book: &[u8], question: &[u8], feeds: &[u8], out:
     ensures { λ r. ⌜ (r ≡ numberOf (feedsOf (now (book .entry)) (now (question .entry)) (now (feeds .entry)) (now (out .entry)))) × (now (out .exit) ≡ sliceOf (feedsOf (now (book .entry)) (now (question .entry)) (now (feeds .entry)) (now (out .entry))) (now (out .entry))) ⌝ }
 {
     batch::answer(book, question, feeds, out)
+}
+
+// As `zektonk_answer` on a copy of the book that holds the offered pair block in the place of its own; the book is only read.
+#[no_mangle]
+pub extern "C" fn zektonk_preview(
+    book: &[u8],
+    offered: &[u8],
+    question: &[u8],
+    out: &mut [u8],
+) -> u64
+    ensures { λ r. ⌜ Answers (previewOf (now (book .entry)) (now (offered .entry)) (now (question .entry)) (length (now (out .entry)))) r (now (out .entry)) (now (out .exit)) ⌝ }
+{
+    preview::answer(book, offered, question, out)
 }

@@ -1,6 +1,6 @@
 //! Times of the core and of the reference on the same inputs in one run: nanoseconds a call, median of five.
 //!
-//! bench numbers|book|excess|rice|sheet|wilson|pooled|feeds|all
+//! bench numbers|book|excess|rice|sheet|wilson|pooled|feeds|preview|all
 
 use std::hint::black_box;
 use std::process::ExitCode;
@@ -9,7 +9,7 @@ use reference::generate::{books, feeds as fractions, mass, pooled, questions, sm
 use reference::helpers;
 use reference::named::rachford_rice::{rachford_rice, rachford_rice_negative, RachfordRiceOutcome};
 use reference::rattle;
-use reference::sheet::blocks::words_of;
+use reference::sheet::blocks::{rule_of, words_of, BLOCK};
 use reference::sheet::question::FRACTIONS;
 use reference::sheet::{answer, feeds, open_book, pool, ANSWER_BYTES};
 use reference::stage::padded;
@@ -25,7 +25,7 @@ const RUN: f64 = 2e7;
 
 fn main() -> ExitCode {
     let stage = std::env::args().nth(1).unwrap_or_default();
-    let stages: [(&str, fn()); 8] = [
+    let stages: [(&str, fn()); 9] = [
         ("numbers", bench_numbers),
         ("book", bench_book),
         ("excess", bench_excess),
@@ -34,11 +34,12 @@ fn main() -> ExitCode {
         ("wilson", bench_wilson),
         ("pooled", bench_pooled),
         ("feeds", bench_feeds),
+        ("preview", bench_preview),
     ];
     let chosen: Vec<_> = stages.iter().filter(|(name, _)| *name == stage || stage == "all").collect();
     chosen.iter().for_each(|(_, bench)| bench());
     if chosen.is_empty() {
-        eprintln!("usage: bench numbers|book|excess|rice|sheet|wilson|pooled|feeds|all");
+        eprintln!("usage: bench numbers|book|excess|rice|sheet|wilson|pooled|feeds|preview|all");
         return ExitCode::from(2);
     }
     ExitCode::SUCCESS
@@ -430,5 +431,38 @@ fn time_feeds(model: &str, task: u64, m: usize, book: Drafts) {
                 drop_value(rattle::answer(book, question, part));
             }
         },
+    );
+}
+
+/// The core alone: a preview, and the plain call on the copy.
+fn bench_preview() {
+    for (model, book) in [("", books::realistic as Drafts), ("Wilson ", wilson::realistic)] {
+        for task in 1..=9 {
+            time_preview(model, task, book);
+        }
+    }
+}
+
+fn time_preview(model: &str, task: u64, book: Drafts) {
+    const N: usize = 8;
+    let inputs = many(|rng| {
+        let (copy, question) = accepted(rng, N, task, book);
+        // A pair of the copy, offered to a book that has another of its pairs there.
+        let place = |k: usize| BLOCK * (1 + N + k);
+        let (at, from) = (place(rng.below(28)), place(rng.below(28)));
+        let offered = copy[at..at + BLOCK].to_vec();
+        let mut words = words_of(&copy[from..from + BLOCK]);
+        words[1..3].copy_from_slice(&words_of(&offered)[1..3]);
+        let mut book = copy.clone();
+        book[at..at + BLOCK].copy_from_slice(&small::sealed_by(rule_of(&copy), words));
+        (book, offered, question, copy)
+    });
+    let (mut out, mut other) = ([0; ANSWER_BYTES], [0; ANSWER_BYTES]);
+    beside_plain(
+        &format!("{model}preview of task {task}, n = {N}"),
+        "the plain call",
+        &inputs,
+        |(book, offered, question, _)| rattle::preview(book, offered, question, &mut out).map(drop_value),
+        |(_, _, question, copy)| drop_value(rattle::answer(copy, question, &mut other)),
     );
 }

@@ -1,4 +1,4 @@
-//! Calls the core with book, question and answer slices, and drums or feeds, that end, or begin, at a page that can't
+//! Calls the core with book, question and answer slices, and drums, feeds or an offered pair, that end, or begin, at a page that can't
 //! be touched, and compares every byte with the reference.
 //!
 //! guarded [--count N] [--seed S]
@@ -14,7 +14,7 @@ use reference::command::count_and_seed;
 use reference::counts::Tally;
 use reference::generate::cases::{sheets, Cases};
 use reference::generate::Rng;
-use reference::rattle::{zektonk_answer, zektonk_feeds, zektonk_pooled};
+use reference::rattle::{zektonk_answer, zektonk_feeds, zektonk_pooled, zektonk_preview};
 use reference::sheet::blocks::{bytes_of, rule_of, seal, words_of, Rule, BLOCK};
 use reference::sheet::feeds::FEED;
 use reference::sheet::question::{MAX_ITERATIONS, MAX_TEMPERATURE_ITERATIONS};
@@ -176,6 +176,7 @@ impl Pages {
                 None => zektonk_answer(b, b_len, q, q_len, a, a_len),
                 Some((With::Drums, _)) => zektonk_pooled(b, b_len, q, q_len, m, m_len, a, a_len),
                 Some((With::Feeds, _)) => zektonk_feeds(b, b_len, q, q_len, m, m_len, a, a_len),
+                Some((With::Pair, _)) => zektonk_preview(b, b_len, m, m_len, q, q_len, a, a_len),
             }
         };
         for area in [&self.book, &self.question, &self.more] {
@@ -204,7 +205,7 @@ fn call(rng: &mut Rng, book: Vec<u8>, question: Vec<u8>) -> Call {
     Call { book, question, more: None, room: room(rng), at_end, null: rng.one_in(4) }
 }
 
-/// As `calls`, with drums or feeds: as they are in half of the calls, changed, of another length, or noise.
+/// As `calls`, with drums, feeds or a pair: as they are in half of the calls, changed, of another length, or noise.
 fn calls_with(rng: &mut Rng, case: &Case) -> Vec<Call> {
     let Case::With { with, book, question, lent, .. } = case else { unreachable!("one slice more was asked for") };
     let mut all = calls(rng, book, question);
@@ -215,6 +216,7 @@ fn calls_with(rng: &mut Rng, case: &Case) -> Vec<Call> {
             1 => more.resize(rng.below(MORE + 1), 0),
             2 => more = noise(rng, MORE),
             3 => more.clear(),
+            4 if *with == With::Pair => more = mutated(rng, &more, BLOCK, true, |_| rule_of(&call.book)),
             _ => {}
         }
         if *with == With::Feeds {
@@ -319,17 +321,17 @@ fn main() -> ExitCode {
     };
     let mut rng = Rng::new(seed ^ 0x6775_6172_6465_6421);
     let mut pages = Pages::new(&mut rng);
-    let mut tallies = [Tally::default(), Tally::default(), Tally::default()];
+    let mut tallies = [Tally::default(), Tally::default(), Tally::default(), Tally::default()];
     let (mut made, mut differences) = (0, 0);
     let mut plain = sheets(seed);
-    let mut others = [Stage::Pooled, Stage::Feeds].map(|stage| Cases::new(stage, seed, false));
+    let mut others = [Stage::Pooled, Stage::Feeds, Stage::Preview].map(|stage| Cases::new(stage, seed, false));
     for turn in 0.. {
         if made >= count {
             break;
         }
         // Half of the sheets have nothing more.
         let all = if turn % 2 == 1 {
-            calls_with(&mut rng, &others[turn / 2 % 2].draw().1)
+            calls_with(&mut rng, &others[turn / 2 % 3].draw().1)
         } else {
             let (book, question) = plain.next().expect("sheets have no end");
             calls(&mut rng, &book, &question)
@@ -346,7 +348,7 @@ fn main() -> ExitCode {
             }
         }
     }
-    for (what, tally) in ["plain", "with drums", "with feeds"].iter().zip(&tallies) {
+    for (what, tally) in ["plain", "with drums", "with feeds", "with a pair"].iter().zip(&tallies) {
         let (all, accepted, refused) = (tally.all(), tally.accepted(), tally.refused());
         println!("guarded, {what}: {all} calls, {accepted} accepted, refused {refused}");
     }
@@ -363,6 +365,7 @@ fn place(call: &Call) -> usize {
         None => 0,
         Some((With::Drums, _)) => 1,
         Some((With::Feeds, _)) => 2,
+        Some((With::Pair, _)) => 3,
     }
 }
 

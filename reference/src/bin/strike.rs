@@ -1,8 +1,8 @@
 //! Runs demand 3 on the core: generated sheets with absent solvents, and the same sheets with those struck. Every sheet asked is
 //! compared with the reference's plain call too.
 //!
-//! strike [--count N] [--seed S] [--task K] [--wilson] [--feeds]     N accepted sheets, as many of each task, or of task K; of
-//! NRTL books, or of Wilson books and tasks 1 to 7; by the plain call, or as one of several feeds (tasks 1, 2, 3, 6, 7)
+//! strike [--count N] [--seed S] [--task K] [--wilson] [--feeds|--preview]     N accepted sheets, as many of each task, or of task K; of
+//! NRTL books, or of Wilson books and tasks 1 to 7; by the plain call, as one of several feeds (tasks 1, 2, 3, 6, 7), or by a preview
 
 use std::process::ExitCode;
 
@@ -12,7 +12,7 @@ use reference::generate::Rng;
 use reference::sheet::blocks::{rule_of, Rule};
 use reference::sheet::{feeds, ANSWER_BYTES};
 use reference::stage::{hex_bytes, Stage};
-use reference::strike::{core, core_feeds, reference, shown, Call, Sheet, Shown, TASKS};
+use reference::strike::{core, core_feeds, core_preview, reference, shown, Call, Sheet, Shown, TASKS};
 
 /// Books that are tried with a question.
 const TRIES: usize = 4;
@@ -36,7 +36,7 @@ struct Counts {
 
 fn main() -> ExitCode {
     let Some(Options { count, seed, tasks, wilson, by }) = options() else {
-        eprintln!("usage: strike [--count N] [--seed S] [--task K] [--wilson] [--feeds]");
+        eprintln!("usage: strike [--count N] [--seed S] [--task K] [--wilson] [--feeds|--preview]");
         return ExitCode::from(2);
     };
     if !by.built_in() {
@@ -72,6 +72,7 @@ struct Options {
 fn call_of(by: Stage) -> Call {
     match by {
         Stage::Feeds => core_feeds,
+        Stage::Preview => core_preview,
         _ => core,
     }
 }
@@ -87,6 +88,7 @@ fn options() -> Option<Options> {
             "--task" => task = Some(words.next()?.parse().ok().filter(|task| TASKS.contains(task))?),
             "--wilson" => wilson = true,
             "--feeds" => by = Stage::Feeds,
+            "--preview" => by = Stage::Preview,
             _ => return None,
         }
     }

@@ -2,7 +2,7 @@
 
 use super::exchanged::Exchange;
 use super::{
-    batches, books, differences, exchanged, feeds, mass, numbers, pooled, questions, rice, small, wilson, Rng,
+    batches, books, differences, exchanged, feeds, mass, numbers, pooled, previews, questions, rice, small, wilson, Rng,
 };
 use crate::sheet::open_book;
 use crate::stage::{Case, Function, Stage};
@@ -57,6 +57,7 @@ impl Cases {
             Stage::Wilson if !compact => wilson::borders().into_iter().map(|(case, _)| case).collect(),
             Stage::Pooled if !compact => pooled::borders().into_iter().map(|(case, _)| case).collect(),
             Stage::Feeds if !compact => batches::borders().into_iter().map(|(case, _)| case).collect(),
+            Stage::Preview if !compact => previews::borders().into_iter().map(|(case, _)| case).collect(),
             _ => Vec::new(),
         };
         let rng = if compact { Rng::tidy(seed) } else { Rng::new(seed) };
@@ -94,6 +95,7 @@ impl Cases {
             Stage::Wilson => return wilson::draw(&mut self.rng, n),
             Stage::Pooled => return pooled::draw(&mut self.rng, n),
             Stage::Feeds => return batches::draw(&mut self.rng, n),
+            Stage::Preview => return previews::draw(&mut self.rng, n),
             _ => {}
         }
         // The stored ones of versions 2 and 3 stand among the sheets.

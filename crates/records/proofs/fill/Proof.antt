@@ -3,17 +3,18 @@ use mathlib.Core.Path.{_≡_}
 use Prim.Native.Nat.{_≤_, _-_}
 use native.Mathlib.Omega.{arith}
 use borrow.Author.Needs.{needs}
-use Rattle.book.specs.Places.{words}
+use Rattle.blocks.specs.Words.{word}
 use Rattle.records.proofs.Loads.{rows-holds, rows-turn, rows-done}
+use Rattle.records.specs.Offered.{pairAt}
 use Rattle.records.specs.Parameters.{parameter, parameterRows}
 use Rattle.records.proofs.fill.Statement.{statement}
 use Rattle.records.proofs.fill.Tie as tie
 
 abbrev Inv-loop : tie.InvT-loop
-Inv-loop model book n plane₀ i₀ plane i = (i ≤ n) × (plane ≡ parameterRows (parameter model (words book) n) n i)
+Inv-loop model book offered place n plane₀ i₀ plane i = (i ≤ n) × (plane ≡ parameterRows (parameter model (λ k. word (pairAt book offered place k)) n) n i)
 
 abbrev μ-loop : tie.MeasureT-loop
-μ-loop model book n plane₀ i₀ plane i = n - i
+μ-loop model book offered place n plane₀ i₀ plane i = n - i
 
 loop-holds : tie.Need-loop-holds Inv-loop μ-loop
 loop-holds c = (omega arith, rows-holds _ _)

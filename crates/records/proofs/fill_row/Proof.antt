@@ -3,17 +3,18 @@ use mathlib.Core.Path.{_≡_}
 use Prim.Native.Nat.{_≤_, _-_}
 use native.Mathlib.Omega.{arith}
 use borrow.Author.Needs.{needs}
-use Rattle.book.specs.Places.{words}
+use Rattle.blocks.specs.Words.{word}
 use Rattle.records.proofs.Loads.{terms-stored, row-holds, row-turn, row-done}
+use Rattle.records.specs.Offered.{pairAt}
 use Rattle.records.specs.Parameters.{parameter, parameterRow}
 use Rattle.records.proofs.fill_row.Statement.{statement}
 use Rattle.records.proofs.fill_row.Tie as tie
 
 abbrev Inv-loop : tie.InvT-loop
-Inv-loop model book n i plane₀ j₀ plane j = (j ≤ n) × (plane ≡ parameterRow (parameter model (words book) n i) j i plane₀)
+Inv-loop model book offered place n i plane₀ j₀ plane j = (j ≤ n) × (plane ≡ parameterRow (parameter model (λ k. word (pairAt book offered place k)) n i) j i plane₀)
 
 abbrev μ-loop : tie.MeasureT-loop
-μ-loop model book n i plane₀ j₀ plane j = n - j
+μ-loop model book offered place n i plane₀ j₀ plane j = n - j
 
 loop-holds : tie.Need-loop-holds Inv-loop μ-loop
 loop-holds c = (omega arith, row-holds _ _ _)

@@ -1,6 +1,6 @@
--- `records::pair_record` meets its contract. From what the callees ensure. Assumes nothing.
+-- `records::pair_record` meets its contract. The offered block, or the book's. Assumes nothing.
 use borrow.Author.Needs.{needs}
-use Rattle.records.proofs.Rows.{pair-placed}
+use borrow.Author.Tests.{eq-eqb, ne-eqb}
 use Rattle.records.proofs.pair_record.Statement.{statement}
 use Rattle.records.proofs.pair_record.Tie as tie
 
@@ -16,14 +16,33 @@ places-requires-2 c κs = search needs
 places-requires-3 : tie.Need-places-requires-3
 places-requires-3 c κs = search needs
 
-pair-block-requires : tie.Need-pair-block-requires
-pair-block-requires c κs = search needs
+pair-place-requires : tie.Need-pair-place-requires
+pair-place-requires c κs = search needs
 
 pair-at-requires : tie.Need-pair-at-requires
 pair-at-requires c κs = search needs
 
 returns : tie.Need-returns
-returns c = search pair-placed
+returns c = let k = c .before .before in
+    let j = k .before in
+    let i = j .before in
+    let n = i .before in
+    rw (← n .before .model-of .ensures, ← n .places .ensures, ← i .places2 .ensures, ← j .places3 .ensures, ← k .pair-place .ensures)
+    (rw (eq-eqb _ _ (c .before .if1 .taken)) (c .pair-at .ensures))
+
+block-requires : tie.Need-block-requires
+block-requires c κs = search needs
+
+pair-at-requires-2 : tie.Need-pair-at-requires-2
+pair-at-requires-2 c κs = search needs
+
+returns-2 : tie.Need-returns-2
+returns-2 c = let k = c .before .before .before in
+    let j = k .before in
+    let i = j .before in
+    let n = i .before in
+    rw (← n .before .model-of .ensures, ← n .places .ensures, ← i .places2 .ensures, ← j .places3 .ensures, ← k .pair-place .ensures)
+    (rw (ne-eqb _ _ (c .before .before .if1 .left), ← c .before .block .ensures) (c .pair-at2 .ensures))
 
 pub pair-record-spec : {M : Type 1} → statement M
 pair-record-spec =
@@ -33,6 +52,9 @@ pair-record-spec =
     places-requires
     places-requires-2
     places-requires-3
-    pair-block-requires
+    pair-place-requires
     pair-at-requires
-    returns)
+    returns
+    block-requires
+    pair-at-requires-2
+    returns-2)

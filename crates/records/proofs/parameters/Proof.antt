@@ -1,8 +1,11 @@
 -- `records::parameters` meets its contract. From what the callees ensure. Assumes nothing.
 use borrow.Author.Needs.{needs}
-use Rattle.records.specs.Parameters.{parametersOf}
+use Rattle.records.proofs.Offered.{copy-parameters}
 use Rattle.records.proofs.parameters.Statement.{statement}
 use Rattle.records.proofs.parameters.Tie as tie
+
+offered-place-requires : tie.Need-offered-place-requires
+offered-place-requires c κs = search needs
 
 model-of-requires : tie.Need-model-of-requires
 model-of-requires c κs = search needs
@@ -14,8 +17,8 @@ fill-requires : tie.Need-fill-requires
 fill-requires c κs = search needs
 
 returns : tie.Need-returns
-unfolding parametersOf
-returns c = rw (c .before .before .places .ensures, c .before .before .before .model-of .ensures) at (c .fill .ensures)
+returns c = let n = c .before .before in
+    rw copy-parameters (rw (n .places .ensures, n .before .model-of .ensures, n .before .before .offered-place .ensures) at (c .fill .ensures))
 
 pub parameters-spec : {M : Type 1} → statement M
-parameters-spec = tie.close (tie.spec model-of-requires places-requires fill-requires returns)
+parameters-spec = tie.close (tie.spec offered-place-requires model-of-requires places-requires fill-requires returns)

@@ -1,30 +1,21 @@
--- `sheet::answer_asked` meets its contract. Assumes nothing.
+-- `sheet::answer_asked` meets its contract: nothing is offered. Assumes nothing.
 use borrow.Author.Needs.{needs}
-use Rattle.sheet.proofs.Dispatch.{short, asked}
+use Rattle.records.proofs.Offered.{copy-nothing}
 use Rattle.sheet.proofs.answer_asked.Statement.{statement}
 use Rattle.sheet.proofs.answer_asked.Tie as tie
 
-returns : tie.Need-returns
-returns c = search short
+slice-aggregate-answer-offered : tie.Need-slice-aggregate-answer-offered
+slice-aggregate-answer-offered c = search needs
 
-rule-of-requires : tie.Need-rule-of-requires
-rule-of-requires c κs = search needs
-
-solve-requires : tie.Need-solve-requires
-solve-requires c κs = search needs
+answer-offered-requires : tie.Need-answer-offered-requires
+answer-offered-requires c κs = search needs
 
 same-length : tie.Need-same-length
 same-length c = search needs
 
-returns-2 : tie.Need-returns-2
-returns-2 c = search asked
+returns : tie.Need-returns
+returns c = rw copy-nothing at (c .before .before .answer-offered .ensures)
 
 pub answer-asked-spec : {M : Type 1} → statement M
 answer-asked-spec =
-    tie.close
-    (tie.spec
-    returns
-    rule-of-requires
-    solve-requires
-    same-length
-    returns-2)
+    tie.close (tie.spec slice-aggregate-answer-offered answer-offered-requires same-length returns)

@@ -20,7 +20,7 @@ same-length : tie.Need-same-length
 same-length c = search needs
 
 returns-2 : tie.Need-returns-2
-returns-2 c h = ready-at _ _ h (c .before .before .before .before .before .made2 .given .1) (c .before .before .task-at .ensures _)
+returns-2 c h = ready-at _ _ h (c .before .before .before .before .before .made2 .given .1) (c .before .before .task-at .ensures)
 
 pub answer-at-spec : {M : Type 1} → statement M
 answer-at-spec =

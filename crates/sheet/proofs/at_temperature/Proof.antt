@@ -5,8 +5,8 @@ use Rattle.floats.specs.Arithmetic.{0f}
 use Rattle.sheet.proofs.at_temperature.Statement.{statement}
 use Rattle.sheet.proofs.at_temperature.Tie as tie
 
-make-ready-requires : tie.Need-make-ready-requires
-make-ready-requires c κs = search needs
+ready-offered-requires : tie.Need-ready-offered-requires
+ready-offered-requires c κs = search needs
 
 answer-at-requires : tie.Need-answer-at-requires
 answer-at-requires c κs = search needs
@@ -15,8 +15,8 @@ same-length : tie.Need-same-length
 same-length c = search needs
 
 returns : tie.Need-returns
-returns c = c .before .before .answer-at .ensures (c .before .before .before .before .before .before .make-ready .ensures (length-replicate 512 0f))
+returns c = c .before .before .answer-at .ensures (c .before .before .before .before .before .before .ready-offered .ensures (length-replicate 512 0f))
 
 pub at-temperature-spec : {M : Type 1} → statement M
 at-temperature-spec =
-    tie.close (tie.spec make-ready-requires answer-at-requires same-length returns)
+    tie.close (tie.spec ready-offered-requires answer-at-requires same-length returns)

@@ -8,7 +8,7 @@ check-temperature-requires : tie.Need-check-temperature-requires
 check-temperature-requires c κs = search needs
 
 returns : tie.Need-returns
-returns c P = search flash-cold
+returns c P copy = search flash-cold
 
 value-requires : tie.Need-value-requires
 value-requires c κs = search needs
@@ -17,13 +17,13 @@ check-pressure-requires : tie.Need-check-pressure-requires
 check-pressure-requires c κs = search needs
 
 returns-2 : tie.Need-returns-2
-returns-2 c P = search flash-hard
+returns-2 c P copy = search flash-hard
 
 pure-pressures-requires : tie.Need-pure-pressures-requires
 pure-pressures-requires c κs = search needs
 
 returns-3 : tie.Need-returns-3
-returns-3 c P = search flash-pressed
+returns-3 c P copy = search flash-pressed
 
 pub flash-pressures-spec : {M : Type 1} → statement M
 flash-pressures-spec =

@@ -23,26 +23,26 @@ flash-pressures-requires : tie.Need-flash-pressures-requires
 flash-pressures-requires c κs = search needs
 
 returns : tie.Need-returns
-returns c P = pressures-none _ (pressures-unread _ _ _ (c .before .match .keys1))
+returns c P copy = pressures-none _ (pressures-unread _ _ _ (c .before .match .keys1))
 
 returns-2 : tie.Need-returns-2
-returns-2 c P =
+returns-2 c P copy =
     let n = c .before .before .before .before in
     pressures-same (pressures-pure _ _ _ (n .match .rest .1) (c .before .before .before .if1 .left) (c .before .before .if2 .taken)) (c .pure-pressures .ensures)
 
 returns-3 : tie.Need-returns-3
-returns-3 c P =
+returns-3 c P copy =
     let n = c .before .before .before .before in
     let a = ⊎-elim (λ w. inl (w .taken)) (λ w. inr (w .1 .left)) (n .if1 .came) in
     pressures-no _ (pressures-other _ _ _ (n .before .match .rest .1) a ∙ bind-no _ (pascal-no _ (c .before .before .before .new .ensures) (c .before .made .given .1)))
 
 returns-4 : tie.Need-returns-4
-returns-4 c P =
+returns-4 c P copy =
     let m = c .before .before .before in
     let n = m .before .before .before in
     let a = ⊎-elim (λ w. inl (w .taken)) (λ w. inr (w .1 .left)) (n .if1 .came) in
     let o = pressures-other _ _ _ (n .before .match .rest .1) a in
-    pressures-same (o ∙ bind-yes _ (pascal-ok _ (m .before .before .new .ensures) (m .made2 .given .1))) (c .flash-pressures .ensures P)
+    pressures-same (o ∙ bind-yes _ (pascal-ok _ (m .before .before .new .ensures) (m .made2 .given .1))) (c .flash-pressures .ensures P copy)
 
 pub pressures-for-spec : {M : Type 1} → statement M
 pressures-for-spec =

@@ -1,5 +1,6 @@
 -- `sheet::solve` meets its contract. Assumes nothing.
 use borrow.Author.Needs.{needs}
+use Rattle.sheet.specs.Tasks.{taskSplit, task8, task9}
 use Rattle.sheet.proofs.Dispatch.{solved-at, solved-under, solved-split}
 use Rattle.sheet.proofs.solve.Statement.{statement}
 use Rattle.sheet.proofs.solve.Tie as tie
@@ -35,6 +36,7 @@ same-length-3 : tie.Need-same-length-3
 same-length-3 c = search needs
 
 returns-3 : tie.Need-returns-3
+unfolding taskSplit task8 task9
 returns-3 c = search solved-split
 
 pub solve-spec : {M : Type 1} → statement M

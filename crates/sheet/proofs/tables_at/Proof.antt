@@ -11,7 +11,7 @@ tables-requires : tie.Need-tables-requires
 tables-requires c κs = search needs
 
 returns : tie.Need-returns
-returns c l = tabled _ _ (c .before .before .before .parameters2 .ensures) (c .tables .ensures) l
+returns c l = tabled _ _ _ (c .before .before .before .parameters2 .ensures) (c .tables .ensures) l
 
 pub tables-at-spec : {M : Type 1} → statement M
 tables-at-spec = tie.close (tie.spec parameters-requires tables-requires returns)

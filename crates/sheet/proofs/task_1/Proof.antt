@@ -22,7 +22,7 @@ same-length c = search needs
 
 returns : tie.Need-returns
 unfolding task1
-returns c P h = search (excess-asked, h)
+returns c h = search (excess-asked, h)
 
 pub task-1-spec : {M : Type 1} → statement M
 task-1-spec =

@@ -31,31 +31,31 @@ same-length : tie.Need-same-length
 same-length c = search needs
 
 returns : tie.Need-returns
-returns c P h w = at-1 _ _ _ _ (c .before .before .before .before .match .keys1) (c .before .before .task-1 .ensures P h)
+returns c h w = at-1 _ _ _ _ (c .before .before .before .before .match .keys1) (c .before .before .task-1 .ensures h)
 
 same-length-2 : tie.Need-same-length-2
 same-length-2 c = search needs
 
 returns-2 : tie.Need-returns-2
-returns-2 c P h w = search (bubble-at, h, w)
+returns-2 c h w = search (bubble-at, h, w)
 
 same-length-3 : tie.Need-same-length-3
 same-length-3 c = search needs
 
 returns-3 : tie.Need-returns-3
-returns-3 c P h w = search (dew-at, h, w)
+returns-3 c h w = search (dew-at, h, w)
 
 same-length-4 : tie.Need-same-length-4
 same-length-4 c = search needs
 
 returns-4 : tie.Need-returns-4
-returns-4 c P h w = at-6 _ _ _ _ (c .before .before .before .before .match .keys4) (c .before .before .task-6 .ensures _ h)
+returns-4 c h w = at-6 _ _ _ _ (c .before .before .before .before .match .keys4) (c .before .before .task-6 .ensures _ h)
 
 same-length-5 : tie.Need-same-length-5
 same-length-5 c = search needs
 
 returns-5 : tie.Need-returns-5
-returns-5 c P h w =
+returns-5 c h w =
     let n = c .before .before .before .before .match .rest in
     at-rest _ _ _ _ (n .0 .0 .0 .1) (n .0 .0 .1) (n .0 .1) (n .1) (c .before .before .task-at-pressure .ensures _ h (sym (pressures-rest _ _ _ (n .0 .0 .0 .1) (n .1) (n .0 .0 .1) (n .0 .1)) ∙ w))
 

@@ -14,7 +14,7 @@ same-length : tie.Need-same-length
 same-length c = search needs
 
 returns : tie.Need-returns
-returns c = search under-4
+returns c copy = search under-4
 
 activity-dew-temperature-requires : tie.Need-activity-dew-temperature-requires
 activity-dew-temperature-requires c κs = search needs
@@ -26,7 +26,7 @@ same-length-2 : tie.Need-same-length-2
 same-length-2 c = search needs
 
 returns-2 : tie.Need-returns-2
-returns-2 c = search under-5
+returns-2 c copy = search under-5
 
 pub task-under-spec : {M : Type 1} → statement M
 task-under-spec =

@@ -4,15 +4,16 @@ use Prim.Native.Nat.{_≤_, _+_, _-_}
 use native.Mathlib.Omega.{arith}
 use borrow.Author.Needs.{needs}
 use Rattle.thermo_models.proofs.Pairs.{row-start, row-turn, row-done}
+use Rattle.records.specs.Offered.{withPair}
 use Rattle.thermo_models.specs.Validity.{rowSeen}
 use Rattle.thermo_models.proofs.see_row.Statement.{statement}
 use Rattle.thermo_models.proofs.see_row.Tie as tie
 
 abbrev Inv-loop : tie.InvT-loop
-Inv-loop book n t x i s₀ j₀ s j = (i + 1 ≤ j) × (j ≤ n) × (s ≡ rowSeen book n t x i j s₀)
+Inv-loop book offered place n t x i s₀ j₀ s j = (i + 1 ≤ j) × (j ≤ n) × (s ≡ rowSeen (withPair n book offered) n t x i j s₀)
 
 abbrev μ-loop : tie.MeasureT-loop
-μ-loop book n t x i s₀ j₀ s j = n - j
+μ-loop book offered place n t x i s₀ j₀ s j = n - j
 
 add-j : tie.Need-add-j Inv-loop μ-loop
 add-j c = omega arith
@@ -21,7 +22,7 @@ loop-holds : tie.Need-loop-holds Inv-loop μ-loop
 loop-holds c = (omega arith, omega arith, row-start _ _ _ _ _ _)
 
 visit-requires : tie.Need-visit-requires Inv-loop μ-loop
-visit-requires c κs = (omega arith, omega arith, omega arith)
+visit-requires c κs = (omega arith, omega arith, omega arith, c .before .before .before .before .pre .2)
 
 add-j-2 : tie.Need-add-j-2 Inv-loop μ-loop
 add-j-2 c = omega arith

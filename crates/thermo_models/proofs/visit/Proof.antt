@@ -1,5 +1,6 @@
 -- `thermo_models::visit` meets its contract. Assumes nothing.
 use borrow.Author.Needs.{needs}
+use Rattle.records.proofs.Offered.{copy-interval}
 use Rattle.thermo_models.proofs.Pairs.{visited-yes}
 use Rattle.thermo_models.specs.Validity.{visited}
 use Rattle.thermo_models.proofs.visit.Statement.{statement}
@@ -24,7 +25,9 @@ note-requires : tie.Need-note-requires
 note-requires c κs = search needs
 
 returns : tie.Need-returns
-returns c = search visited-yes
+returns c = let q = c .before in
+    let p = q .before .before .before .before .before .before .pre in
+    visited-yes _ _ _ _ _ _ _ (q .before .if1 .taken) (copy-interval _ _ _ _ _ (p .0) (p .1) (p .2) (p .3) (q .pair-record .ensures)) (c .note .ensures)
 
 returns-2 : tie.Need-returns-2
 unfolding visited

@@ -1,0 +1,2 @@
+-- Laws of previews, which callers cite. Assumes nothing.
+pub mod Laws

@@ -1,0 +1,2 @@
+-- What the contracts of preview cite. Assumes nothing.
+pub mod Preview

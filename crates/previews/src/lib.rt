@@ -1,0 +1,1 @@
+// Laws of trying a pair; no code.
