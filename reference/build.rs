@@ -16,6 +16,7 @@ fn main() {
     let here = PathBuf::from(env::var("CARGO_MANIFEST_DIR").expect("cargo sets it"));
     let out = PathBuf::from(env::var("OUT_DIR").expect("cargo sets it"));
     assemble_all(&folder(&here, "ZEKTONK_RUST", "../../shared/docs/src"), &out);
+    take_peer(&folder(&here, "ZEKTONK_PEER", "../../shared/peer").join("peer.rs"), &out);
     let asked = |feature: &&str| env::var(format!("CARGO_FEATURE_{feature}")).is_ok();
     let libraries = folder(&here, "ZEKTONK_LIB", "../target/staticlib");
     if PARTS.iter().any(|part| asked(part)) {
@@ -44,6 +45,27 @@ fn assemble_all(rust: &Path, out: &Path) {
             .unwrap_or_else(|why| panic!("the named Rust is not at {} ({why}); set ZEKTONK_RUST", path.display()));
         let text = assembly::assemble(source, text).unwrap_or_else(|why| panic!("assembly failed: {why}"));
         fs::write(out.join(source.out), text).expect("the build folder can be written");
+    }
+}
+
+/// The benchmark's peer, as it is and with Wilson's sums in place of NRTL's (src/bin/bench/wilson.rs), where it is at hand.
+fn take_peer(path: &Path, out: &Path) {
+    println!("cargo:rustc-check-cfg=cfg(peer)");
+    println!("cargo:rerun-if-changed={}", path.display());
+    let Ok(text) = fs::read_to_string(path) else { return };
+    println!("cargo:rustc-cfg=peer");
+    let text: String = text.lines().filter(|line| !line.starts_with("//!")).map(|line| format!("{line}\n")).collect();
+    let cuts = [
+        ("self.fill::<N>(t)", "self.fill_lambdas::<N>(t)"),
+        ("self.kernel::<N>(x, l)", "self.wilson::<N>(x, l)"),
+        ("w(h, 1) != 1", "w(h, 1) != 2"),
+    ];
+    let wilson = cuts.iter().fold(text.clone(), |text, (from, to)| {
+        assert_eq!(text.matches(from).count(), 1, "{from} in the peer");
+        text.replace(from, to)
+    });
+    for (name, text) in [("peer.rs", text), ("peer_wilson.rs", wilson)] {
+        fs::write(out.join(name), text).expect("the build folder can be written");
     }
 }
 

@@ -1,6 +1,7 @@
-//! Times of the core and of the reference on the same inputs in one run: nanoseconds a call, median of five.
+//! Times of the core, of the reference and, where it is at hand, of the peer on the same inputs in one run: nanoseconds a
+//! call, median of five.
 //!
-//! bench numbers|book|excess|rice|sheet|wilson|pooled|feeds|preview|all
+//! bench numbers|book|excess|rice|sheet|wilson|parts|pooled|feeds|preview|all
 
 use std::hint::black_box;
 use std::process::ExitCode;
@@ -14,6 +15,9 @@ use reference::sheet::question::FRACTIONS;
 use reference::sheet::{answer, feeds, open_book, pool, ANSWER_BYTES};
 use reference::stage::padded;
 
+mod peer;
+use peer::Peer;
+
 const INPUTS: usize = 64;
 /// Calls from one table, so that making it does not count.
 const REPEATS: u64 = 50;
@@ -25,13 +29,14 @@ const RUN: f64 = 2e7;
 
 fn main() -> ExitCode {
     let stage = std::env::args().nth(1).unwrap_or_default();
-    let stages: [(&str, fn()); 9] = [
+    let stages: [(&str, fn()); 10] = [
         ("numbers", bench_numbers),
         ("book", bench_book),
         ("excess", bench_excess),
         ("rice", bench_rice),
         ("sheet", bench_sheet),
         ("wilson", bench_wilson),
+        ("parts", bench_parts),
         ("pooled", bench_pooled),
         ("feeds", bench_feeds),
         ("preview", bench_preview),
@@ -39,7 +44,7 @@ fn main() -> ExitCode {
     let chosen: Vec<_> = stages.iter().filter(|(name, _)| *name == stage || stage == "all").collect();
     chosen.iter().for_each(|(_, bench)| bench());
     if chosen.is_empty() {
-        eprintln!("usage: bench numbers|book|excess|rice|sheet|wilson|pooled|feeds|preview|all");
+        eprintln!("usage: bench numbers|book|excess|rice|sheet|wilson|parts|pooled|feeds|preview|all");
         return ExitCode::from(2);
     }
     ExitCode::SUCCESS
@@ -300,24 +305,109 @@ fn bench_rice() {
 /// Excess and tasks 1 to 7 of Wilson books; the reference is plain Rust too.
 fn bench_wilson() {
     time_excess("Wilson ", wilson::realistic);
-    (1..=7).for_each(|task| time_task("Wilson ", task, wilson::realistic));
+    (1..=7).for_each(|task| time_task("Wilson ", task, plain_wilson, peer::WILSON));
 }
 
-fn time_task(model: &str, task: u64, book: Drafts) {
+/// Of version 2, with zeros in the words that aren't read: the peer opens it too.
+fn plain_wilson(rng: &mut Rng, n: usize) -> books::Draft {
+    let mut draft = wilson::realistic(rng, n);
+    draft.blocks[0][1] = 2;
+    draft.blocks[1 + n..].iter_mut().for_each(|pair| pair[7..15].fill(0));
+    draft
+}
+
+fn time_task(model: &str, task: u64, book: Drafts, peer: Option<Peer>) {
     for n in SOLVENTS {
         let inputs = many(|rng| accepted(rng, n, task, book));
-        let (mut core_answer, mut own_answer) = ([0; ANSWER_BYTES], [0; ANSWER_BYTES]);
-        line(
-            &format!("{model}task {task}, n = {n}"),
-            &inputs,
-            |(book, question)| rattle::answer(book, question, &mut core_answer).map(drop_value),
-            |(book, question)| drop_value(answer(book, question, &mut own_answer)),
-        );
+        let [mut core_answer, mut own_answer, mut peer_answer] = [[0; ANSWER_BYTES]; 3];
+        let core = |(book, question): &Sheet| rattle::answer(book, question, &mut core_answer).map(drop_value);
+        let reference = |(book, question): &Sheet| drop_value(answer(book, question, &mut own_answer));
+        let name = format!("{model}task {task}, n = {n}");
+        let Some(peer) = peer else {
+            line(&name, &inputs, core, reference);
+            continue;
+        };
+        inputs.iter().for_each(|sheet| same_answer(sheet, peer));
+        let fast = |(book, question): &Sheet| drop_value((peer.answer)(book, question, &mut peer_answer));
+        line_of_three(&name, &inputs, core, reference, fast);
+    }
+}
+
+/// A book and a question.
+type Sheet = (Vec<u8>, Vec<u8>);
+
+/// The peer answers with the core's bytes.
+fn same_answer((book, question): &Sheet, peer: Peer) {
+    let [mut core, mut fast] = [[7; ANSWER_BYTES]; 2];
+    if let Some(number) = rattle::answer(book, question, &mut core) {
+        assert_eq!((peer.answer)(book, question, &mut fast), number, "the peer's number");
+        assert!(fast == core, "the peer's bytes");
+    }
+}
+
+fn line_of_three<T>(
+    name: &str,
+    inputs: &[T],
+    mut core: impl FnMut(&T) -> Option<()>,
+    mut reference: impl FnMut(&T),
+    mut peer: impl FnMut(&T),
+) {
+    let [core, reference, peer] = medians([
+        &mut || inputs.iter().for_each(|input| drop_value(core(input))),
+        &mut || inputs.iter().for_each(&mut reference),
+        &mut || inputs.iter().for_each(&mut peer),
+    ])
+    .map(|time| time / inputs.len() as f64);
+    let ratios = [core / reference, core / peer];
+    println!(
+        "{name}: core {core:.1} ns, reference {reference:.1} ns, peer {peer:.1} ns, ratios {:.2} {:.2}",
+        ratios[0], ratios[1]
+    );
+}
+
+/// Parts of a call in the core and in the peer.
+fn bench_parts() {
+    time_parts("", books::realistic, peer::NRTL);
+    time_parts("Wilson ", plain_wilson, peer::WILSON);
+}
+
+/// A book, a temperature and a composition.
+type State = (Vec<u8>, f64, [f64; 8]);
+
+fn time_parts(model: &str, book: fn(&mut Rng, usize) -> books::Draft, peer: Option<Peer>) {
+    let Some(peer) = peer else { return println!("{model}parts: no peer at hand") };
+    for n in SOLVENTS {
+        let inputs = many(|rng| {
+            let book = book(rng, n).bytes();
+            (book, rng.range(300.0, 400.0), padded(&fractions::feed_with(rng, n, fractions::Absent::None)))
+        });
+        let each = |part: &dyn Fn(&State)| inputs.iter().for_each(part);
+        let [core_open, peer_open, core_tables, core_often, peer_none, peer_tables, peer_once, peer_often, peer_pures] =
+            medians([
+                &mut || each(&|(book, _, _)| drop_value(rattle::open_book(book))),
+                &mut || each(&|(book, _, _)| drop_value((peer.open)(book))),
+                &mut || each(&|(book, t, x)| drop_value(rattle::repeat_activity(book, n, *t, x, 0))),
+                &mut || each(&|(book, t, x)| drop_value(rattle::repeat_activity(book, n, *t, x, REPEATS))),
+                &mut || each(&|(book, t, _)| (peer.tables)(book, n, *t, 0)),
+                &mut || each(&|(book, t, _)| (peer.tables)(book, n, *t, REPEATS)),
+                &mut || each(&|(book, t, x)| (peer.excess)(book, n, *t, x, 0)),
+                &mut || each(&|(book, t, x)| (peer.excess)(book, n, *t, x, REPEATS)),
+                &mut || each(&|(book, t, _)| (peer.pures)(book, n, *t, REPEATS)),
+            ])
+            .map(|time| time / INPUTS as f64);
+        let of_one = |often: f64, none: f64| (often - none) / REPEATS as f64;
+        let part = |name: &str, core: f64, peer: f64| {
+            println!("{model}{name}, n = {n}: core {core:.1} ns, peer {peer:.1} ns, ratio {:.2}", core / peer)
+        };
+        part("open", core_open, peer_open);
+        part("parameters and tables", core_tables, of_one(peer_tables, peer_none));
+        part("excess from tables", of_one(core_often, core_tables), of_one(peer_often, peer_once));
+        println!("{model}pure liquids, n = {n}: peer {:.1} ns", of_one(peer_pures, peer_none));
     }
 }
 
 fn bench_sheet() {
-    (1..=9).for_each(|task| time_task("", task, books::realistic));
+    (1..=9).for_each(|task| time_task("", task, books::realistic, peer::NRTL));
     let refused = [(Vec::new(), Vec::new())];
     line(
         "a refused sheet",
