@@ -3,3 +3,4 @@ pub mod Nan
 pub mod Folds
 pub mod Fills
 pub mod Outcomes
+pub mod Squares

@@ -1,18 +1,19 @@
 -- What stands where in a table of planes: place e of plane k, after one pair, a row, all rows; a Jet and its first two of a table. Assumes nothing.
 use Prim.Native.Nat.{ℕ, zero, suc, _+_, _*_, _<_, _≤_}
-use mathlib.Core.Path.{_≡_, refl, _∙_, ap}
+use mathlib.Core.Path.{_≡_, refl, sym, _∙_, ap}
 use mathlib.Core.Logic.{⊎-elim}
 use mathlib.Core.List.{List}
 use native.Mathlib.Nat.{eq-or-lt-of-le}
 use native.Mathlib.Omega.{arith}
-use lib.ListN.{length, length-set}
-use lib.Seq.{getD-set-same, getD-set-other}
+use lib.ListN.{length, set, length-set}
+use lib.Seq.{getD-set-same, getD-set-other, set-comm}
 use lib.Ieee.{Float, nan}
 use Rattle.floats.specs.Fold.{foldTo}
 use Rattle.floats.specs.Vector.{at}
+use Rattle.floats.proofs.Squares.{fold-past, square-turn}
 use Rattle.jet.specs.declared.Jet.{Jet}
 use Rattle.jet.specs.Jets.{twoJ}
-use Rattle.jet.specs.Planes.{spread, planeRow, planeRows, jetAt, jets, twos, firstTwo}
+use Rattle.jet.specs.Planes.{spread, planeRow, planeRows, planePairs, jetAt, jets, twos, firstTwo}
 use Rattle.jet.proofs.Near.{_≃_, two-near}
 
 -- ---- one pair
@@ -75,6 +76,27 @@ rows-at f m n (suc r) l k i j s m8 n8 r8 km ir jn =
     (λ (p : i < r). row-other (f r) m r n (planeRows f m n r l) k (i * 8 + j) (omega arith) n8 (omega arith)
     ∙ rows-at f m n r l k i j s m8 n8 (omega arith) km p jn)
     (eq-or-lt-of-le (omega arith))
+
+-- ---- a square of pairs
+spread-comm : (f g : ℕ → Float) (e o m p : ℕ) (l : List Float) → e < 64 → o < 64 → (e ≡ o → ⊥) → spread f e m (spread g o p l) ≡ spread g o p (spread f e m l)
+spread-comm f g e o m p l e64 o64 n =
+    fold-past (λ t. spread f e m t) (λ k (t : List Float). set t (k * 64 + o) (g k)) l p
+    (λ k t _. sym (fold-past (λ u. set u (k * 64 + o) (g k)) (λ i (u : List Float). set u (i * 64 + e) (f i)) t m
+    (λ i u _. set-comm u (i * 64 + e) (k * 64 + o) (f i) (g k) (λ q. n (omega arith)))))
+
+-- the square of k + 1: pairs (k, j) and (j, k) for j below k, then (k, k)
+pub square-next : (f : ℕ → ℕ → ℕ → Float) (m k : ℕ) (old : List Float) {l₀ l₁ l₂ : List Float} → k < 8 → l₀ ≡ planeRows f m k k old
+    → l₁ ≡ planePairs f m k k l₀ → l₂ ≡ spread (f k k) (k * 8 + k) m l₁
+    → l₂ ≡ planeRows f m (k + 1) (k + 1) old
+square-next f m k old {l₀} k8 p q r =
+    let e : suc k ≡ k + 1 = omega arith in
+    rw (r, q, p)
+    (square-turn (λ i j (l : List Float). spread (f i j) (i * 8 + j) m l)
+    (λ i j a b s i8 j8 a8 b8 n. spread-comm (f i j) (f a b) (i * 8 + j) (a * 8 + b) m m s (omega arith) (omega arith) n) k old k8
+    ∙ ap (λ n. planeRows f m n n old) e)
+
+pub square-done : (f : ℕ → ℕ → ℕ → Float) (m k n : ℕ) (old : List Float) {l : List Float} → k ≡ n → l ≡ planeRows f m k k old → l ≡ planeRows f m n n old
+square-done f m k n old e p = p ∙ ap (λ n. planeRows f m n n old) e
 
 -- ---- Jets of a table
 pub jet-is : (j : Jet) {a b c : Float} → a ≡ j .v → b ≡ j .d → c ≡ j .dd → _≡_ {A = Jet} (record { v = a; d = b; dd = c }) j

@@ -20,6 +20,10 @@ planeRow f m i n old = foldTo (λ j (l : List Float). spread (f j) (i * 8 + j) m
 abbrev pub planeRows : (ℕ → ℕ → ℕ → Float) → ℕ → ℕ → ℕ → List Float → List Float
 planeRows f m n r old = foldTo (λ i (l : List Float). planeRow (f i) m i n l) old r
 
+-- (i, j) and (j, i) for j below n
+abbrev pub planePairs : (ℕ → ℕ → ℕ → Float) → ℕ → ℕ → ℕ → List Float → List Float
+planePairs f m i n old = foldTo (λ j (l : List Float). spread (f j i) (j * 8 + i) m (spread (f i j) (i * 8 + j) m l)) old n
+
 -- the Jet whose three planes begin at b, and the one of two planes
 unfoldable pub jetAt : List Float → ℕ → ℕ → Jet
 jetAt m b e = record { v = at m (b + e); d = at m (b + 64 + e); dd = at m (b + 128 + e) }

@@ -1,4 +1,3 @@
 -- The definitions that the contracts of nrtl_tables cite. Assumes nothing.
 pub mod Pair
 pub mod Table
-pub mod Passes

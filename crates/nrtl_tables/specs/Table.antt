@@ -9,7 +9,7 @@ use Rattle.thermo_types.specs.declared.Verdict.{Verdict}
 use Rattle.thermo_types.specs.declared.Verdict.the-variants.{Passed, Refused}
 use Rattle.jet.specs.declared.Jet.{Jet}
 use Rattle.jet.specs.Jets.{mulJ}
-use Rattle.jet.specs.Planes.{planeRow, planeRows}
+use Rattle.jet.specs.Planes.{planePairs, planeRows}
 use Rattle.nrtl_tables.specs.Pair.{tauAt, gAt, alphasRight}
 
 -- where the planes of G, of H = τ G and of τ begin
@@ -26,13 +26,13 @@ tauPlane = 384
 unfoldable pub keptOf : Jet → Jet → ℕ → Float
 keptOf t g k = at (g .v ∷ g .d ∷ g .dd ∷ mulJ t g .v ∷ mulJ t g .d ∷ mulJ t g .dd ∷ t .v ∷ t .d ∷ []) k
 
--- the first n entries of row i
-abbrev pub tableRow : (ℕ → Jet) → (ℕ → Jet) → ℕ → ℕ → List Float → List Float
-tableRow T G i n old = planeRow (λ j. keptOf (T j) (G j)) 8 i n old
-
 -- the first m rows of n entries each
 abbrev pub tableRows : (ℕ → ℕ → Jet) → (ℕ → ℕ → Jet) → ℕ → ℕ → List Float → List Float
 tableRows T G n m old = planeRows (λ i j. keptOf (T i j) (G i j)) 8 n m old
+
+-- the entries (i, j) and (j, i) for j below m
+abbrev pub tablePairs : (ℕ → ℕ → Jet) → (ℕ → ℕ → Jet) → ℕ → ℕ → List Float → List Float
+tablePairs T G i m old = planePairs (λ i j. keptOf (T i j) (G i j)) 8 i m old
 
 -- an array after the tables of t are made in it: as it was where an α is refused
 unfoldable pub tableOf : List Float → ℕ → Float → List Float → List Float

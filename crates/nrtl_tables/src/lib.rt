@@ -4,12 +4,13 @@
 // entry (i, j) of plane k at k * 64 + i * 8 + j: G, τ G, each with two derivatives, then τ with one.
 ghost use mathlib.Core.Path.{_≡_};
 ghost use Prim.Native.Nat.{_≤_, _<_, _+_, _*_};
+ghost use Rattle.floats.specs.Arithmetic.{0f, 1f};
 ghost use Rattle.floats.specs.Fold.{allTo};
-ghost use Rattle.floats.specs.Vector.{at8, places, fillFrom, fillRows};
+ghost use Rattle.floats.specs.Vector.{places};
+ghost use Rattle.jet.specs.Jets.{constJ};
 ghost use Rattle.jet.specs.Planes.{spread};
-ghost use Rattle.nrtl_tables.specs.Pair.{basisOf, tauJ, alphaJ, exponentJ, tauIJ, alphaRight, allRight};
-ghost use Rattle.nrtl_tables.specs.Table.{keptOf, tableRow, tableRows, Filled};
-ghost use Rattle.nrtl_tables.specs.Passes.{argumentIJ, expIJ, gWith, gFrom};
+ghost use Rattle.nrtl_tables.specs.Pair.{basisOf, tauJ, alphaJ, exponentJ, tauIJ, gIJ, alphaRight, allRight};
+ghost use Rattle.nrtl_tables.specs.Table.{keptOf, tablePairs, tableRows, Filled};
 use jet::Jet;
 use thermo_types::Temperature;
 use thermo_types::Verdict;
@@ -122,78 +123,7 @@ fn all_right(parameters: &[f64; 384], b: Basis, n: usize) -> bool
     right
 }
 
-// ---- exp in a pass of its own
-
-fn argument_row(parameters: &[f64; 384], b: Basis, n: usize, i: usize, z: &mut [f64; 64])
-    requires { ⌜ (n ≤ 8) × (i < 8) ⌝ }
-    ensures { λ _. ⌜ now (z .exit) ≡ fillFrom (argumentIJ (now (parameters .entry)) b i) (i * 8) n (now (z .entry)) ⌝ }
-{
-    for j in 0..n {
-        z[i * 8 + j] = exponent(parameters, b, i * 8 + j).v;
-    }
-}
-
-fn arguments(parameters: &[f64; 384], b: Basis, n: usize, z: &mut [f64; 64])
-    requires { ⌜ n ≤ 8 ⌝ }
-    ensures { λ _. ⌜ now (z .exit) ≡ fillRows (argumentIJ (now (parameters .entry)) b) n n (now (z .entry)) ⌝ }
-{
-    for i in 0..n {
-        argument_row(parameters, b, n, i, z);
-    }
-}
-
-fn exp_at(z: &[f64; 64], i: usize, j: usize) -> f64
-    requires { ⌜ (i < 8) × (j < 8) ⌝ }
-    ensures { λ r. ⌜ r ≡ expIJ (now (z .entry)) i j ⌝ }
-{
-    if i == j {
-        1.0
-    } else {
-        numerics::exp(z[i * 8 + j])
-    }
-}
-
-fn exp_row(z: &[f64; 64], n: usize, i: usize, w: &mut [f64; 64])
-    requires { ⌜ (n ≤ 8) × (i < 8) ⌝ }
-    ensures { λ _. ⌜ now (w .exit) ≡ fillFrom (expIJ (now (z .entry)) i) (i * 8) n (now (w .entry)) ⌝ }
-{
-    for j in 0..n {
-        w[i * 8 + j] = exp_at(z, i, j);
-    }
-}
-
-fn exps(z: &[f64; 64], n: usize, w: &mut [f64; 64])
-    requires { ⌜ n ≤ 8 ⌝ }
-    ensures { λ _. ⌜ now (w .exit) ≡ fillRows (expIJ (now (z .entry))) n n (now (w .entry)) ⌝ }
-{
-    for i in 0..n {
-        exp_row(z, n, i, w);
-    }
-}
-
 // ---- the table
-
-fn tau_at(parameters: &[f64; 384], b: Basis, i: usize, j: usize) -> Jet
-    requires { ⌜ (i < 8) × (j < 8) ⌝ }
-    ensures { λ r. ⌜ r ≡ tauIJ (now (parameters .entry)) b i j ⌝ }
-{
-    if i == j {
-        Jet::constant(0.0)
-    } else {
-        tau_of(parameters, b, i * 8 + j)
-    }
-}
-
-fn g_at(parameters: &[f64; 384], b: Basis, w: f64, i: usize, j: usize) -> Jet
-    requires { ⌜ (i < 8) × (j < 8) ⌝ }
-    ensures { λ r. ⌜ r ≡ gWith (now (parameters .entry)) b w i j ⌝ }
-{
-    if i == j {
-        Jet::constant(1.0)
-    } else {
-        exponent(parameters, b, i * 8 + j).exp_with(w)
-    }
-}
 
 // Place e of the eight planes.
 fn store(e: usize, tau: Jet, g: Jet, table: &mut [f64; 512])
@@ -211,41 +141,47 @@ fn store(e: usize, tau: Jet, g: Jet, table: &mut [f64; 512])
     table[448 + e] = tau.d;
 }
 
-fn cell(
-    parameters: &[f64; 384],
-    b: Basis,
-    w: &[f64; 64],
-    i: usize,
-    j: usize,
-    table: &mut [f64; 512],
-)
-    requires { ⌜ (i < 8) × (j < 8) ⌝ }
-    ensures { λ _. ⌜ now (table .exit) ≡ spread (keptOf (tauIJ (now (parameters .entry)) b i j) (gFrom (now (parameters .entry)) b (now (w .entry)) i j)) (i * 8 + j) 8 (now (table .entry)) ⌝ }
+// The pairs (i, j) and (j, i): their two exponentials side by side.
+fn both(parameters: &[f64; 384], b: Basis, i: usize, j: usize, table: &mut [f64; 512])
+    requires { ⌜ (i < 8) × (j < i) ⌝ }
+    ensures { λ _. ⌜ now (table .exit) ≡ spread (keptOf (tauIJ (now (parameters .entry)) b j i) (gIJ (now (parameters .entry)) b j i)) (j * 8 + i) 8 (spread (keptOf (tauIJ (now (parameters .entry)) b i j) (gIJ (now (parameters .entry)) b i j)) (i * 8 + j) 8 (now (table .entry))) ⌝ }
 {
     let e = i * 8 + j;
-    store(
-        e,
-        tau_at(parameters, b, i, j),
-        g_at(parameters, b, w[e], i, j),
-        table,
-    );
+    let o = j * 8 + i;
+    let p = exponent(parameters, b, e);
+    let q = exponent(parameters, b, o);
+    let w = numerics::exp_two(p.v, q.v);
+    let t = tau_of(parameters, b, e);
+    let u = tau_of(parameters, b, o);
+    store(e, t, p.exp_with(w.0), table);
+    store(o, u, q.exp_with(w.1), table);
 }
 
-fn row(parameters: &[f64; 384], b: Basis, w: &[f64; 64], n: usize, i: usize, table: &mut [f64; 512])
-    requires { ⌜ (n ≤ 8) × (i < 8) ⌝ }
-    ensures { λ _. ⌜ now (table .exit) ≡ tableRow (tauIJ (now (parameters .entry)) b i) (gFrom (now (parameters .entry)) b (now (w .entry)) i) i n (now (table .entry)) ⌝ }
+// Every diagonal term is zero.
+fn diagonal(i: usize, table: &mut [f64; 512])
+    requires { ⌜ i < 8 ⌝ }
+    ensures { λ _. ⌜ now (table .exit) ≡ spread (keptOf (constJ 0f) (constJ 1f)) (i * 8 + i) 8 (now (table .entry)) ⌝ }
 {
-    for j in 0..n {
-        cell(parameters, b, w, i, j, table);
+    store(i * 8 + i, Jet::constant(0.0), Jet::constant(1.0), table);
+}
+
+// Row i up to the diagonal, and column i.
+fn border(parameters: &[f64; 384], b: Basis, i: usize, table: &mut [f64; 512])
+    requires { ⌜ i < 8 ⌝ }
+    ensures { λ _. ⌜ now (table .exit) ≡ tablePairs (tauIJ (now (parameters .entry)) b) (gIJ (now (parameters .entry)) b) i i (now (table .entry)) ⌝ }
+{
+    for j in 0..i {
+        both(parameters, b, i, j, table);
     }
 }
 
-fn rows(parameters: &[f64; 384], b: Basis, w: &[f64; 64], n: usize, table: &mut [f64; 512])
+fn square(parameters: &[f64; 384], b: Basis, n: usize, table: &mut [f64; 512])
     requires { ⌜ n ≤ 8 ⌝ }
-    ensures { λ _. ⌜ now (table .exit) ≡ tableRows (tauIJ (now (parameters .entry)) b) (gFrom (now (parameters .entry)) b (now (w .entry))) n n (now (table .entry)) ⌝ }
+    ensures { λ _. ⌜ now (table .exit) ≡ tableRows (tauIJ (now (parameters .entry)) b) (gIJ (now (parameters .entry)) b) n n (now (table .entry)) ⌝ }
 {
     for i in 0..n {
-        row(parameters, b, w, n, i, table);
+        border(parameters, b, i, table);
+        diagonal(i, table);
     }
 }
 
@@ -257,11 +193,7 @@ fn fill_tables(parameters: &[f64; 384], n: usize, t: f64, table: &mut [f64; 512]
     if !all_right(parameters, b, n) {
         return Verdict::Refused(24);
     }
-    let mut z = [0.0; 64];
-    let mut w = [0.0; 64];
-    arguments(parameters, b, n, &mut z);
-    exps(&z, n, &mut w);
-    rows(parameters, b, &w, n, table);
+    square(parameters, b, n, table);
     Verdict::Passed
 }
 

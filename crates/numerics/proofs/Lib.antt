@@ -9,3 +9,4 @@ mod Scales
 pub mod Signs
 mod Guess
 mod Vectors
+mod Fields

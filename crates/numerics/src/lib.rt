@@ -1,13 +1,14 @@
 // ln, exp and powf, each equal to its definition in specs/Numerics.antt.
 ghost use mathlib.Core.Path.{_≡_};
 ghost use mathlib.Core.Bool.{true, false, cond};
-ghost use Prim.Native.Nat.{_<_, _≤_, _*_, _^_};
+ghost use Prim.Native.Nat.{ℕ, _<_, _≤_, _+_, _*_, _^_};
 ghost use lib.Dec.{T};
 ghost use lib.Ieee.Positive.{positive};
 ghost use lib.IntN.{ℤ, pos, _-ℤ_};
 ghost use lib.Signed.{mag, quotZ};
-ghost use lib.Ieee.{odd, toSigned, minus, le, neg};
-ghost use Rattle.floats.specs.Arithmetic.{_⊗_, #, 0f};
+ghost use lib.Ieee.{odd, toSigned, minus, le, neg, ofBits, binary64};
+ghost use Rattle.floats.specs.Arithmetic.{_⊗_, #, 0f, ½, 1f};
+ghost use Rattle.floats.specs.Vector.{at, places};
 ghost use Rattle.numerics.specs.Numerics.{lnOf, lnFrom, lnSplit, mantissa, exponent, expOf, expFrom, expShift, powfOf, pow2, whole};
 
 // 2 ^ a, made of its exponent's field.
@@ -72,7 +73,7 @@ fn exp_far(v: f64) -> f64
     exp_from(v, std::num::truncating_f64_to_i64(exp_shift(v)))
 }
 
-// exp(v), where `ok`: v is near 0, and the whole number next to C * v is the definition's k.
+// A value, and whether it is the definition's: for exp, where v is near 0 and the whole number next to C * v is its k.
 struct Near {
     y: f64,
     ok: bool,
@@ -131,6 +132,22 @@ pub fn exp_two(a: f64, b: f64) -> Two
     }
 }
 
+// exp of the first n entries, two at a time. Nothing is said of the entries past n.
+pub fn exps(v: &[f64; 8], n: usize) -> [f64; 8]
+    ensures { λ r. ⌜ ((k : ℕ) → k < places n → at r k ≡ expOf (at (now (v .entry)) k)) ⌝ }
+{
+    let m = floats::places(n);
+    let mut e = [0.0; 8];
+    let mut i = 0;
+    while i < m {
+        let p = exp_two(v[i], v[i + 1]);
+        e[i] = p.0;
+        e[i + 1] = p.1;
+        i += 2;
+    }
+    e
+}
+
 // q digits, shifted up by j so that the leading one stands at 2^52.
 struct Shifted {
     q: u64,
@@ -184,6 +201,30 @@ fn ln_split(k: i64, m: f64) -> f64
     }
 }
 
+fn halved(up: bool, m: f64) -> f64
+    ensures { λ r. ⌜ r ≡ cond up (m ⊗ ½) m ⌝ }
+{
+    if up { m * 0.5 } else { m }
+}
+
+fn raised(up: bool, field: u64) -> u64
+    requires { ⌜ field < 2047 ⌝ }
+    ensures { λ r. ⌜ r ≡ cond up (field + 1) field ⌝ }
+{
+    if up { field + 1 } else { field }
+}
+
+// ln of 2^(field - 1023) × m, where m from 1 to 2 has the digits `digits` past its leading one. No branch: which way m > √2
+// goes can't be foreseen.
+fn ln_fields(field: u64, digits: u64) -> f64
+    requires { ⌜ (field < 2047) × (digits < 4503599627370496) ⌝ }
+    ensures { λ r. ⌜ r ≡ lnSplit (minus field 1023) (ofBits binary64 (digits + 4607182418800017408)) ⌝ }
+{
+    let m = f64::from_bits(digits + 4607182418800017408);
+    let up = m > 1.4142135623730951;
+    ln_from(count(raised(up, field)), halved(up, m))
+}
+
 // v has the digits `digits`, of which the last stands for 2^(field - 1075).
 fn ln_digits(field: u64, digits: u64, v: f64) -> f64
     requires { ⌜ (field < 2046) × (0 < digits) × (digits < 2 ^ 53) × (v ≡ odd 53 false digits field 1074) ⌝ }
@@ -206,7 +247,7 @@ fn ln_positive(v: f64) -> f64
     if field == 0 {
         ln_digits(0, digits, v)
     } else {
-        ln_digits(field - 1, digits + 4503599627370496, v)
+        ln_fields(field, digits)
     }
 }
 
@@ -226,6 +267,38 @@ pub fn ln(v: f64) -> f64
         return v;
     }
     ln_positive(v)
+}
+
+fn kept_above(above: bool, v: f64) -> f64
+    ensures { λ r. ⌜ r ≡ cond above v 1f ⌝ }
+{
+    if above { v } else { 1.0 }
+}
+
+// ln(v), where `ok`: v is positive, finite and not below the smallest normal float.
+fn ln_near(v: f64) -> Near
+    ensures { λ r. ⌜ (r .ok ≡ true → r .y ≡ lnOf v) ⌝ }
+{
+    let above = (0.0 < v) & (v < f64::from_bits(0x7ff0000000000000));
+    let bits = f64::to_bits(kept_above(above, v));
+    let field = bits / 4503599627370496;
+    Near {
+        y: ln_fields(field, bits % 4503599627370496),
+        ok: above & (0 < field),
+    }
+}
+
+// ln of each of two: their steps run side by side.
+pub fn ln_two(a: f64, b: f64) -> Two
+    ensures { λ r. ⌜ (r .0 ≡ lnOf a) × (r .1 ≡ lnOf b) ⌝ }
+{
+    let p = ln_near(a);
+    let q = ln_near(b);
+    if p.ok & q.ok {
+        Two(p.y, q.y)
+    } else {
+        Two(ln(a), ln(b))
+    }
 }
 
 // b to the power e, for b > 0.

@@ -45,6 +45,17 @@ termsOf f = record { t0 = f 0; t1 = f 1; t2 = f 2; t3 = f 3; a0 = f 4; a1 = f 5 
 unfoldable pub parameterRow : (ℕ → ℕ → Float) → ℕ → ℕ → List Float → List Float
 parameterRow f n i l = foldTo (λ j (l : List Float). fillFrom (f j) ((i * 8 + j) * 6) 6 l) l n
 
+-- both pairs of a block with the words w, its (i, j) from `upper` on
+abbrev pub bothOf : Model → (ℕ → ℕ) → ℕ → ℕ → List Float → List Float
+bothOf m w upper lower l = fillFrom (pairTerm m w 3) upper 6 (fillFrom (pairTerm m w (lowerFrom m)) lower 6 l)
+
+-- the pairs (i, j) and (j, i), and those for j below r
+abbrev pub parameterBoth : (ℕ → ℕ → ℕ → Float) → ℕ → ℕ → List Float → List Float
+parameterBoth f i j l = fillFrom (f j i) ((j * 8 + i) * 6) 6 (fillFrom (f i j) ((i * 8 + j) * 6) 6 l)
+
+abbrev pub parameterBorder : (ℕ → ℕ → ℕ → Float) → ℕ → ℕ → List Float → List Float
+parameterBorder f i r l = foldTo (λ j (l : List Float). parameterBoth f i j l) l r
+
 -- these rows for i below r, +0 elsewhere
 unfoldable pub parameterRows : (ℕ → ℕ → ℕ → Float) → ℕ → ℕ → List Float
 parameterRows f n r = foldTo (λ i (l : List Float). parameterRow (f i) n i l) (replicate 384 0f) r

@@ -3,13 +3,15 @@ ghost use mathlib.Core.Path.{_≡_};
 ghost use Prim.Native.Nat.{_≤_, _<_, _+_, _*_};
 ghost use lib.ListN.{set};
 ghost use Rattle.blocks.specs.Words.{word, block};
-ghost use Rattle.floats.specs.Vector.{vec, places};
+ghost use Rattle.floats.specs.Arithmetic.{0f};
+ghost use Rattle.floats.specs.Vector.{vec, places, fillFrom};
+ghost use Rattle.book.specs.declared.Model.the-variants.{Nrtl, Wilson};
 ghost use Rattle.book.specs.Places.{words, rowFrom, pairPlace};
 ghost use Rattle.floats.specs.Small.{float};
 ghost use Rattle.book.specs.Book.{modelOf};
 ghost use Rattle.records.specs.Records.{ancillaryOf, rangeOf, regressionOf, pairOf};
 ghost use Rattle.records.specs.Offered.{offeredPlace, pairAt, withPair};
-ghost use Rattle.records.specs.Parameters.{termsOf, termIn, wilsonTerm, pairTerm, lowerFrom, parameter, parameterRow, parameterRows, parametersOf};
+ghost use Rattle.records.specs.Parameters.{termsOf, termIn, wilsonTerm, pairTerm, lowerFrom, parameter, bothOf, parameterBoth, parameterBorder, parameterRows, parametersOf};
 use blocks::word;
 use book::Model;
 
@@ -263,55 +265,6 @@ pub fn pair_record(book: &[u8], offered: &[u8], place: usize, n: usize, i: usize
     pair_at(model, blocks::block(book, k))
 }
 
-// Those of the pair (i, j), i < j.
-fn upper_of(model: Model, book: &[u8], offered: &[u8], place: usize, k: usize) -> Terms
-    ensures { λ r. ⌜ r ≡ termsOf (pairTerm model (word (pairAt (now (book .entry)) (now (offered .entry)) place k)) 3) ⌝ }
-{
-    if k == place {
-        return upper_terms(model, offered);
-    }
-    upper_terms(model, blocks::block(book, k))
-}
-
-// And of (j, i).
-fn lower_of(model: Model, book: &[u8], offered: &[u8], place: usize, k: usize) -> Terms
-    ensures { λ r. ⌜ r ≡ termsOf (pairTerm model (word (pairAt (now (book .entry)) (now (offered .entry)) place k)) (lowerFrom model)) ⌝ }
-{
-    if k == place {
-        return lower_terms(model, offered);
-    }
-    lower_terms(model, blocks::block(book, k))
-}
-
-// The terms of the ordered pair (i, j), +0 for i = j.
-fn terms_of(
-    model: Model,
-    book: &[u8],
-    offered: &[u8],
-    place: usize,
-    n: usize,
-    i: usize,
-    j: usize,
-) -> Terms
-    requires { ⌜ (n ≤ 8) × (i ≤ 8) × (j ≤ 8) ⌝ }
-    ensures { λ r. ⌜ r ≡ termsOf (parameter model (λ k. word (pairAt (now (book .entry)) (now (offered .entry)) place k)) n i j) ⌝ }
-{
-    if i < j {
-        return upper_of(model, book, offered, place, pair_place(n, i, j));
-    }
-    if j < i {
-        return lower_of(model, book, offered, place, pair_place(n, j, i));
-    }
-    Terms {
-        t0: 0.0,
-        t1: 0.0,
-        t2: 0.0,
-        t3: 0.0,
-        a0: 0.0,
-        a1: 0.0,
-    }
-}
-
 fn set_terms(plane: &mut [f64; 384], from: usize, t: Terms)
     requires { ⌜ from + 6 ≤ 384 ⌝ }
     ensures { λ _. ⌜ now (plane .exit) ≡ set (set (set (set (set (set (now (plane .entry)) from (t .t0)) (from + 1) (t .t1)) (from + 2) (t .t2)) (from + 3) (t .t3)) (from + 4) (t .a0)) (from + 5) (t .a1) ⌝ }
@@ -324,7 +277,80 @@ fn set_terms(plane: &mut [f64; 384], from: usize, t: Terms)
     plane[from + 5] = t.a1;
 }
 
-fn fill_row(
+// Of a pair's block by NRTL: (i, j) into `upper`, (j, i) into `lower`. One α for both.
+fn nrtl_both(s: &[u8], upper: usize, lower: usize, plane: &mut [f64; 384])
+    requires { ⌜ (upper + 6 ≤ 384) × (lower + 6 ≤ 384) ⌝ }
+    ensures { λ _. ⌜ now (plane .exit) ≡ bothOf Nrtl (word (now (s .entry))) upper lower (now (plane .entry)) ⌝ }
+{
+    let a0 = float_at(s, 11);
+    let a1 = float_at(s, 12);
+    let ji = Terms {
+        t0: float_at(s, 7),
+        t1: float_at(s, 8),
+        t2: float_at(s, 9),
+        t3: float_at(s, 10),
+        a0: a0,
+        a1: a1,
+    };
+    let ij = Terms {
+        t0: float_at(s, 3),
+        t1: float_at(s, 4),
+        t2: float_at(s, 5),
+        t3: float_at(s, 6),
+        a0: a0,
+        a1: a1,
+    };
+    set_terms(plane, lower, ji);
+    set_terms(plane, upper, ij);
+}
+
+// The same by Wilson.
+fn wilson_both(s: &[u8], upper: usize, lower: usize, plane: &mut [f64; 384])
+    requires { ⌜ (upper + 6 ≤ 384) × (lower + 6 ≤ 384) ⌝ }
+    ensures { λ _. ⌜ now (plane .exit) ≡ bothOf Wilson (word (now (s .entry))) upper lower (now (plane .entry)) ⌝ }
+{
+    let ji = wilson_terms(s, 5);
+    let ij = wilson_terms(s, 3);
+    set_terms(plane, lower, ji);
+    set_terms(plane, upper, ij);
+}
+
+fn both(model: Model, s: &[u8], upper: usize, lower: usize, plane: &mut [f64; 384])
+    requires { ⌜ (upper + 6 ≤ 384) × (lower + 6 ≤ 384) ⌝ }
+    ensures { λ _. ⌜ now (plane .exit) ≡ bothOf model (word (now (s .entry))) upper lower (now (plane .entry)) ⌝ }
+{
+    match model {
+        Model::Nrtl => nrtl_both(s, upper, lower, plane),
+        Model::Wilson => wilson_both(s, upper, lower, plane),
+    }
+}
+
+// The ordered pairs (i, j) and (j, i), j < i: the offered block's, or the book's.
+fn fill_both(
+    model: Model,
+    book: &[u8],
+    offered: &[u8],
+    place: usize,
+    n: usize,
+    i: usize,
+    j: usize,
+    plane: &mut [f64; 384],
+)
+    requires { ⌜ (n ≤ 8) × (i < 8) × (j < i) ⌝ }
+    ensures { λ _. ⌜ now (plane .exit) ≡ parameterBoth (parameter model (λ k. word (pairAt (now (book .entry)) (now (offered .entry)) place k)) n) i j (now (plane .entry)) ⌝ }
+{
+    let k = pair_place(n, j, i);
+    let upper = (j * 8 + i) * 6;
+    let lower = (i * 8 + j) * 6;
+    if k == place {
+        both(model, offered, upper, lower, plane);
+        return;
+    }
+    both(model, blocks::block(book, k), upper, lower, plane);
+}
+
+// Row i up to the diagonal, and column i.
+fn fill_border(
     model: Model,
     book: &[u8],
     offered: &[u8],
@@ -334,12 +360,26 @@ fn fill_row(
     plane: &mut [f64; 384],
 )
     requires { ⌜ (n ≤ 8) × (i < 8) ⌝ }
-    ensures { λ _. ⌜ now (plane .exit) ≡ parameterRow (parameter model (λ k. word (pairAt (now (book .entry)) (now (offered .entry)) place k)) n i) n i (now (plane .entry)) ⌝ }
+    ensures { λ _. ⌜ now (plane .exit) ≡ parameterBorder (parameter model (λ k. word (pairAt (now (book .entry)) (now (offered .entry)) place k)) n) i i (now (plane .entry)) ⌝ }
 {
-    for j in 0..n {
-        let t = terms_of(model, book, offered, place, n, i, j);
-        set_terms(plane, (i * 8 + j) * 6, t);
+    for j in 0..i {
+        fill_both(model, book, offered, place, n, i, j, plane);
     }
+}
+
+fn diagonal(i: usize, plane: &mut [f64; 384])
+    requires { ⌜ i < 8 ⌝ }
+    ensures { λ _. ⌜ now (plane .exit) ≡ fillFrom (λ _. 0f) ((i * 8 + i) * 6) 6 (now (plane .entry)) ⌝ }
+{
+    let none = Terms {
+        t0: 0.0,
+        t1: 0.0,
+        t2: 0.0,
+        t3: 0.0,
+        a0: 0.0,
+        a1: 0.0,
+    };
+    set_terms(plane, (i * 8 + i) * 6, none);
 }
 
 fn fill(model: Model, book: &[u8], offered: &[u8], place: usize, n: usize, plane: &mut [f64; 384])
@@ -348,7 +388,8 @@ fn fill(model: Model, book: &[u8], offered: &[u8], place: usize, n: usize, plane
 {
     *plane = [0.0; 384];
     for i in 0..n {
-        fill_row(model, book, offered, place, n, i, plane);
+        fill_border(model, book, offered, place, n, i, plane);
+        diagonal(i, plane);
     }
 }
 

@@ -3,7 +3,8 @@
 ghost use mathlib.Core.Path.{_≡_};
 ghost use Prim.Native.Nat.{_≤_, _<_, _+_, _*_};
 ghost use Rattle.floats.specs.Vector.{at, places};
-ghost use Rattle.jet.specs.Jets.{divJ, scaleJ};
+ghost use Rattle.floats.specs.Arithmetic.{1f};
+ghost use Rattle.jet.specs.Jets.{constJ, divJ, scaleJ, subJ};
 ghost use Rattle.jet.specs.Planes.{jetAt, twoAt, jets, twos};
 ghost use Rattle.excess.specs.State.{stateFrom};
 ghost use Rattle.excess.specs.Answers.{Gives};
@@ -109,13 +110,49 @@ fn quotients_of(table: &[f64; 512], sums: &[f64; 32], x: &[f64; 8], n: usize, i:
     t
 }
 
+// Two solvents side by side: their sums don't depend on each other, so the machine's lanes share the loop.
+struct Pair {
+    a: Jet,
+    b: Jet,
+}
+
+fn quotient_pair(table: &[f64; 512], sums: &[f64; 32], x: &[f64; 8], n: usize, i: usize) -> Pair
+    requires { ⌜ (n ≤ 8) × (i < 7) ⌝ }
+    ensures { λ r. ⌜ (r .a ≡ quotients (twos (now (table .entry)) 0) (sIn (now (sums .entry))) (at (now (x .entry))) n i) × (r .b ≡ quotients (twos (now (table .entry)) 0) (sIn (now (sums .entry))) (at (now (x .entry))) n (i + 1)) ⌝ }
+{
+    let mut p = Jet::constant(0.0);
+    let mut q = Jet::constant(0.0);
+    for k in 0..n {
+        p = p.add(quotient_at(table, sums, x, k, i));
+        q = q.add(quotient_at(table, sums, x, k, i + 1));
+    }
+    Pair { a: p, b: q }
+}
+
+// 1 − ln S_i − q.
+fn ln_gamma_from(sums: &[f64; 32], q: Jet, i: usize) -> Jet
+    requires { ⌜ i < 8 ⌝ }
+    ensures { λ r. ⌜ r ≡ subJ (subJ (constJ 1f) (rIn (now (sums .entry)) i)) q ⌝ }
+{
+    Jet::constant(1.0).sub(two_of(sums, i * 4 + 2)).sub(q)
+}
+
 fn ln_gamma_at(table: &[f64; 512], sums: &[f64; 32], x: &[f64; 8], n: usize, i: usize) -> Jet
     requires { ⌜ (n ≤ 8) × (i < 8) ⌝ }
     ensures { λ r. ⌜ r ≡ wilsonFrom (twos (now (table .entry)) 0) (sIn (now (sums .entry))) (rIn (now (sums .entry))) (at (now (x .entry))) n i ⌝ }
 {
-    Jet::constant(1.0)
-        .sub(two_of(sums, i * 4 + 2))
-        .sub(quotients_of(table, sums, x, n, i))
+    ln_gamma_from(sums, quotients_of(table, sums, x, n, i), i)
+}
+
+fn ln_gamma_pair(table: &[f64; 512], sums: &[f64; 32], x: &[f64; 8], n: usize, i: usize) -> Pair
+    requires { ⌜ (n ≤ 8) × (i < 7) ⌝ }
+    ensures { λ r. ⌜ (r .a ≡ wilsonFrom (twos (now (table .entry)) 0) (sIn (now (sums .entry))) (rIn (now (sums .entry))) (at (now (x .entry))) n i) × (r .b ≡ wilsonFrom (twos (now (table .entry)) 0) (sIn (now (sums .entry))) (rIn (now (sums .entry))) (at (now (x .entry))) n (i + 1)) ⌝ }
+{
+    let q = quotient_pair(table, sums, x, n, i);
+    Pair {
+        a: ln_gamma_from(sums, q.a, i),
+        b: ln_gamma_from(sums, q.b, i + 1),
+    }
 }
 
 fn ln_gammas(
@@ -131,13 +168,24 @@ fn ln_gammas(
         n r (now («ln_gamma» .entry)) (now (slopes .entry)) (now («ln_gamma» .exit)) (now (slopes .exit)) ⌝ }
 {
     let mut finite = true;
-    for i in 0..n {
-        let l = ln_gamma_at(table, sums, x, n, i);
-        ln_gamma[i] = l.v;
-        slopes[i] = l.d;
-        finite = finite & (floats::is_finite(l.v) & floats::is_finite(l.d));
+    for h in 0..n / 2 {
+        let l = ln_gamma_pair(table, sums, x, n, 2 * h);
+        let p = l.a;
+        let q = l.b;
+        ln_gamma[2 * h] = p.v;
+        ln_gamma[2 * h + 1] = q.v;
+        slopes[2 * h] = p.d;
+        slopes[2 * h + 1] = q.d;
+        finite = finite & (floats::is_finite(p.v) & floats::is_finite(p.d));
+        finite = finite & (floats::is_finite(q.v) & floats::is_finite(q.d));
     }
-    finite
+    if n % 2 == 0 {
+        return finite;
+    }
+    let l = ln_gamma_at(table, sums, x, n, n - 1);
+    ln_gamma[n - 1] = l.v;
+    slopes[n - 1] = l.d;
+    finite & (floats::is_finite(l.v) & floats::is_finite(l.d))
 }
 
 // ---- the state

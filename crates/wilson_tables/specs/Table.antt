@@ -4,16 +4,16 @@ use mathlib.Core.List.{List, [], _∷_}
 use lib.Ieee.{Float}
 use Rattle.floats.specs.Vector.{at}
 use Rattle.jet.specs.declared.Jet.{Jet}
-use Rattle.jet.specs.Planes.{planeRow, planeRows}
+use Rattle.jet.specs.Planes.{planePairs, planeRows}
 use Rattle.wilson_tables.specs.Pair.{lambdaIJ}
 
 -- what the table keeps of a pair
 unfoldable pub keptOf : Jet → ℕ → Float
 keptOf l k = at (l .v ∷ l .d ∷ l .dd ∷ []) k
 
--- the first n entries of row i, and the first r rows
-abbrev pub lambdaRow : (ℕ → Jet) → ℕ → ℕ → List Float → List Float
-lambdaRow L i n old = planeRow (λ j. keptOf (L j)) 3 i n old
+-- the entries (i, j) and (j, i) for j below m, and the first r rows
+abbrev pub lambdaPairs : (ℕ → ℕ → Jet) → ℕ → ℕ → List Float → List Float
+lambdaPairs L i m old = planePairs (λ i j. keptOf (L i j)) 3 i m old
 
 abbrev pub lambdaRows : (ℕ → ℕ → Jet) → ℕ → ℕ → List Float → List Float
 lambdaRows L n r old = planeRows (λ i j. keptOf (L i j)) 3 n r old

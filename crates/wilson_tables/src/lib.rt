@@ -3,10 +3,12 @@
 // of plane k at k * 64 + i * 8 + j: Λ with two derivatives.
 ghost use mathlib.Core.Path.{_≡_};
 ghost use Prim.Native.Nat.{_≤_, _<_, _+_, _*_};
+ghost use Rattle.floats.specs.Arithmetic.{1f};
 ghost use Rattle.floats.specs.Vector.{places};
+ghost use Rattle.jet.specs.Jets.{constJ};
 ghost use Rattle.jet.specs.Planes.{spread};
 ghost use Rattle.wilson_tables.specs.Pair.{kelvinJ, lnLambdaJ, lambdaIJ};
-ghost use Rattle.wilson_tables.specs.Table.{keptOf, lambdaRow, lambdaRows, lambdasOf};
+ghost use Rattle.wilson_tables.specs.Table.{keptOf, lambdaPairs, lambdaRows, lambdasOf};
 use jet::Jet;
 use thermo_types::Temperature;
 
@@ -30,17 +32,6 @@ fn ln_lambda(parameters: &[f64; 384], t: f64, e: usize) -> Jet
     Jet::constant(parameters[e * 6]).add(b)
 }
 
-fn lambda(parameters: &[f64; 384], t: f64, i: usize, j: usize) -> Jet
-    requires { ⌜ (i < 8) × (j < 8) ⌝ }
-    ensures { λ r. ⌜ r ≡ lambdaIJ (now (parameters .entry)) t i j ⌝ }
-{
-    if i == j {
-        Jet::constant(1.0)
-    } else {
-        ln_lambda(parameters, t, i * 8 + j).exp()
-    }
-}
-
 // Place e of the three planes.
 fn store(e: usize, l: Jet, table: &mut [f64; 512])
     requires { ⌜ e < 64 ⌝ }
@@ -51,21 +42,45 @@ fn store(e: usize, l: Jet, table: &mut [f64; 512])
     table[128 + e] = l.dd;
 }
 
-fn row(parameters: &[f64; 384], t: f64, n: usize, i: usize, table: &mut [f64; 512])
-    requires { ⌜ (n ≤ 8) × (i < 8) ⌝ }
-    ensures { λ _. ⌜ now (table .exit) ≡ lambdaRow (lambdaIJ (now (parameters .entry)) t i) i n (now (table .entry)) ⌝ }
+// The pairs (i, j) and (j, i): their two exponentials side by side.
+fn both(parameters: &[f64; 384], t: f64, i: usize, j: usize, table: &mut [f64; 512])
+    requires { ⌜ (i < 8) × (j < i) ⌝ }
+    ensures { λ _. ⌜ now (table .exit) ≡ spread (keptOf (lambdaIJ (now (parameters .entry)) t j i)) (j * 8 + i) 3 (spread (keptOf (lambdaIJ (now (parameters .entry)) t i j)) (i * 8 + j) 3 (now (table .entry))) ⌝ }
 {
-    for j in 0..n {
-        store(i * 8 + j, lambda(parameters, t, i, j), table);
+    let e = i * 8 + j;
+    let o = j * 8 + i;
+    let p = ln_lambda(parameters, t, e);
+    let q = ln_lambda(parameters, t, o);
+    let w = numerics::exp_two(p.v, q.v);
+    store(e, p.exp_with(w.0), table);
+    store(o, q.exp_with(w.1), table);
+}
+
+// Λ_ii = 1.
+fn diagonal(i: usize, table: &mut [f64; 512])
+    requires { ⌜ i < 8 ⌝ }
+    ensures { λ _. ⌜ now (table .exit) ≡ spread (keptOf (constJ 1f)) (i * 8 + i) 3 (now (table .entry)) ⌝ }
+{
+    store(i * 8 + i, Jet::constant(1.0), table);
+}
+
+// Row i up to the diagonal, and column i.
+fn border(parameters: &[f64; 384], t: f64, i: usize, table: &mut [f64; 512])
+    requires { ⌜ i < 8 ⌝ }
+    ensures { λ _. ⌜ now (table .exit) ≡ lambdaPairs (lambdaIJ (now (parameters .entry)) t) i i (now (table .entry)) ⌝ }
+{
+    for j in 0..i {
+        both(parameters, t, i, j, table);
     }
 }
 
-fn rows(parameters: &[f64; 384], t: f64, n: usize, table: &mut [f64; 512])
+fn square(parameters: &[f64; 384], t: f64, n: usize, table: &mut [f64; 512])
     requires { ⌜ n ≤ 8 ⌝ }
     ensures { λ _. ⌜ now (table .exit) ≡ lambdaRows (lambdaIJ (now (parameters .entry)) t) n n (now (table .entry)) ⌝ }
 {
     for i in 0..n {
-        row(parameters, t, n, i, table);
+        border(parameters, t, i, table);
+        diagonal(i, table);
     }
 }
 
@@ -73,5 +88,5 @@ fn rows(parameters: &[f64; 384], t: f64, n: usize, table: &mut [f64; 512])
 pub fn tables(parameters: &[f64; 384], n: usize, t: Temperature, table: &mut [f64; 512])
     ensures { λ _. ⌜ now (table .exit) ≡ lambdasOf (now (parameters .entry)) (places n) (t .0) (now (table .entry)) ⌝ }
 {
-    rows(parameters, t.value(), floats::places(n), table);
+    square(parameters, t.value(), floats::places(n), table);
 }

@@ -13,14 +13,8 @@ all-right-requires c κs = search needs
 returns : tie.Need-returns
 returns c = search filled-no
 
-arguments-requires : tie.Need-arguments-requires
-arguments-requires c κs = search needs
-
-exps-requires : tie.Need-exps-requires
-exps-requires c κs = search needs
-
-rows-requires : tie.Need-rows-requires
-rows-requires c κs = search needs
+square-requires : tie.Need-square-requires
+square-requires c κs = search needs
 
 returns-2 : tie.Need-returns-2
 returns-2 c = search filled-yes
@@ -32,7 +26,5 @@ fill-tables-spec =
     basis-at-requires
     all-right-requires
     returns
-    arguments-requires
-    exps-requires
-    rows-requires
+    square-requires
     returns-2)

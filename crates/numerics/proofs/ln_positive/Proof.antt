@@ -8,13 +8,10 @@ use lib.Dec.{T, lit<}
 use lib.Ieee.{Float, fin, binary64, fits, isNan, toBits, ofBits}
 use lib.Ieee.Bits.{ofBits-toBits}
 use lib.Ieee.Positive.{positive}
-use Rattle.numerics.proofs.Patterns.{plus, plus-is, field-lt, subnormal, normal-is}
+use Rattle.numerics.proofs.Patterns.{field-lt, subnormal}
+use Rattle.numerics.proofs.Fields.{no-nan-of, normal-split}
 use Rattle.numerics.proofs.ln_positive.Statement.{statement}
 use Rattle.numerics.proofs.ln_positive.Tie as tie
-
-no-nan-of : (v : Float) → T (positive v) → T (not (isNan v))
-unfolding isNan
-no-nan-of (fin s m e) p = tt
 
 -- what owning an `f64` tells: the format holds it
 held : (c : tie.Start) → T (fits binary64 (c .args .v))
@@ -35,25 +32,17 @@ ln-digits-requires c κs =
     let r = subnormal (toBits binary64 (s .args .v)) (read-positive s) (c .if1 .taken) in
     (lit< tt, r .0, omega arith, sym (back s) ∙ r .1)
 
-sub-ln-digits : tie.Need-sub-ln-digits
-sub-ln-digits c = search needs
-
-add-ln-digits : tie.Need-add-ln-digits
-add-ln-digits c = search needs
-
-ln-digits-requires-2 : tie.Need-ln-digits-requires-2
-ln-digits-requires-2 c κs =
-    let s = c .before in
-    let b = toBits binary64 (s .args .v) in
-    let l = field-lt b (read-positive s) in
-    let n = c .if1 .left in
-    (omega arith, omega arith, omega arith, sym (back s) ∙ plus-is b (plus b (read-positive s)) ∙ normal-is (b / 4503599627370496) (b % 4503599627370496) (omega arith) l)
+ln-fields-requires : tie.Need-ln-fields-requires
+ln-fields-requires c κs = let s = c .before in (field-lt (toBits binary64 (s .args .v)) (read-positive s), omega arith)
 
 returns : tie.Need-returns
 returns c = search needs
 
 returns-2 : tie.Need-returns-2
-returns-2 c = search needs
+returns-2 c =
+    let s = c .before .before in
+    let n = c .before .if1 .left in
+    normal-split (s .args .v) (toBits binary64 (s .args .v)) (back s) (s .pre) (omega arith) (c .ln-fields .ensures)
 
 pub ln-positive-spec : {M : Type 1} → statement M
 ln-positive-spec =
@@ -61,8 +50,6 @@ ln-positive-spec =
     (tie.spec
     float-to-bits-bits
     ln-digits-requires
-    sub-ln-digits
-    add-ln-digits
-    ln-digits-requires-2
+    ln-fields-requires
     returns
     returns-2)

@@ -4,23 +4,26 @@ use Prim.Native.Nat.{_≤_, _-_}
 use native.Mathlib.Omega.{arith}
 use borrow.Author.Needs.{needs}
 use Rattle.blocks.specs.Words.{word}
-use Rattle.records.proofs.Loads.{rows-holds, rows-turn, rows-done}
+use Rattle.records.proofs.Loads.{square-holds, square-more, square-done}
 use Rattle.records.specs.Offered.{pairAt}
 use Rattle.records.specs.Parameters.{parameter, parameterRows}
 use Rattle.records.proofs.fill.Statement.{statement}
 use Rattle.records.proofs.fill.Tie as tie
 
 abbrev Inv-loop : tie.InvT-loop
-Inv-loop model book offered place n plane₀ i₀ plane i = (i ≤ n) × (plane ≡ parameterRows (parameter model (λ k. word (pairAt book offered place k)) n) n i)
+Inv-loop model book offered place n plane₀ i₀ plane i = (i ≤ n) × (plane ≡ parameterRows (parameter model (λ k. word (pairAt book offered place k)) n) i i)
 
 abbrev μ-loop : tie.MeasureT-loop
 μ-loop model book offered place n plane₀ i₀ plane i = n - i
 
 loop-holds : tie.Need-loop-holds Inv-loop μ-loop
-loop-holds c = (omega arith, rows-holds _ _)
+loop-holds c = (omega arith, square-holds _)
 
-fill-row-requires : tie.Need-fill-row-requires Inv-loop μ-loop
-fill-row-requires c κs = search needs
+fill-border-requires : tie.Need-fill-border-requires Inv-loop μ-loop
+fill-border-requires c κs = search needs
+
+diagonal-requires : tie.Need-diagonal-requires Inv-loop μ-loop
+diagonal-requires c κs = search needs
 
 add-i : tie.Need-add-i Inv-loop μ-loop
 add-i c = omega arith
@@ -29,12 +32,12 @@ loop-less : tie.Need-loop-less Inv-loop μ-loop
 loop-less c = omega arith
 
 loop-again : tie.Need-loop-again Inv-loop μ-loop
-loop-again c = (omega arith, rows-turn _ _ _ (c .fill-row .ensures) (c .before .before .before .loop .inv .1))
+loop-again c = (omega arith, square-more _ (λ k. word (pairAt _ _ _ k)) _ _ (omega arith) (c .before .before .before .before .before .loop .inv .1) (c .before .before .fill-border .ensures) (c .diagonal .ensures))
 
 returns : tie.Need-returns Inv-loop μ-loop
-returns c = rows-done _ _ _ (omega arith) (c .before .loop .inv .1)
+returns c = square-done _ _ _ (omega arith) (c .before .loop .inv .1)
 
 pub fill-spec : {M : Type 1} → statement M
 fill-spec =
     tie.close
-    (tie.spec Inv-loop μ-loop loop-holds fill-row-requires add-i loop-less loop-again returns)
+    (tie.spec Inv-loop μ-loop loop-holds fill-border-requires diagonal-requires add-i loop-less loop-again returns)

@@ -10,12 +10,12 @@ value-requires c κs = search needs
 places-requires : tie.Need-places-requires
 places-requires c κs = search needs
 
-rows-requires : tie.Need-rows-requires
-rows-requires c κs = search needs
+square-requires : tie.Need-square-requires
+square-requires c κs = search needs
 
 returns : tie.Need-returns
 unfolding lambdasOf
-returns c = rw (← c .before .before .before .value .ensures, ← c .before .before .places .ensures) (c .rows .ensures)
+returns c = rw (← c .before .before .before .value .ensures, ← c .before .before .places .ensures) (c .square .ensures)
 
 pub tables-spec : {M : Type 1} → statement M
-tables-spec = tie.close (tie.spec value-requires places-requires rows-requires returns)
+tables-spec = tie.close (tie.spec value-requires places-requires square-requires returns)
