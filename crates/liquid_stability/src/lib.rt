@@ -10,7 +10,7 @@ ghost use Rattle.floats.specs.Small.{maxOf, absOf};
 ghost use Rattle.floats.specs.Fold.{foldTo, active};
 ghost use Rattle.floats.specs.Vector.{at, vec, places};
 ghost use Rattle.floats.specs.Outcome.{ok, no};
-ghost use Rattle.numerics.specs.Numerics.{expOf, lnOf};
+ghost use Rattle.numerics.specs.Numerics.{lnOf};
 ghost use Rattle.thermo_types.specs.Verdicts.{verdictOf};
 ghost use Rattle.thermo_models.specs.Model.{lnGammaOf};
 ghost use Rattle.thermo_models.specs.Activity.{activityOn};
@@ -140,10 +140,10 @@ fn start(others: f64, n: usize, j: usize) -> [f64; 8]
     ln_w
 }
 
-fn amount(x: f64, ln_w: f64) -> f64
-    ensures { λ r. ⌜ r ≡ cond (lt 0f x) (expOf «ln_w») 0f ⌝ }
+fn amount(x: f64, exp_ln_w: f64) -> f64
+    ensures { λ r. ⌜ r ≡ cond (lt 0f x) «exp_ln_w» 0f ⌝ }
 {
-    if x > 0.0 { numerics::exp(ln_w) } else { 0.0 }
+    if x > 0.0 { exp_ln_w } else { 0.0 }
 }
 
 // W_i = exp ln W_i of the solvents present.
@@ -151,9 +151,10 @@ fn amounts(x: &[f64; 8], ln_w: &[f64; 8], n: usize) -> [f64; 8]
     requires { ⌜ n ≤ 8 ⌝ }
     ensures { λ r. ⌜ r ≡ amountsOf (now (x .entry)) (now («ln_w» .entry)) n ⌝ }
 {
+    let all = numerics::exps(ln_w, n);
     let mut big = [0.0; 8];
     for i in 0..n {
-        big[i] = amount(x[i], ln_w[i]);
+        big[i] = amount(x[i], all[i]);
     }
     big
 }

@@ -56,44 +56,28 @@ module _ (f : ℕ → Float) (n : ℕ) (h : n ≤ 8) {w : List Float} (e : w ≡
   stored-shares : (s : Float) {x : List Float} → x ≡ vec (λ i. at w i ⊘ s) n → x ≡ vec (λ i. f i ⊘ s) n
   stored-shares s q = q ∙ fill-cong _ _ n zeros8 (λ k l. rw (entry k l))
 
--- ---- the bubble point, from the verdict of `activity` at x: w are the partial pressures, p their sum
-module _ (E : List Float → Out Activity) (ps : List Float) (n : ℕ) (x : List Float) {v : Verdict} {lg sl : List Float} (a : ActivityIs (E x) v lg sl) where
-  pub bubble-refused-at : {m : ℕ} {r : BubblePoint} → v ≡ Refused m → r ≡ bubbleAnswer (no m) → r ≡ bubbleAnswer (bubbleAt E ps n x)
-  unfolding bubbleAt bind
-  bubble-refused-at q z = rw (activity-refused (E x) a q) z
+-- ---- the bubble point of ln γ: w are the partial pressures, p their sum
+module _ (x lg ps : List Float) (n : ℕ) {m : ℕ} (c : m ≡ places n) {w : List Float} {p : Float} (e : w ≡ vec (partialOf x lg ps) m)
+    (t : p ≡ sumTo (at w) (places m)) {b : Bool} (f : b ≡ isFinite p) where
+  small : m ≤ 8
+  small = omega arith
 
-  module _ (q : v ≡ Passed) {m : ℕ} (c : m ≡ places n) {w : List Float} {p : Float} (e : w ≡ vec (partialOf x lg ps) m) (t : p ≡ sumTo (at w) (places m))
-      {b : Bool} (f : b ≡ isFinite p) where
-    small : m ≤ 8
-    small = omega arith
+  total : p ≡ partialSum x lg ps (places n)
+  unfolding partialSum
+  total = rw (← c) (stored-sum _ m small e t)
 
-    total : p ≡ partialSum x lg ps (places n)
-    unfolding partialSum
-    total = rw (← c) (stored-sum _ m small e t)
+  pub bubble-infinite : {r : BubblePoint} → not b ≡ true → r ≡ bubbleAnswer (no 25) → r ≡ bubbleAnswer (bubbleFrom x lg ps (places n))
+  unfolding bubbleFrom need
+  bubble-infinite k z = rw (← total, was-no k f) z
 
-    pub bubble-infinite : {r : BubblePoint} → not b ≡ true → r ≡ bubbleAnswer (no 25) → r ≡ bubbleAnswer (bubbleAt E ps (places n) x)
-    unfolding bubbleAt bubbleFrom bind need
-    bubble-infinite k z = rw (activity-passed (E x) a q, ← total, was-no k f) z
+  pub bubble-not-positive : {r : BubblePoint} → not b ≡ false → le p 0f ≡ true → r ≡ bubbleAnswer (no 25) → r ≡ bubbleAnswer (bubbleFrom x lg ps (places n))
+  unfolding bubbleFrom need
+  bubble-not-positive k l z = rw (← total, was-yes k f, l) z
 
-    pub bubble-not-positive : {r : BubblePoint} → not b ≡ false → le p 0f ≡ true → r ≡ bubbleAnswer (no 25) → r ≡ bubbleAnswer (bubbleAt E ps (places n) x)
-    unfolding bubbleAt bubbleFrom bind need
-    bubble-not-positive k l z = rw (activity-passed (E x) a q, ← total, was-yes k f, l) z
-
-    pub bubble-good : {y : List Float} {r : BubblePoint} → not b ≡ false → le p 0f ≡ false → y ≡ vec (λ i. at w i ⊘ p) m
-        → r ≡ record { verdict = Passed; pressure = p; vapor = y } → r ≡ bubbleAnswer (bubbleAt E ps (places n) x)
-    unfolding bubbleAt bubbleFrom bind need bubbleAnswer
-    bubble-good k l d z = rw (activity-passed (E x) a q, ← total, was-yes k f, l, ← c, ← stored-shares _ m small e p d) z
-
--- the residual
-module _ (E : List Float → Out Activity) (ps : List Float) (n : ℕ) (p : Float) (x y : List Float) {v : Verdict} {lg sl : List Float}
-    (a : ActivityIs (E x) v lg sl) where
-  pub residual-at-refused : {m : ℕ} → v ≡ Refused m → record { verdict = Refused m; value = 0f } ≡ residualAnswer (residual E ps n p x y)
-  unfolding residual bind residualAnswer
-  residual-at-refused q = rw (activity-refused (E x) a q)
-
-  pub residual-at-passed : {r : ResidualAnswer} → v ≡ Passed → r ≡ residualAnswer (residualWith lg ps p x y n) → r ≡ residualAnswer (residual E ps n p x y)
-  unfolding residual bind
-  residual-at-passed q z = rw (activity-passed (E x) a q) z
+  pub bubble-good : {y : List Float} {r : BubblePoint} → not b ≡ false → le p 0f ≡ false → y ≡ vec (λ i. at w i ⊘ p) m
+      → r ≡ record { verdict = Passed; pressure = p; vapor = y } → r ≡ bubbleAnswer (bubbleFrom x lg ps (places n))
+  unfolding bubbleFrom need bubbleAnswer
+  bubble-good k l d z = rw (← total, was-yes k f, l, ← c, ← stored-shares _ m small e p d) z
 
 -- ---- the incipient liquid of ln γ: w are the terms, s their sum
 pub incipient-is : (y ps lg : List Float) (n : ℕ) → n ≤ 8 → {w : List Float} {s : Float} {x : Normalized} → w ≡ vec (dewTerm y ps lg) n → s ≡ sumTo (at w) (places n)
@@ -216,28 +200,32 @@ loop-start E ps o y e =
     let a : o .«max_iterations» - 0 ≡ o .«max_iterations» = omega arith in
     rw (a, e)
 
--- ---- task 2 from its bubble point b
-module _ (E : List Float → Out Activity) (ps : List Float) (n : ℕ) (t : Float) (x : List Float) {b : BubblePoint}
-    (pb : b ≡ bubbleAnswer (bubbleAt E ps n x)) where
-  pub task-refused : {m : ℕ} {r : ActivitySaturation} → b .verdict ≡ Refused m → r ≡ saturationAnswer (no m) → r ≡ saturationAnswer (bubbleTask E ps n t x)
-  unfolding bubbleTask bind
-  task-refused u z = rw (bubble-refused _ pb u) z
+-- ---- task 2 from the activity at x, then from the bubble point b of its ln γ
+module _ (E : List Float → Out Activity) (ps : List Float) (n : ℕ) (t : Float) (x : List Float) {v : Verdict} {lg sl : List Float} (a : ActivityIs (E x) v lg sl) where
+  pub task-no-activity : {m : ℕ} {r : ActivitySaturation} → v ≡ Refused m → r ≡ saturationAnswer (no m) → r ≡ saturationAnswer (bubbleTask E ps n t x)
+  unfolding bubbleTask bubbleAt bind
+  task-no-activity u z = rw (activity-refused (E x) a u) z
 
-  module _ (u : b .verdict ≡ Passed) {c : Bool} (pc : c ≡ pressureInDomain (b .pressure)) where
-    pub task-outside : {r : ActivitySaturation} → not c ≡ true → r ≡ saturationAnswer (no 23) → r ≡ saturationAnswer (bubbleTask E ps n t x)
-    unfolding bubbleTask bind need
-    task-outside k z = rw (bubble-passed _ pb u, was-no k pc) z
+  module _ (q : v ≡ Passed) {b : BubblePoint} (pb : b ≡ bubbleAnswer (bubbleFrom x lg ps n)) where
+    pub task-refused : {m : ℕ} {r : ActivitySaturation} → b .verdict ≡ Refused m → r ≡ saturationAnswer (no m) → r ≡ saturationAnswer (bubbleTask E ps n t x)
+    unfolding bubbleTask bubbleAt bind
+    task-refused u z = rw (activity-passed (E x) a q, bubble-refused _ pb u) z
 
-    module _ (k : not c ≡ false) {g : ResidualAnswer} (pg : g ≡ residualAnswer (residual E ps n (b .pressure) x (b .vapor))) where
-      pub task-infinite : {m : ℕ} {r : ActivitySaturation} → g .verdict ≡ Refused m → r ≡ saturationAnswer (no m) → r ≡ saturationAnswer (bubbleTask E ps n t x)
-      unfolding bubbleTask bind need
-      task-infinite v z = rw (bubble-passed _ pb u, was-yes k pc, residual-refused _ pg v) z
+    module _ (u : b .verdict ≡ Passed) {c : Bool} (pc : c ≡ pressureInDomain (b .pressure)) where
+      pub task-outside : {r : ActivitySaturation} → not c ≡ true → r ≡ saturationAnswer (no 23) → r ≡ saturationAnswer (bubbleTask E ps n t x)
+      unfolding bubbleTask bubbleAt bind need
+      task-outside k z = rw (activity-passed (E x) a q, bubble-passed _ pb u, was-no k pc) z
 
-      pub task-good : {s : Float} {r : ActivitySaturation} → g .verdict ≡ Passed → s ≡ t
-          → r ≡ record { verdict = Passed; temperature = s; pressure = b .pressure; liquid = x; vapor = b .vapor; residual = g .value; iterations = 0 }
-          → r ≡ saturationAnswer (bubbleTask E ps n t x)
-      unfolding bubbleTask bind need saturationAnswer
-      task-good v e z = rw (bubble-passed _ pb u, was-yes k pc, residual-passed _ pg v, ← e) z
+      module _ (k : not c ≡ false) {g : ResidualAnswer} (pg : g ≡ residualAnswer (residualWith lg ps (b .pressure) x (b .vapor) n)) where
+        pub task-infinite : {m : ℕ} {r : ActivitySaturation} → g .verdict ≡ Refused m → r ≡ saturationAnswer (no m) → r ≡ saturationAnswer (bubbleTask E ps n t x)
+        unfolding bubbleTask bubbleAt residual bind need
+        task-infinite w z = rw (activity-passed (E x) a q, bubble-passed _ pb u, was-yes k pc, residual-refused _ pg w) z
+
+        pub task-good : {s : Float} {r : ActivitySaturation} → g .verdict ≡ Passed → s ≡ t
+            → r ≡ record { verdict = Passed; temperature = s; pressure = b .pressure; liquid = x; vapor = b .vapor; residual = g .value; iterations = 0 }
+            → r ≡ saturationAnswer (bubbleTask E ps n t x)
+        unfolding bubbleTask bubbleAt residual bind need saturationAnswer
+        task-good w e z = rw (activity-passed (E x) a q, bubble-passed _ pb u, was-yes k pc, residual-passed _ pg w, ← e) z
 
 -- task 3 from its dew point d
 module _ (E : List Float → Out Activity) (ps : List Float) (n : ℕ) (o : ActivityOptions) (t : Float) (y : List Float) {d : DewPoint}

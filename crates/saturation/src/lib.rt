@@ -8,9 +8,9 @@ ghost use Rattle.floats.specs.Arithmetic.{_⊕_, _⊖_, _⊗_, _⊘_, 0f};
 ghost use Rattle.floats.specs.Small.{maxOf, absOf};
 ghost use Rattle.floats.specs.Vector.{at, vec, places};
 ghost use Rattle.floats.specs.Outcome.{no};
-ghost use Rattle.numerics.specs.Numerics.{expOf, lnOf};
+ghost use Rattle.numerics.specs.Numerics.{lnOf};
 ghost use Rattle.thermo_models.specs.Activity.{activityOn};
-ghost use Rattle.saturation.specs.Saturation.{partialOf, gapOf, residualWith, dewTerm, changeOf, bubbleAt, residual, dewTurn, dewPoint, dewAt, bubbleTask, dewTask};
+ghost use Rattle.saturation.specs.Saturation.{partialOf, bubbleFrom, gapOf, residualWith, dewTerm, changeOf, dewTurn, dewPoint, dewAt, bubbleTask, dewTask};
 ghost use Rattle.saturation.specs.Answers.{bubbleAnswer, residualAnswer, incipientOf, noDewTurn, dewTurnAnswer, dewAnswer, saturationAnswer};
 use thermo_models::Tabled;
 use thermo_types::ActivityOptions;
@@ -121,23 +121,20 @@ pub fn no_saturation(number: u64) -> ActivitySaturation
 
 // ---- bubble point: p = Σ x_i γ_i p_i^sat, y_i = x_i γ_i p_i^sat / p
 
-fn partial(x: f64, lg: f64, ps: f64) -> f64
-    ensures { λ r. ⌜ r ≡ cond (lt 0f x) (x ⊗ expOf lg ⊗ ps) 0f ⌝ }
+fn partial(x: f64, gamma: f64, ps: f64) -> f64
+    ensures { λ r. ⌜ r ≡ cond (lt 0f x) (x ⊗ gamma ⊗ ps) 0f ⌝ }
 {
-    if x > 0.0 {
-        x * numerics::exp(lg) * ps
-    } else {
-        0.0
-    }
+    if x > 0.0 { x * gamma * ps } else { 0.0 }
 }
 
 fn partials(x: &[f64; 8], lg: &[f64; 8], ps: &[f64; 8], n: usize) -> [f64; 8]
     requires { ⌜ n ≤ 8 ⌝ }
     ensures { λ r. ⌜ r ≡ vec (partialOf (now (x .entry)) (now (lg .entry)) (now (ps .entry))) n ⌝ }
 {
+    let gamma = numerics::exps(lg, n);
     let mut w = [0.0; 8];
     for i in 0..n {
-        w[i] = partial(x[i], lg[i], ps[i]);
+        w[i] = partial(x[i], gamma[i], ps[i]);
     }
     w
 }
@@ -154,27 +151,20 @@ fn divided(w: &[f64; 8], s: f64, n: usize) -> [f64; 8]
     x
 }
 
-// The bubble point of x: what `activity` refuses, then 25.
-pub fn bubble_at(table: &[f64; 512], s: Tabled, x: &[f64; 8], ps: &[f64; 8]) -> BubblePoint
-    ensures { λ r. ⌜ r ≡ bubbleAnswer (bubbleAt (activityOn (now (table .entry)) s) (now (ps .entry)) (places (s .n)) (now (x .entry))) ⌝ }
+// The bubble point of x from its ln γ: 25 where the pressure isn't finite and positive.
+pub fn bubble_from(x: &[f64; 8], lg: &[f64; 8], ps: &[f64; 8], n: usize) -> BubblePoint
+    ensures { λ r. ⌜ r ≡ bubbleAnswer (bubbleFrom (now (x .entry)) (now (lg .entry)) (now (ps .entry)) (places n)) ⌝ }
 {
-    let mut lg = [0.0; 8];
-    let mut sl = [0.0; 8];
-    let verdict = thermo_models::activity(table, s, x, &mut lg, &mut sl);
-    match verdict {
-        Verdict::Refused(number) => return no_bubble(number),
-        Verdict::Passed => {}
-    }
-    let n = floats::places(s.n);
-    let w = partials(x, &lg, ps, n);
-    let p = thermo_types::sum(&w, n);
+    let m = floats::places(n);
+    let w = partials(x, lg, ps, m);
+    let p = thermo_types::sum(&w, m);
     if !floats::is_finite(p) {
         return no_bubble(25);
     }
     if p <= 0.0 {
         return no_bubble(25);
     }
-    let y = divided(&w, p, n);
+    let y = divided(&w, p, m);
     BubblePoint {
         verdict: Verdict::Passed,
         pressure: p,
@@ -240,48 +230,22 @@ pub fn residual_with(
     }
 }
 
-// The residual of x and y at p: what `activity` refuses at x, then 25.
-pub fn residual(
-    table: &[f64; 512],
-    s: Tabled,
-    p: f64,
-    x: &[f64; 8],
-    y: &[f64; 8],
-    ps: &[f64; 8],
-) -> ResidualAnswer
-    ensures { λ r. ⌜ r ≡ residualAnswer (residual (activityOn (now (table .entry)) s) (now (ps .entry)) (places (s .n)) p (now (x .entry)) (now (y .entry))) ⌝ }
-{
-    let mut lg = [0.0; 8];
-    let mut sl = [0.0; 8];
-    let verdict = thermo_models::activity(table, s, x, &mut lg, &mut sl);
-    match verdict {
-        Verdict::Refused(number) => ResidualAnswer {
-            verdict: Verdict::Refused(number),
-            value: 0.0,
-        },
-        Verdict::Passed => residual_with(&lg, ps, p, x, y, s.n),
-    }
-}
-
 // ---- dew point: p = 1 / Σ y_i / (γ_i p_i^sat), by successive substitution on ln γ of the incipient liquid
 
-fn dew_term(y: f64, ps: f64, lg: f64) -> f64
-    ensures { λ r. ⌜ r ≡ cond (lt 0f y) (y ⊘ (expOf lg ⊗ ps)) 0f ⌝ }
+fn dew_term(y: f64, ps: f64, gamma: f64) -> f64
+    ensures { λ r. ⌜ r ≡ cond (lt 0f y) (y ⊘ (gamma ⊗ ps)) 0f ⌝ }
 {
-    if y > 0.0 {
-        y / (numerics::exp(lg) * ps)
-    } else {
-        0.0
-    }
+    if y > 0.0 { y / (gamma * ps) } else { 0.0 }
 }
 
 fn dew_terms(y: &[f64; 8], ps: &[f64; 8], lg: &[f64; 8], n: usize) -> [f64; 8]
     requires { ⌜ n ≤ 8 ⌝ }
     ensures { λ r. ⌜ r ≡ vec (dewTerm (now (y .entry)) (now (ps .entry)) (now (lg .entry))) n ⌝ }
 {
+    let gamma = numerics::exps(lg, n);
     let mut w = [0.0; 8];
     for i in 0..n {
-        w[i] = dew_term(y[i], ps[i], lg[i]);
+        w[i] = dew_term(y[i], ps[i], gamma[i]);
     }
     w
 }
@@ -449,9 +413,16 @@ pub fn activity_bubble_pressure(
     ensures { λ r. ⌜ r ≡ saturationAnswer (bubbleTask (activityOn (now (table .entry)) s) (now (ps .entry)) (places (s .n)) (s .t .0) (now (x .entry))) ⌝ }
 {
     let t = s.t;
-    let b = bubble_at(table, s, x, ps);
-    let verdict = b.verdict;
+    let mut lg = [0.0; 8];
+    let mut sl = [0.0; 8];
+    let verdict = thermo_models::activity(table, s, x, &mut lg, &mut sl);
     match verdict {
+        Verdict::Refused(number) => return no_saturation(number),
+        Verdict::Passed => {}
+    }
+    let b = bubble_from(x, &lg, ps, s.n);
+    let positive = b.verdict;
+    match positive {
         Verdict::Refused(number) => return no_saturation(number),
         Verdict::Passed => {}
     }
@@ -460,7 +431,7 @@ pub fn activity_bubble_pressure(
         return no_saturation(23);
     }
     let vapor = b.vapor;
-    let r = residual(table, s, p, x, &vapor, ps);
+    let r = residual_with(&lg, ps, p, x, &vapor, s.n);
     let finite = r.verdict;
     match finite {
         Verdict::Refused(number) => no_saturation(number),

@@ -1,19 +1,23 @@
--- What the code answers on the way: sums, a point of f, a root, and what is left to run of a search. Assumes nothing.
+-- What the code answers on the way: sums, a point of f, and what is left to run of a search. Assumes nothing.
 use Prim.Native.Nat.{ℕ}
 use mathlib.Core.Path.{_≡_}
+use mathlib.Core.Bool.{true, false, cond}
 use mathlib.Core.List.{List}
-use lib.Ieee.{Float}
+use lib.Ieee.{Float, le}
 use Rattle.floats.specs.Arithmetic.{0f}
-use Rattle.floats.specs.Outcome.{Out, ok, no}
+use Rattle.floats.specs.Small.{absOf}
+use Rattle.floats.specs.Outcome.{Out, ok, no, bind}
 use Rattle.thermo_types.specs.declared.Verdict.the-variants.{Passed, Refused}
 use Rattle.thermo_models.specs.Model.{Activity, Pures}
+use Rattle.saturation.specs.Saturation.{Saturation}
+use Rattle.saturation.specs.Answers.{saturationAnswer}
+use Rattle.saturation.specs.declared.ActivitySaturation.{ActivitySaturation}
 use Rattle.saturation_temperature.specs.Search.{Point, Root, searchFrom}
 use Rattle.saturation_temperature.specs.Boiling.{weightSum, weightSlope}
 use Rattle.saturation_temperature.specs.declared.Weights.{Weights}
 use Rattle.saturation_temperature.specs.declared.PointAnswer.{PointAnswer}
-use Rattle.saturation_temperature.specs.declared.RootAnswer.{RootAnswer}
-use Rattle.saturation_temperature.specs.declared.SearchState.{SearchState}
-use Rattle.saturation_temperature.specs.declared.SearchState.the-variants as state
+use Rattle.saturation_temperature.specs.declared.Bracket.{Bracket}
+use Rattle.saturation_temperature.specs.declared.Search.{Search}
 
 -- as the code has them: two arrays
 abbrev pub activityFrom : List Float → List Float → Activity
@@ -27,16 +31,28 @@ pub record Weighed (x lg sl ps dps : List Float) (n : ℕ) (w : Weights) : Type 
   pub sum : w .sum ≡ weightSum x (activityFrom lg sl) (puresFrom ps dps) n
   pub slope : w .slope ≡ weightSlope x (activityFrom lg sl) (puresFrom ps dps) n
 
-unfoldable pub pointAnswer : Out Point → PointAnswer
-pointAnswer (ok f) = record { verdict = Passed; value = f .value; slope = f .slope }
-pointAnswer (no r) = record { verdict = Refused r; value = 0f; slope = 0f }
+-- a point of f with, where it is the root, the answer `found` there
+unfoldable pub pointAnswer : Float → Out Saturation → Out Point → PointAnswer
+pointAnswer tolerance found (ok f) = record {
+  verdict = Passed;
+  value = f .value;
+  slope = f .slope;
+  answer = cond (le (absOf (f .value)) tolerance) (saturationAnswer found) (saturationAnswer (no 0));
+}
+pointAnswer tolerance found (no r) = record { verdict = Refused r; value = 0f; slope = 0f; answer = saturationAnswer (no 0) }
 
-unfoldable pub rootAnswer : Out Root → RootAnswer
-rootAnswer (ok f) = record { verdict = Passed; temperature = f .temperature; iterations = f .iterations }
-rootAnswer (no r) = record { verdict = Refused r; temperature = 0f; iterations = 0 }
+-- a search that is over, and one that goes on inside a bracket
+unfoldable pub over : ActivitySaturation → Search
+over answer = record { going = false; bracket = record { lo = 0f; hi = 0f; next = 0f }; answer = answer }
 
--- what is left to run from a state after `done` turns, with `left` turns left
-unfoldable pub remaining : (Float → Out Point) → Float → ℕ → ℕ → SearchState → Out Root
-remaining f tolerance left done (state.Going b) = searchFrom f tolerance left done b
-remaining f tolerance left done (state.Found t) = ok (record { temperature = t; iterations = done })
-remaining f tolerance left done (state.Refused r) = no r
+unfoldable pub inside : Bracket → Search
+inside b = record { going = true; bracket = b; answer = saturationAnswer (no 0) }
+
+-- ---- `at-root` has the answer at a temperature, found after so many iterations
+module _ (at-root : ℕ → Float → Out Saturation) where
+  unfoldable pub answerAt : Out Root → ActivitySaturation
+  answerAt r = saturationAnswer (bind r (λ root. at-root (root .iterations) (root .temperature)))
+
+-- what is left to run of a search after `done` turns, with `left` turns left
+unfoldable pub remaining : (Float → Out Point) → (ℕ → Float → Out Saturation) → Float → ℕ → ℕ → Search → ActivitySaturation
+remaining f at-root tolerance left done s = cond (s .going) (answerAt at-root (searchFrom f tolerance left done (s .bracket))) (s .answer)

@@ -1,22 +1,26 @@
 // Bubble and dew temperatures at a pressure (activity.rs): ln p_sat(T) = ln p, by Newton steps kept inside a bracket.
 ghost use mathlib.Core.Path.{_≡_};
 ghost use mathlib.Core.Bool.{cond, _&&_};
+ghost use mathlib.Core.List.{List};
 ghost use Prim.Native.Nat.{ℕ, suc, _≤_};
-ghost use lib.Ieee.{lt};
+ghost use lib.Ieee.{Float, lt};
 ghost use Rattle.floats.specs.Arithmetic.{_⊕_, _⊗_, 0f};
 ghost use Rattle.floats.specs.Fold.{foldTo, active};
 ghost use Rattle.floats.specs.Vector.{at, places};
-ghost use Rattle.floats.specs.Outcome.{no};
-ghost use Rattle.numerics.specs.Numerics.{expOf};
-ghost use Rattle.thermo_models.specs.Activity.{activityOn, activityOf};
+ghost use Rattle.floats.specs.Outcome.{Out, ok, no};
+ghost use Rattle.thermo_types.specs.declared.Verdict.the-variants.{Passed};
+ghost use Rattle.thermo_types.specs.declared.ActivityOptions.{ActivityOptions};
+ghost use Rattle.thermo_models.specs.Model.{Activity};
+ghost use Rattle.thermo_models.specs.Activity.{activityOf};
 ghost use Rattle.thermo_models.specs.Domain.{pureLiquidsOf};
-ghost use Rattle.saturation.specs.Answers.{saturationAnswer};
+ghost use Rattle.saturation.specs.Saturation.{Saturation, dewAt};
+ghost use Rattle.saturation.specs.Answers.{dewAnswer, saturationAnswer};
 ghost use Rattle.saturation_temperature.specs.Search.{middle, stepOf, collapsed, searchFrom, solveTemperature};
-ghost use Rattle.saturation_temperature.specs.Boiling.{bubblePointFrom, dewPointFrom, bubblePointAt, dewPointAt, bubbleSaturation, dewSaturation, saturationTemperature, bubbleTemperature, dewTemperature};
-ghost use Rattle.saturation_temperature.specs.Answers.{activityFrom, puresFrom, Weighed, pointAnswer, rootAnswer, remaining};
-ghost use Rattle.saturation_temperature.specs.Curves.{foundOf, curveOf};
+ghost use Rattle.saturation_temperature.specs.Boiling.{bubblePointAt, dewPointAt, bubbleFound, dewFound, bubbleSaturation, dewSaturation, saturationTemperature, bubbleTemperature, dewTemperature};
+ghost use Rattle.saturation_temperature.specs.Answers.{activityFrom, Weighed, pointAnswer, over, inside, answerAt, remaining};
+ghost use Rattle.saturation_temperature.specs.Curves.{foundOf, curveOf, rootOf};
 use saturation::ActivitySaturation;
-use thermo_models::Tabled;
+use saturation::DewPoint;
 use thermo_types::ActivityOptions;
 use thermo_types::NewTemperature;
 use thermo_types::Pressure;
@@ -29,18 +33,13 @@ enum Curve {
     Dew,
 }
 
-// f(T) = ln p_sat(T) - ln p, and its slope, 1/K; zeros where it is refused.
+// f(T) = ln p_sat(T) - ln p, and its slope, 1/K; zeros where it is refused. Where |f| is within the tolerance T is the root,
+// and `answer` the saturation point there.
 struct PointAnswer {
     verdict: Verdict,
     value: f64,
     slope: f64,
-}
-
-// The temperature found, K, and the iterations; zeros where it is refused.
-struct RootAnswer {
-    verdict: Verdict,
-    temperature: f64,
-    iterations: u64,
+    answer: ActivitySaturation,
 }
 
 // A bracket of the root, and the next temperature to try, K.
@@ -50,32 +49,54 @@ struct Bracket {
     next: f64,
 }
 
-// A search that goes on inside a bracket, or has found the root, K, or is refused.
-enum SearchState {
-    Going(Bracket),
-    Found(f64),
-    Refused(u64),
-}
-
-// ---- refusals
-
-fn no_root(number: u64) -> RootAnswer
-    ensures { λ r. ⌜ r ≡ rootAnswer (no number) ⌝ }
-{
-    RootAnswer {
-        verdict: Verdict::Refused(number),
-        temperature: 0.0,
-        iterations: 0,
-    }
+// A search that goes on inside its bracket, or has its answer.
+struct Search {
+    going: bool,
+    bracket: Bracket,
+    answer: ActivitySaturation,
 }
 
 fn no_point(number: u64) -> PointAnswer
-    ensures { λ r. ⌜ r ≡ pointAnswer (no number) ⌝ }
+    ensures { λ r. ⌜ ((tolerance : Float) (found : Out Saturation) → r ≡ pointAnswer tolerance found (no number)) ⌝ }
 {
+    let answer = saturation::no_saturation(0);
     PointAnswer {
         verdict: Verdict::Refused(number),
         value: 0.0,
         slope: 0.0,
+        answer: answer,
+    }
+}
+
+fn over(answer: ActivitySaturation) -> Search
+    ensures { λ r. ⌜ r ≡ over answer ⌝ }
+{
+    let none = Bracket {
+        lo: 0.0,
+        hi: 0.0,
+        next: 0.0,
+    };
+    Search {
+        going: false,
+        bracket: none,
+        answer: answer,
+    }
+}
+
+fn refused(number: u64) -> Search
+    ensures { λ r. ⌜ r ≡ over (saturationAnswer (no number)) ⌝ }
+{
+    over(saturation::no_saturation(number))
+}
+
+fn inside(b: Bracket) -> Search
+    ensures { λ r. ⌜ r ≡ inside b ⌝ }
+{
+    let answer = saturation::no_saturation(0);
+    Search {
+        going: true,
+        bracket: b,
+        answer: answer,
     }
 }
 
@@ -135,11 +156,11 @@ struct Weights {
 }
 
 // One solvent more, if its fraction is positive: w = x γ p_sat.
-fn weighed(s: Weights, x: f64, lg: f64, sl: f64, ps: f64, dps: f64) -> Weights
-    ensures { λ r. ⌜ (r .sum ≡ cond (lt 0f x) (s .sum ⊕ x ⊗ expOf lg ⊗ ps) (s .sum)) × (r .slope ≡ cond (lt 0f x) (s .slope ⊕ x ⊗ expOf lg ⊗ ps ⊗ (sl ⊕ dps)) (s .slope)) ⌝ }
+fn weighed(s: Weights, x: f64, gamma: f64, sl: f64, ps: f64, dps: f64) -> Weights
+    ensures { λ r. ⌜ (r .sum ≡ cond (lt 0f x) (s .sum ⊕ x ⊗ gamma ⊗ ps) (s .sum)) × (r .slope ≡ cond (lt 0f x) (s .slope ⊕ x ⊗ gamma ⊗ ps ⊗ (sl ⊕ dps)) (s .slope)) ⌝ }
 {
     if 0.0 < x {
-        let w = x * numerics::exp(lg) * ps;
+        let w = x * gamma * ps;
         Weights {
             sum: s.sum + w,
             slope: s.slope + w * (sl + dps),
@@ -160,86 +181,37 @@ fn weigh(
     requires { ⌜ n ≤ 8 ⌝ }
     ensures { λ r. ⌜ Weighed (now (x .entry)) (now (lg .entry)) (now (sl .entry)) (now (ps .entry)) (now (dps .entry)) n r ⌝ }
 {
+    let gamma = numerics::exps(lg, n);
     let mut s = Weights {
         sum: 0.0,
         slope: 0.0,
     };
     for i in 0..n {
-        s = weighed(s, x[i], lg[i], sl[i], ps[i], dps[i]);
+        s = weighed(s, x[i], gamma[i], sl[i], ps[i], dps[i]);
     }
     s
 }
 
-// f from the activity of the feed on: the pure liquids (22, 25), then the sums.
-fn bubble_point_from(
-    book: &[u8],
-    n: usize,
-    p: f64,
+// The answer at a root T, from ln γ of the feed and the vapor pressures there: the bubble point, and its residual at the given pressure.
+fn bubble_with(
     x: &[f64; 8],
     lg: &[f64; 8],
-    sl: &[f64; 8],
-    t: Temperature,
-) -> PointAnswer
-    ensures { λ r. ⌜ r ≡ pointAnswer (bubblePointFrom p (now (x .entry)) (places n) (activityFrom (now (lg .entry)) (now (sl .entry))) (pureLiquidsOf (now (book .entry)) (places n) (t .0))) ⌝ }
-{
-    let mut ps = [0.0; 8];
-    let mut dps = [0.0; 8];
-    let verdict = thermo_models::pure_liquids(book, n, t, &mut ps, &mut dps);
-    match verdict {
-        Verdict::Refused(number) => no_point(number),
-        Verdict::Passed => {
-            let w = weigh(x, lg, sl, &ps, &dps, floats::places(n));
-            PointAnswer {
-                verdict: Verdict::Passed,
-                value: numerics::ln(w.sum) - numerics::ln(p),
-                slope: w.slope / w.sum,
-            }
-        }
-    }
-}
-
-// f(T) = ln Σ w_i - ln p: the activity of the feed (24, 25) comes before the pure liquids.
-fn bubble_point_at(
-    book: &[u8],
-    parameters: &[f64; 384],
+    ps: &[f64; 8],
     n: usize,
     p: f64,
-    x: &[f64; 8],
     t: Temperature,
-) -> PointAnswer
-    ensures { λ r. ⌜ r ≡ pointAnswer (bubblePointAt (activityOf (now (book .entry)) (now (parameters .entry)) (places n)) (pureLiquidsOf (now (book .entry)) (places n)) (places n) p (now (x .entry)) (t .0)) ⌝ }
-{
-    let mut table = [0.0; 512];
-    let s = thermo_models::tables(book, parameters, n, t, &mut table);
-    let mut lg = [0.0; 8];
-    let mut sl = [0.0; 8];
-    let verdict = thermo_models::activity(&table, s, x, &mut lg, &mut sl);
-    match verdict {
-        Verdict::Refused(number) => no_point(number),
-        Verdict::Passed => bubble_point_from(book, n, p, x, &lg, &sl, t),
-    }
-}
-
-// From the vapor pressures at T: the bubble point, and its residual at the given pressure.
-fn bubble_with(
-    table: &[f64; 512],
-    s: Tabled,
-    ps: &[f64; 8],
-    p: f64,
-    x: &[f64; 8],
     iterations: u64,
 ) -> ActivitySaturation
-    ensures { λ r. ⌜ r ≡ saturationAnswer (bubbleSaturation (activityOn (now (table .entry)) s) (now (ps .entry)) (places (s .n)) p (now (x .entry)) iterations (s .t .0)) ⌝ }
+    ensures { λ r. ⌜ ((E : List Float → Out Activity) (sl : List Float) → E (now (x .entry)) ≡ ok (activityFrom (now (lg .entry)) sl) → r ≡ saturationAnswer (bubbleSaturation E (now (ps .entry)) (places n) p (now (x .entry)) iterations (t .0))) ⌝ }
 {
-    let t = s.t;
-    let b = saturation::bubble_at(table, s, x, ps);
+    let b = saturation::bubble_from(x, lg, ps, n);
     let verdict = b.verdict;
     match verdict {
         Verdict::Refused(number) => return saturation::no_saturation(number),
         Verdict::Passed => {}
     }
     let vapor = b.vapor;
-    let gap = saturation::residual(table, s, p, x, &vapor, ps);
+    let gap = saturation::residual_with(lg, ps, p, x, &vapor, n);
     let finite = gap.verdict;
     match finite {
         Verdict::Refused(number) => saturation::no_saturation(number),
@@ -252,6 +224,56 @@ fn bubble_with(
             residual: floats::max(gap.value, floats::abs(numerics::ln(b.pressure / p))),
             iterations: iterations,
         },
+    }
+}
+
+// f(T) = ln Σ w_i - ln p: the activity of the feed (24, 25) comes before the pure liquids (22, 25).
+fn bubble_point_at(
+    book: &[u8],
+    parameters: &[f64; 384],
+    n: usize,
+    p: f64,
+    x: &[f64; 8],
+    o: ActivityOptions,
+    t: Temperature,
+    iterations: u64,
+) -> PointAnswer
+    ensures { λ r. ⌜ r ≡ pointAnswer (o .tolerance) (bubbleFound (activityOf (now (book .entry)) (now (parameters .entry)) (places n)) (pureLiquidsOf (now (book .entry)) (places n)) (places n) p (now (x .entry)) iterations (t .0)) (bubblePointAt (activityOf (now (book .entry)) (now (parameters .entry)) (places n)) (pureLiquidsOf (now (book .entry)) (places n)) (places n) p (now (x .entry)) (t .0)) ⌝ }
+{
+    let mut table = [0.0; 512];
+    let s = thermo_models::tables(book, parameters, n, t, &mut table);
+    let mut lg = [0.0; 8];
+    let mut sl = [0.0; 8];
+    let verdict = thermo_models::activity(&table, s, x, &mut lg, &mut sl);
+    match verdict {
+        Verdict::Refused(number) => return no_point(number),
+        Verdict::Passed => {}
+    }
+    let mut ps = [0.0; 8];
+    let mut dps = [0.0; 8];
+    let pure = thermo_models::pure_liquids(book, n, t, &mut ps, &mut dps);
+    match pure {
+        Verdict::Refused(number) => return no_point(number),
+        Verdict::Passed => {}
+    }
+    let w = weigh(x, &lg, &sl, &ps, &dps, floats::places(n));
+    let value = numerics::ln(w.sum) - numerics::ln(p);
+    let slope = w.slope / w.sum;
+    if floats::abs(value) <= o.tolerance {
+        let root = bubble_with(x, &lg, &ps, n, p, t, iterations);
+        return PointAnswer {
+            verdict: Verdict::Passed,
+            value: value,
+            slope: slope,
+            answer: root,
+        };
+    }
+    let none = saturation::no_saturation(0);
+    PointAnswer {
+        verdict: Verdict::Passed,
+        value: value,
+        slope: slope,
+        answer: none,
     }
 }
 
@@ -276,81 +298,22 @@ fn dew_slope(y: &[f64; 8], liquid: &[f64; 8], sl: &[f64; 8], dps: &[f64; 8], n: 
     s
 }
 
-// f with the pure liquids at T.
-fn dew_point_from(
-    table: &[f64; 512],
-    s: Tabled,
+// The answer at a root T, from the dew point there: its residual at the given pressure. The count wraps past 2^64, which no
+// limit of a question reaches.
+fn dew_with(
+    d: DewPoint,
     ps: &[f64; 8],
-    dps: &[f64; 8],
-    p: f64,
-    y: &[f64; 8],
-    o: ActivityOptions,
-) -> PointAnswer
-    ensures { λ r. ⌜ r ≡ pointAnswer (dewPointFrom (activityOn (now (table .entry)) s) (puresFrom (now (ps .entry)) (now (dps .entry))) (places (s .n)) o p (now (y .entry))) ⌝ }
-{
-    let d = saturation::dew_at(table, s, y, ps, o);
-    let verdict = d.verdict;
-    match verdict {
-        Verdict::Refused(number) => no_point(number),
-        Verdict::Passed => {
-            let liquid = d.liquid;
-            let sl = d.sl;
-            PointAnswer {
-                verdict: Verdict::Passed,
-                value: numerics::ln(d.pressure) - numerics::ln(p),
-                slope: dew_slope(y, &liquid, &sl, dps, floats::places(s.n)),
-            }
-        }
-    }
-}
-
-// f(T) = ln p_dew(T) - ln p: the pure liquids (22, 25) come first.
-fn dew_point_at(
-    book: &[u8],
-    parameters: &[f64; 384],
     n: usize,
     p: f64,
     y: &[f64; 8],
-    o: ActivityOptions,
     t: Temperature,
-) -> PointAnswer
-    ensures { λ r. ⌜ r ≡ pointAnswer (dewPointAt (activityOf (now (book .entry)) (now (parameters .entry)) (places n)) (pureLiquidsOf (now (book .entry)) (places n)) (places n) o p (now (y .entry)) (t .0)) ⌝ }
-{
-    let mut ps = [0.0; 8];
-    let mut dps = [0.0; 8];
-    let verdict = thermo_models::pure_liquids(book, n, t, &mut ps, &mut dps);
-    match verdict {
-        Verdict::Refused(number) => return no_point(number),
-        Verdict::Passed => {}
-    }
-    let mut table = [0.0; 512];
-    let s = thermo_models::tables(book, parameters, n, t, &mut table);
-    dew_point_from(&table, s, &ps, &dps, p, y, o)
-}
-
-// From the vapor pressures at T: the dew point, and its residual at the given pressure. The count wraps past 2^64, which no
-// limit of a question reaches.
-fn dew_with(
-    table: &[f64; 512],
-    s: Tabled,
-    ps: &[f64; 8],
-    p: f64,
-    y: &[f64; 8],
-    o: ActivityOptions,
     outer: u64,
 ) -> ActivitySaturation
-    ensures { λ r. ⌜ r ≡ saturationAnswer (dewSaturation (activityOn (now (table .entry)) s) (now (ps .entry)) (places (s .n)) o p (now (y .entry)) outer (s .t .0)) ⌝ }
+    ensures { λ r. ⌜ ((E : List Float → Out Activity) (o : ActivityOptions) → d ≡ dewAnswer (dewAt E (now (ps .entry)) (places n) o (now (y .entry))) → d .verdict ≡ Passed → r ≡ saturationAnswer (dewSaturation E (now (ps .entry)) (places n) o p (now (y .entry)) outer (t .0))) ⌝ }
 {
-    let t = s.t;
-    let d = saturation::dew_at(table, s, y, ps, o);
-    let verdict = d.verdict;
-    match verdict {
-        Verdict::Refused(number) => return saturation::no_saturation(number),
-        Verdict::Passed => {}
-    }
     let liquid = d.liquid;
     let lg = d.lg;
-    let gap = saturation::residual_with(&lg, ps, p, &liquid, y, s.n);
+    let gap = saturation::residual_with(&lg, ps, p, &liquid, y, n);
     let finite = gap.verdict;
     match finite {
         Verdict::Refused(number) => saturation::no_saturation(number),
@@ -366,6 +329,56 @@ fn dew_with(
     }
 }
 
+// f(T) = ln p_dew(T) - ln p: the pure liquids (22, 25) come first.
+fn dew_point_at(
+    book: &[u8],
+    parameters: &[f64; 384],
+    n: usize,
+    p: f64,
+    y: &[f64; 8],
+    o: ActivityOptions,
+    t: Temperature,
+    iterations: u64,
+) -> PointAnswer
+    ensures { λ r. ⌜ r ≡ pointAnswer (o .tolerance) (dewFound (activityOf (now (book .entry)) (now (parameters .entry)) (places n)) (pureLiquidsOf (now (book .entry)) (places n)) (places n) o p (now (y .entry)) iterations (t .0)) (dewPointAt (activityOf (now (book .entry)) (now (parameters .entry)) (places n)) (pureLiquidsOf (now (book .entry)) (places n)) (places n) o p (now (y .entry)) (t .0)) ⌝ }
+{
+    let mut ps = [0.0; 8];
+    let mut dps = [0.0; 8];
+    let pure = thermo_models::pure_liquids(book, n, t, &mut ps, &mut dps);
+    match pure {
+        Verdict::Refused(number) => return no_point(number),
+        Verdict::Passed => {}
+    }
+    let mut table = [0.0; 512];
+    let s = thermo_models::tables(book, parameters, n, t, &mut table);
+    let d = saturation::dew_at(&table, s, y, &ps, o);
+    let verdict = d.verdict;
+    match verdict {
+        Verdict::Refused(number) => return no_point(number),
+        Verdict::Passed => {}
+    }
+    let liquid = d.liquid;
+    let sl = d.sl;
+    let value = numerics::ln(d.pressure) - numerics::ln(p);
+    let slope = dew_slope(y, &liquid, &sl, &dps, floats::places(n));
+    if floats::abs(value) <= o.tolerance {
+        let root = dew_with(d, &ps, n, p, y, t, iterations);
+        return PointAnswer {
+            verdict: Verdict::Passed,
+            value: value,
+            slope: slope,
+            answer: root,
+        };
+    }
+    let none = saturation::no_saturation(0);
+    PointAnswer {
+        verdict: Verdict::Passed,
+        value: value,
+        slope: slope,
+        answer: none,
+    }
+}
+
 // ---- both curves
 
 // f(T) of a curve: `Temperature::new` (13) first.
@@ -378,15 +391,16 @@ fn curve_point(
     z: &[f64; 8],
     o: ActivityOptions,
     t: f64,
+    iterations: u64,
 ) -> PointAnswer
-    ensures { λ r. ⌜ r ≡ pointAnswer (curveOf (now (book .entry)) (now (parameters .entry)) n curve o p (now (z .entry)) t) ⌝ }
+    ensures { λ r. ⌜ r ≡ pointAnswer (o .tolerance) (rootOf (now (book .entry)) (now (parameters .entry)) n curve o p (now (z .entry)) iterations t) (curveOf (now (book .entry)) (now (parameters .entry)) n curve o p (now (z .entry)) t) ⌝ }
 {
     let tried = Temperature::new(t);
     match tried {
         NewTemperature::No(number) => no_point(number),
         NewTemperature::Valid(kelvin) => match curve {
-            Curve::Bubble => bubble_point_at(book, parameters, n, p, z, kelvin),
-            Curve::Dew => dew_point_at(book, parameters, n, p, z, o, kelvin),
+            Curve::Bubble => bubble_point_at(book, parameters, n, p, z, o, kelvin, iterations),
+            Curve::Dew => dew_point_at(book, parameters, n, p, z, o, kelvin, iterations),
         },
     }
 }
@@ -401,41 +415,43 @@ fn curve_ends(
     p: f64,
     z: &[f64; 8],
     o: ActivityOptions,
-) -> SearchState
-    ensures { λ r. ⌜ remaining (curveOf (now (book .entry)) (now (parameters .entry)) n curve o p (now (z .entry))) (o .tolerance) (o .«max_temperature_iterations») 0 r ≡ solveTemperature (curveOf (now (book .entry)) (now (parameters .entry)) n curve o p (now (z .entry))) o ⌝ }
+) -> Search
+    ensures { λ r. ⌜ remaining (curveOf (now (book .entry)) (now (parameters .entry)) n curve o p (now (z .entry))) (rootOf (now (book .entry)) (now (parameters .entry)) n curve o p (now (z .entry))) (o .tolerance) (o .«max_temperature_iterations») 0 r ≡ answerAt (rootOf (now (book .entry)) (now (parameters .entry)) n curve o p (now (z .entry))) (solveTemperature (curveOf (now (book .entry)) (now (parameters .entry)) n curve o p (now (z .entry))) o) ⌝ }
 {
     let lo = o.minimum_temperature_k;
     let hi = o.maximum_temperature_k;
-    let a = curve_point(curve, book, parameters, n, p, z, o, lo);
+    let a = curve_point(curve, book, parameters, n, p, z, o, lo, 0);
     let low = a.verdict;
     match low {
-        Verdict::Refused(number) => return SearchState::Refused(number),
+        Verdict::Refused(number) => return refused(number),
         Verdict::Passed => {}
     }
-    let b = curve_point(curve, book, parameters, n, p, z, o, hi);
+    let b = curve_point(curve, book, parameters, n, p, z, o, hi, 0);
     let high = b.verdict;
     match high {
-        Verdict::Refused(number) => return SearchState::Refused(number),
+        Verdict::Refused(number) => return refused(number),
         Verdict::Passed => {}
     }
     if floats::abs(a.value) <= o.tolerance {
-        return SearchState::Found(lo);
+        let answer = a.answer;
+        return over(answer);
     }
     if floats::abs(b.value) <= o.tolerance {
-        return SearchState::Found(hi);
+        let answer = b.answer;
+        return over(answer);
     }
     if (0.0 < a.value) | (b.value < 0.0) {
-        return SearchState::Refused(26);
+        return refused(26);
     }
     let next = middle(lo, hi);
-    SearchState::Going(Bracket {
+    inside(Bracket {
         lo: lo,
         hi: hi,
         next: next,
     })
 }
 
-// One turn from a bracket, with f at its next temperature: 27 where the bracket has collapsed.
+// One turn from a bracket, the `iterations`-th, with f at its next temperature: 27 where the bracket has collapsed.
 fn curve_turn(
     curve: Curve,
     book: &[u8],
@@ -445,24 +461,26 @@ fn curve_turn(
     z: &[f64; 8],
     o: ActivityOptions,
     b: Bracket,
-) -> SearchState
-    ensures { λ r. ⌜ ((left done : ℕ) → remaining (curveOf (now (book .entry)) (now (parameters .entry)) n curve o p (now (z .entry))) (o .tolerance) left (suc done) r ≡ searchFrom (curveOf (now (book .entry)) (now (parameters .entry)) n curve o p (now (z .entry))) (o .tolerance) (suc left) done b) ⌝ }
+    iterations: u64,
+) -> Search
+    ensures { λ r. ⌜ ((left done : ℕ) → iterations ≡ suc done → remaining (curveOf (now (book .entry)) (now (parameters .entry)) n curve o p (now (z .entry))) (rootOf (now (book .entry)) (now (parameters .entry)) n curve o p (now (z .entry))) (o .tolerance) left (suc done) r ≡ answerAt (rootOf (now (book .entry)) (now (parameters .entry)) n curve o p (now (z .entry))) (searchFrom (curveOf (now (book .entry)) (now (parameters .entry)) n curve o p (now (z .entry))) (o .tolerance) (suc left) done b)) ⌝ }
 {
     let t = b.next;
-    let f = curve_point(curve, book, parameters, n, p, z, o, t);
+    let f = curve_point(curve, book, parameters, n, p, z, o, t, iterations);
     let verdict = f.verdict;
     match verdict {
-        Verdict::Refused(number) => return SearchState::Refused(number),
+        Verdict::Refused(number) => return refused(number),
         Verdict::Passed => {}
     }
     if floats::abs(f.value) <= o.tolerance {
-        return SearchState::Found(t);
+        let answer = f.answer;
+        return over(answer);
     }
     let after = step(f.value, f.slope, b);
     if collapsed(after, t) {
-        return SearchState::Refused(27);
+        return refused(27);
     }
-    SearchState::Going(after)
+    inside(after)
 }
 
 // Turns from a bracket: 27 where the limit is used up.
@@ -475,31 +493,25 @@ fn search_from(
     z: &[f64; 8],
     o: ActivityOptions,
     b: Bracket,
-) -> RootAnswer
-    ensures { λ r. ⌜ r ≡ rootAnswer (searchFrom (curveOf (now (book .entry)) (now (parameters .entry)) n curve o p (now (z .entry))) (o .tolerance) (o .«max_temperature_iterations») 0 b) ⌝ }
+) -> ActivitySaturation
+    ensures { λ r. ⌜ r ≡ answerAt (rootOf (now (book .entry)) (now (parameters .entry)) n curve o p (now (z .entry))) (searchFrom (curveOf (now (book .entry)) (now (parameters .entry)) n curve o p (now (z .entry))) (o .tolerance) (o .«max_temperature_iterations») 0 b) ⌝ }
 {
-    let mut inside = b;
-    for done in 0..o.max_temperature_iterations {
-        let s = curve_turn(curve, book, parameters, n, p, z, o, inside);
-        match s {
-            SearchState::Going(after) => {
-                inside = after;
-            }
-            SearchState::Found(t) => {
-                let iterations = done + 1;
-                return RootAnswer {
-                    verdict: Verdict::Passed,
-                    temperature: t,
-                    iterations: iterations,
-                };
-            }
-            SearchState::Refused(number) => return no_root(number),
+    let mut bracket = b;
+    let mut done = 0;
+    while done < o.max_temperature_iterations {
+        done += 1;
+        let s = curve_turn(curve, book, parameters, n, p, z, o, bracket, done);
+        if !s.going {
+            let answer = s.answer;
+            return answer;
         }
+        let after = s.bracket;
+        bracket = after;
     }
-    no_root(27)
+    saturation::no_saturation(27)
 }
 
-// Safeguarded Newton on f(T) = 0 over the bracket of the options, K.
+// Safeguarded Newton on f(T) = 0 over the bracket of the options, K: the saturation point at the root.
 fn solve_temperature(
     curve: Curve,
     book: &[u8],
@@ -508,51 +520,19 @@ fn solve_temperature(
     p: f64,
     z: &[f64; 8],
     o: ActivityOptions,
-) -> RootAnswer
-    ensures { λ r. ⌜ r ≡ rootAnswer (solveTemperature (curveOf (now (book .entry)) (now (parameters .entry)) n curve o p (now (z .entry))) o) ⌝ }
+) -> ActivitySaturation
+    ensures { λ r. ⌜ r ≡ answerAt (rootOf (now (book .entry)) (now (parameters .entry)) n curve o p (now (z .entry))) (solveTemperature (curveOf (now (book .entry)) (now (parameters .entry)) n curve o p (now (z .entry))) o) ⌝ }
 {
     let s = curve_ends(curve, book, parameters, n, p, z, o);
-    match s {
-        SearchState::Going(b) => search_from(curve, book, parameters, n, p, z, o, b),
-        SearchState::Found(t) => RootAnswer {
-            verdict: Verdict::Passed,
-            temperature: t,
-            iterations: 0,
-        },
-        SearchState::Refused(number) => no_root(number),
+    if !s.going {
+        let answer = s.answer;
+        return answer;
     }
+    let b = s.bracket;
+    search_from(curve, book, parameters, n, p, z, o, b)
 }
 
-// The answer at the temperature found: the pure liquids (22, 25), then the curve's own point.
-fn found_at(
-    curve: Curve,
-    book: &[u8],
-    parameters: &[f64; 384],
-    n: usize,
-    p: f64,
-    z: &[f64; 8],
-    o: ActivityOptions,
-    iterations: u64,
-    t: Temperature,
-) -> ActivitySaturation
-    ensures { λ r. ⌜ r ≡ saturationAnswer (foundOf (activityOf (now (book .entry)) (now (parameters .entry)) (places n)) (pureLiquidsOf (now (book .entry)) (places n)) (places n) curve o p (now (z .entry)) iterations (t .0)) ⌝ }
-{
-    let mut ps = [0.0; 8];
-    let mut dps = [0.0; 8];
-    let verdict = thermo_models::pure_liquids(book, n, t, &mut ps, &mut dps);
-    match verdict {
-        Verdict::Refused(number) => return saturation::no_saturation(number),
-        Verdict::Passed => {}
-    }
-    let mut table = [0.0; 512];
-    let s = thermo_models::tables(book, parameters, n, t, &mut table);
-    match curve {
-        Curve::Bubble => bubble_with(&table, s, &ps, p, z, iterations),
-        Curve::Dew => dew_with(&table, s, &ps, p, z, o, iterations),
-    }
-}
-
-// The saturation temperature at p on a curve: 23, then what the search refuses, then the answer at its root.
+// The saturation temperature at p on a curve: 23, then what the search refuses, or the answer at its root.
 fn curve_temperature(
     curve: Curve,
     book: &[u8],
@@ -567,20 +547,7 @@ fn curve_temperature(
     if !thermo_models::check_pressure(p) {
         return saturation::no_saturation(23);
     }
-    let root = solve_temperature(curve, book, parameters, n, p, z, o);
-    let verdict = root.verdict;
-    match verdict {
-        Verdict::Refused(number) => return saturation::no_saturation(number),
-        Verdict::Passed => {}
-    }
-    let found = Temperature::new(root.temperature);
-    match found {
-        NewTemperature::No(number) => saturation::no_saturation(number),
-        NewTemperature::Valid(t) => {
-            let iterations = root.iterations;
-            found_at(curve, book, parameters, n, p, z, o, iterations, t)
-        }
-    }
+    solve_temperature(curve, book, parameters, n, p, z, o)
 }
 
 // Bubble temperature at p: ln Σ x_i γ_i p_i^sat = ln p on the bracket of the options.

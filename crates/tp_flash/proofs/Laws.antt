@@ -27,7 +27,7 @@ use Rattle.thermo_models.proofs.Answers.{activity-passed, activity-refused, pur
 use Rattle.rachford_rice.specs.Rachford.{Solution, negative, splitOf, twoPhase, refusedWith}
 use Rattle.rachford_rice.specs.declared.RachfordRice.{RachfordRice}
 use Rattle.rachford_rice.proofs.Answers.{split-no}
-use Rattle.saturation.specs.Saturation.{Dew, bubbleAt}
+use Rattle.saturation.specs.Saturation.{Dew, bubbleFrom, bubbleAt}
 use Rattle.saturation.specs.Answers.{bubbleAnswer, dewAnswer}
 use Rattle.saturation.proofs.Answers.{bubble-passed, bubble-refused}
 use Rattle.saturation.specs.declared.BubblePoint.{BubblePoint}
@@ -274,21 +274,17 @@ module _ (E : List Float → Out Activity) (n : ℕ) (o : ActivityOptions) where
       split-outside k h e = rw (← ew, ← ef, choose-no _ _ k, need-no _ _ h) e
 
 module _ (E : List Float → Out Activity) (n : ℕ) (o : ActivityOptions) (z : List Float) (p : Float) (ps : List Float) where
-  module _ (bubble dew : Float) {v : Verdict} {lg sl : List Float} (is : ActivityIs (E z) v lg sl) where
-    pub feed-refused : {m : ℕ} {r : ActivityTpFlash} → v ≡ Refused m → r ≡ flashAnswer (no m) → r ≡ flashAnswer (splitFeed E n o z p ps bubble dew)
+  module _ (bubble dew : Float) (lg sl : List Float) (feed : E z ≡ ok (record { lnGamma = lg; slopes = sl }))
+      {s : SplitPoint} (es : s ≡ splitAnswer (splitFrom E ps n p z (o .tolerance) (o .«max_iterations») 0 lg)) where
+    pub feed-split-refused : {m : ℕ} {r : ActivityTpFlash} → s .verdict ≡ Refused m → r ≡ flashAnswer (no m)
+        → r ≡ flashAnswer (splitFeed E n o z p ps bubble dew)
     unfolding splitFeed
-    feed-refused q e = rw (bind-no _ (activity-refused (E z) is q)) e
+    feed-split-refused k e = rw (bind-yes _ feed, bind-no _ (split-point-no _ es k)) e
 
-    module _ (q : v ≡ Passed) {s : SplitPoint} (es : s ≡ splitAnswer (splitFrom E ps n p z (o .tolerance) (o .«max_iterations») 0 lg)) where
-      pub feed-split-refused : {m : ℕ} {r : ActivityTpFlash} → s .verdict ≡ Refused m → r ≡ flashAnswer (no m)
-          → r ≡ flashAnswer (splitFeed E n o z p ps bubble dew)
-      unfolding splitFeed
-      feed-split-refused k e = rw (bind-yes _ (activity-passed (E z) is q), bind-no _ (split-point-no _ es k)) e
-
-      pub feed-split : {r : ActivityTpFlash} → s .verdict ≡ Passed → r ≡ flashAnswer (fromSplit E n o z bubble dew (splitIn s))
-          → r ≡ flashAnswer (splitFeed E n o z p ps bubble dew)
-      unfolding splitFeed
-      feed-split k e = rw (bind-yes _ (activity-passed (E z) is q), bind-yes _ (split-point-ok _ es k)) e
+    pub feed-split : {r : ActivityTpFlash} → s .verdict ≡ Passed → r ≡ flashAnswer (fromSplit E n o z bubble dew (splitIn s))
+        → r ≡ flashAnswer (splitFeed E n o z p ps bubble dew)
+    unfolding splitFeed
+    feed-split k e = rw (bind-yes _ feed, bind-yes _ (split-point-ok _ es k)) e
 
   module _ (bubble dew : Float) {v : Float} (ev : v ≡ p) {r : ActivityTpFlash} where
     pub between-liquid : le bubble v ≡ true → r ≡ flashAnswer (asLiquid E n o z bubble dew gammaPhi) → r ≡ flashAnswer (betweenOf E n o z p ps bubble dew)
@@ -321,14 +317,21 @@ module _ (E : List Float → Out Activity) (n : ℕ) (o : ActivityOptions) (z : 
     unfolding fromDew
     from-dew-passed q e = rw (bind-yes _ (dew-ok _ ed q)) e
 
-  module _ {b : BubblePoint} (eb : b ≡ bubbleAnswer (bubbleAt E ps n z)) {r : ActivityTpFlash} where
-    pub phases-refused : {m : ℕ} → b .verdict ≡ Refused m → r ≡ flashAnswer (no m) → r ≡ flashAnswer (phasesOf E n o z p ps)
-    unfolding phasesOf
-    phases-refused q e = rw (bind-no _ (bubble-refused _ eb q)) e
+  -- the activity of the feed, then the bubble point of its ln γ
+  module _ {v : Verdict} {lg sl : List Float} (is : ActivityIs (E z) v lg sl) {r : ActivityTpFlash} where
+    pub feed-refused : {m : ℕ} → v ≡ Refused m → r ≡ flashAnswer (no m) → r ≡ flashAnswer (phasesOf E n o z p ps)
+    unfolding phasesOf bubbleAt bind
+    feed-refused q e = rw (activity-refused (E z) is q) e
 
-    pub phases-passed : b .verdict ≡ Passed → r ≡ flashAnswer (fromDew E n o z p ps (b .pressure)) → r ≡ flashAnswer (phasesOf E n o z p ps)
-    unfolding phasesOf
-    phases-passed q e = rw (bind-yes _ (bubble-passed _ eb q)) e
+    module _ (q : v ≡ Passed) {b : BubblePoint} (eb : b ≡ bubbleAnswer (bubbleFrom z lg ps n)) where
+      pub phases-refused : {m : ℕ} → b .verdict ≡ Refused m → r ≡ flashAnswer (no m) → r ≡ flashAnswer (phasesOf E n o z p ps)
+      unfolding phasesOf bubbleAt bind
+      phases-refused k e = rw (activity-passed (E z) is q, bubble-refused _ eb k) e
+
+      pub phases-passed : b .verdict ≡ Passed → (E z ≡ ok (record { lnGamma = lg; slopes = sl }) → r ≡ flashAnswer (fromDew E n o z p ps (b .pressure)))
+          → r ≡ flashAnswer (phasesOf E n o z p ps)
+      unfolding phasesOf bubbleAt bind
+      phases-passed k e = rw (activity-passed (E z) is q, bubble-passed _ eb k) (e (activity-passed (E z) is q))
 
   -- a table that stands for the model
   pub phases-agree : {E′ : List Float → Out Activity} {m : ℕ} → E′ ≡ E → m ≡ n → {r : ActivityTpFlash} → r ≡ flashAnswer (phasesOf E′ m o z p ps)

@@ -2,7 +2,8 @@
 // the first n are read.
 ghost use mathlib.Core.Path.{_≡_};
 ghost use mathlib.Core.Bool.{cond};
-ghost use lib.Ieee.{lt};
+ghost use mathlib.Core.List.{List};
+ghost use lib.Ieee.{Float, lt};
 ghost use Rattle.floats.specs.Arithmetic.{_⊕_, _⊖_, 0f, 1f};
 ghost use Rattle.floats.specs.Small.{maxOf, absOf};
 ghost use Rattle.floats.specs.Vector.{places};
@@ -528,7 +529,7 @@ fn from_split(
     }
 }
 
-// Between dew and bubble: the split from ln γ of the feed.
+// Between dew and bubble: the split from lg, ln γ of the feed.
 fn split_feed(
     table: &[f64; 512],
     at: Tabled,
@@ -536,23 +537,16 @@ fn split_feed(
     z: &[f64; 8],
     p: Pressure,
     ps: &[f64; 8],
+    lg: &[f64; 8],
     saturated: Saturated,
 ) -> ActivityTpFlash
-    ensures { λ r. ⌜ r ≡ flashAnswer (splitFeed (activityOn (now (table .entry)) at) (places (at .n)) o (now (z .entry)) (p .0) (now (ps .entry)) (saturated .bubble) (saturated .dew)) ⌝ }
+    ensures { λ r. ⌜ ((sl : List Float) → activityOn (now (table .entry)) at (now (z .entry)) ≡ ok (record { lnGamma = now (lg .entry); slopes = sl }) → r ≡ flashAnswer (splitFeed (activityOn (now (table .entry)) at) (places (at .n)) o (now (z .entry)) (p .0) (now (ps .entry)) (saturated .bubble) (saturated .dew))) ⌝ }
 {
-    let mut lg = [0.0; 8];
-    let mut sl = [0.0; 8];
-    let feed = thermo_models::activity(table, at, z, &mut lg, &mut sl);
-    match feed {
+    let split = split_from(table, at, o, z, p, ps, lg);
+    let verdict = split.verdict;
+    match verdict {
         Verdict::Refused(number) => no_flash(number),
-        Verdict::Passed => {
-            let split = split_from(table, at, o, z, p, ps, &lg);
-            let verdict = split.verdict;
-            match verdict {
-                Verdict::Refused(number) => no_flash(number),
-                Verdict::Passed => from_split(table, at, o, z, saturated, split),
-            }
-        }
+        Verdict::Passed => from_split(table, at, o, z, saturated, split),
     }
 }
 
@@ -564,9 +558,10 @@ fn between(
     z: &[f64; 8],
     p: Pressure,
     ps: &[f64; 8],
+    lg: &[f64; 8],
     saturated: Saturated,
 ) -> ActivityTpFlash
-    ensures { λ r. ⌜ r ≡ flashAnswer (betweenOf (activityOn (now (table .entry)) at) (places (at .n)) o (now (z .entry)) (p .0) (now (ps .entry)) (saturated .bubble) (saturated .dew)) ⌝ }
+    ensures { λ r. ⌜ ((sl : List Float) → activityOn (now (table .entry)) at (now (z .entry)) ≡ ok (record { lnGamma = now (lg .entry); slopes = sl }) → r ≡ flashAnswer (betweenOf (activityOn (now (table .entry)) at) (places (at .n)) o (now (z .entry)) (p .0) (now (ps .entry)) (saturated .bubble) (saturated .dew))) ⌝ }
 {
     let pressure = p.value();
     let bubble = saturated.bubble;
@@ -577,7 +572,7 @@ fn between(
     if pressure <= dew {
         return as_vapor(at.n, z, saturated, GAMMA_PHI);
     }
-    split_feed(table, at, o, z, p, ps, saturated)
+    split_feed(table, at, o, z, p, ps, lg, saturated)
 }
 
 // Of a dew point, or its refusal.
@@ -619,9 +614,10 @@ fn from_dew(
     z: &[f64; 8],
     p: Pressure,
     ps: &[f64; 8],
+    lg: &[f64; 8],
     bubble: f64,
 ) -> ActivityTpFlash
-    ensures { λ r. ⌜ r ≡ flashAnswer (fromDew (activityOn (now (table .entry)) at) (places (at .n)) o (now (z .entry)) (p .0) (now (ps .entry)) bubble) ⌝ }
+    ensures { λ r. ⌜ ((sl : List Float) → activityOn (now (table .entry)) at (now (z .entry)) ≡ ok (record { lnGamma = now (lg .entry); slopes = sl }) → r ≡ flashAnswer (fromDew (activityOn (now (table .entry)) at) (places (at .n)) o (now (z .entry)) (p .0) (now (ps .entry)) bubble)) ⌝ }
 {
     let d = dew_pressure(table, at, o, z, ps, bubble);
     let verdict = d.verdict;
@@ -632,7 +628,7 @@ fn from_dew(
                 bubble: bubble,
                 dew: d.value,
             };
-            between(table, at, o, z, p, ps, saturated)
+            between(table, at, o, z, p, ps, lg, saturated)
         }
     }
 }
@@ -649,10 +645,16 @@ pub fn activity_tp_flash(
 ) -> ActivityTpFlash
     ensures { λ r. ⌜ r ≡ flashAnswer (phasesOf (activityOn (now (table .entry)) at) (places (at .n)) o (now (z .entry)) (p .0) (now (ps .entry))) ⌝ }
 {
-    let b = saturation::bubble_at(table, at, z, ps);
+    let mut lg = [0.0; 8];
+    let mut sl = [0.0; 8];
+    let feed = thermo_models::activity(table, at, z, &mut lg, &mut sl);
+    if let Verdict::Refused(number) = feed {
+        return no_flash(number);
+    }
+    let b = saturation::bubble_from(z, &lg, ps, at.n);
     let verdict = b.verdict;
     match verdict {
         Verdict::Refused(number) => no_flash(number),
-        Verdict::Passed => from_dew(table, at, o, z, p, ps, b.pressure),
+        Verdict::Passed => from_dew(table, at, o, z, p, ps, &lg, b.pressure),
     }
 }

@@ -1,4 +1,4 @@
--- `liquid_stability::amounts` meets its contract. The invariant: the amounts so far. Assumes nothing.
+-- `liquid_stability::amounts` meets its contract. Assumes nothing.
 use Prim.Native.Nat.{_≤_, _-_}
 use mathlib.Core.Path.{_≡_, refl}
 use native.Mathlib.Omega.{arith}
@@ -10,10 +10,13 @@ use Rattle.liquid_stability.proofs.amounts.Statement.{statement}
 use Rattle.liquid_stability.proofs.amounts.Tie as tie
 
 abbrev Inv-loop : tie.InvT-loop
-Inv-loop x ln-w n big₀ i₀ big i = (i ≤ n) × (big ≡ amountsOf x ln-w i)
+Inv-loop x ln-w n all big₀ i₀ big i = (i ≤ n) × (big ≡ amountsOf x ln-w i)
 
 abbrev μ-loop : tie.MeasureT-loop
-μ-loop x ln-w n big₀ i₀ big i = n - i
+μ-loop x ln-w n all big₀ i₀ big i = n - i
+
+exps-requires : tie.Need-exps-requires Inv-loop μ-loop
+exps-requires c κs = search needs
 
 loop-holds : tie.Need-loop-holds Inv-loop μ-loop
 unfolding amountsOf fill
@@ -28,8 +31,8 @@ element-copy-out-amount c = omega arith
 mul-amount-2 : tie.Need-mul-amount-2 Inv-loop μ-loop
 mul-amount-2 c = omega arith
 
-element-copy-out-amount-2 : tie.Need-element-copy-out-amount-2 Inv-loop μ-loop
-element-copy-out-amount-2 c = omega arith
+array-read-amount : tie.Need-array-read-amount Inv-loop μ-loop
+array-read-amount c = omega arith
 
 amount-requires : tie.Need-amount-requires Inv-loop μ-loop
 amount-requires c κs = search needs
@@ -48,7 +51,9 @@ loop-less c = omega arith
 
 loop-again : tie.Need-loop-again Inv-loop μ-loop
 unfolding amountsOf
-loop-again c = (omega arith, fill-turn _ _ _ (c .amount .ensures) (c .before .before .before .before .loop .inv .1))
+loop-again c =
+    let w : _ = c .before .before .before .before .exps .ensures (c .before .before .before .loop .i) (omega arith) in
+    (omega arith, fill-turn _ _ _ (rw w at (c .amount .ensures)) (c .before .before .before .loop .inv .1))
 
 returns : tie.Need-returns Inv-loop μ-loop
 unfolding amountsOf
@@ -60,11 +65,12 @@ amounts-spec =
     (tie.spec
     Inv-loop
     μ-loop
+    exps-requires
     loop-holds
     mul-amount
     element-copy-out-amount
     mul-amount-2
-    element-copy-out-amount-2
+    array-read-amount
     amount-requires
     mul-big
     array-write-big

@@ -1,11 +1,11 @@
 -- `saturation_temperature::bubble_with` meets its contract. Assumes nothing.
-use borrow.Author.Needs.{needs}
 use Rattle.saturation_temperature.proofs.Points.{bubble-refuses, bubble-infinite, bubble-good}
+use borrow.Author.Needs.{needs}
 use Rattle.saturation_temperature.proofs.bubble_with.Statement.{statement}
 use Rattle.saturation_temperature.proofs.bubble_with.Tie as tie
 
-bubble-at-requires : tie.Need-bubble-at-requires
-bubble-at-requires c κs = search needs
+bubble-from-requires : tie.Need-bubble-from-requires
+bubble-from-requires c κs = search needs
 
 enum-known-verdict : tie.Need-enum-known-verdict
 enum-known-verdict c = search needs
@@ -14,13 +14,13 @@ no-saturation-requires : tie.Need-no-saturation-requires
 no-saturation-requires c κs = search needs
 
 returns : tie.Need-returns
-returns c = search bubble-refuses
+returns c = λ E sl e. search bubble-refuses
 
 enum-told : tie.Need-enum-told
 enum-told c = search needs
 
-residual-requires : tie.Need-residual-requires
-residual-requires c κs = search needs
+residual-with-requires : tie.Need-residual-with-requires
+residual-with-requires c κs = search needs
 
 enum-known-finite : tie.Need-enum-known-finite
 enum-known-finite c = search needs
@@ -44,21 +44,21 @@ max-requires : tie.Need-max-requires
 max-requires c κs = search needs
 
 returns-2 : tie.Need-returns-2
-returns-2 c = search bubble-infinite
+returns-2 c = λ E sl e. search bubble-infinite
 
 returns-3 : tie.Need-returns-3
-returns-3 c = search bubble-good
+returns-3 c = λ E sl e. search bubble-good
 
 pub bubble-with-spec : {M : Type 1} → statement M
 bubble-with-spec =
     tie.close
     (tie.spec
-    bubble-at-requires
+    bubble-from-requires
     enum-known-verdict
     no-saturation-requires
     returns
     enum-told
-    residual-requires
+    residual-with-requires
     enum-known-finite
     no-saturation-requires-2
     enum-told-2

@@ -1,6 +1,6 @@
 -- `saturation_temperature::curve_point` meets its contract. Assumes nothing.
-use borrow.Author.Needs.{needs}
 use Rattle.saturation_temperature.proofs.Points.{point-none, point-bubble, point-dew}
+use borrow.Author.Needs.{needs}
 use Rattle.saturation_temperature.proofs.curve_point.Statement.{statement}
 use Rattle.saturation_temperature.proofs.curve_point.Tie as tie
 
@@ -29,7 +29,7 @@ dew-point-at-requires : tie.Need-dew-point-at-requires
 dew-point-at-requires c κs = search needs
 
 returns : tie.Need-returns
-returns c = search point-none
+returns c = search (point-none, c .no-point .ensures)
 
 returns-2 : tie.Need-returns-2
 returns-2 c = search point-bubble

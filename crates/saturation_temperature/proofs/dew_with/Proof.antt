@@ -1,23 +1,8 @@
 -- `saturation_temperature::dew_with` meets its contract. Assumes nothing.
+use Rattle.saturation_temperature.proofs.Points.{dew-infinite, dew-good}
 use borrow.Author.Needs.{needs}
-use Rattle.saturation_temperature.proofs.Points.{dew-refuses, dew-infinite, dew-good}
 use Rattle.saturation_temperature.proofs.dew_with.Statement.{statement}
 use Rattle.saturation_temperature.proofs.dew_with.Tie as tie
-
-dew-at-requires : tie.Need-dew-at-requires
-dew-at-requires c κs = search needs
-
-enum-known-verdict : tie.Need-enum-known-verdict
-enum-known-verdict c = search needs
-
-no-saturation-requires : tie.Need-no-saturation-requires
-no-saturation-requires c κs = search needs
-
-returns : tie.Need-returns
-returns c = search dew-refuses
-
-enum-told : tie.Need-enum-told
-enum-told c = search needs
 
 residual-with-requires : tie.Need-residual-with-requires
 residual-with-requires c κs = search needs
@@ -25,11 +10,11 @@ residual-with-requires c κs = search needs
 enum-known-finite : tie.Need-enum-known-finite
 enum-known-finite c = search needs
 
-no-saturation-requires-2 : tie.Need-no-saturation-requires-2
-no-saturation-requires-2 c κs = search needs
+no-saturation-requires : tie.Need-no-saturation-requires
+no-saturation-requires c κs = search needs
 
-enum-told-2 : tie.Need-enum-told-2
-enum-told-2 c = search needs
+enum-told : tie.Need-enum-told
+enum-told c = search needs
 
 value-requires : tie.Need-value-requires
 value-requires c κs = search needs
@@ -46,29 +31,24 @@ max-requires c κs = search needs
 wrapping-add-u64-requires : tie.Need-wrapping-add-u64-requires
 wrapping-add-u64-requires c κs = search needs
 
-returns-2 : tie.Need-returns-2
-returns-2 c = search dew-infinite
+returns : tie.Need-returns
+returns c = λ E o e u. search dew-infinite
 
-returns-3 : tie.Need-returns-3
-returns-3 c = search dew-good
+returns-2 : tie.Need-returns-2
+returns-2 c = λ E o e u. search dew-good
 
 pub dew-with-spec : {M : Type 1} → statement M
 dew-with-spec =
     tie.close
     (tie.spec
-    dew-at-requires
-    enum-known-verdict
-    no-saturation-requires
-    returns
-    enum-told
     residual-with-requires
     enum-known-finite
-    no-saturation-requires-2
-    enum-told-2
+    no-saturation-requires
+    enum-told
     value-requires
     ln-requires
     abs-requires
     max-requires
     wrapping-add-u64-requires
-    returns-2
-    returns-3)
+    returns
+    returns-2)

@@ -8,10 +8,13 @@ use Rattle.saturation_temperature.proofs.weigh.Statement.{statement}
 use Rattle.saturation_temperature.proofs.weigh.Tie as tie
 
 abbrev Inv-loop : tie.InvT-loop
-Inv-loop x lg sl ps dps n s₀ i₀ s i = (i ≤ n) × Weighed x lg sl ps dps i s
+Inv-loop x lg sl ps dps n gamma s₀ i₀ s i = (i ≤ n) × Weighed x lg sl ps dps i s
 
 abbrev μ-loop : tie.MeasureT-loop
-μ-loop x lg sl ps dps n s₀ i₀ s i = n - i
+μ-loop x lg sl ps dps n gamma s₀ i₀ s i = n - i
+
+exps-requires : tie.Need-exps-requires Inv-loop μ-loop
+exps-requires c κs = search needs
 
 loop-holds : tie.Need-loop-holds Inv-loop μ-loop
 loop-holds c = (omega arith, weighed-none _ _ _ _ _)
@@ -25,26 +28,26 @@ element-copy-out-weighed c = omega arith
 mul-weighed-2 : tie.Need-mul-weighed-2 Inv-loop μ-loop
 mul-weighed-2 c = omega arith
 
-element-copy-out-weighed-2 : tie.Need-element-copy-out-weighed-2 Inv-loop μ-loop
-element-copy-out-weighed-2 c = omega arith
+array-read-weighed : tie.Need-array-read-weighed Inv-loop μ-loop
+array-read-weighed c = omega arith
 
 mul-weighed-3 : tie.Need-mul-weighed-3 Inv-loop μ-loop
 mul-weighed-3 c = omega arith
 
-element-copy-out-weighed-3 : tie.Need-element-copy-out-weighed-3 Inv-loop μ-loop
-element-copy-out-weighed-3 c = omega arith
+element-copy-out-weighed-2 : tie.Need-element-copy-out-weighed-2 Inv-loop μ-loop
+element-copy-out-weighed-2 c = omega arith
 
 mul-weighed-4 : tie.Need-mul-weighed-4 Inv-loop μ-loop
 mul-weighed-4 c = omega arith
 
-element-copy-out-weighed-4 : tie.Need-element-copy-out-weighed-4 Inv-loop μ-loop
-element-copy-out-weighed-4 c = omega arith
+element-copy-out-weighed-3 : tie.Need-element-copy-out-weighed-3 Inv-loop μ-loop
+element-copy-out-weighed-3 c = omega arith
 
 mul-weighed-5 : tie.Need-mul-weighed-5 Inv-loop μ-loop
 mul-weighed-5 c = omega arith
 
-element-copy-out-weighed-5 : tie.Need-element-copy-out-weighed-5 Inv-loop μ-loop
-element-copy-out-weighed-5 c = omega arith
+element-copy-out-weighed-4 : tie.Need-element-copy-out-weighed-4 Inv-loop μ-loop
+element-copy-out-weighed-4 c = omega arith
 
 weighed-requires : tie.Need-weighed-requires Inv-loop μ-loop
 weighed-requires c κs = search needs
@@ -56,7 +59,9 @@ loop-less : tie.Need-loop-less Inv-loop μ-loop
 loop-less c = omega arith
 
 loop-again : tie.Need-loop-again Inv-loop μ-loop
-loop-again c = (omega arith, weighed-turn _ _ _ _ _ _ (c .weighed .ensures) (search needs))
+loop-again c =
+    let γ : _ = c .before .before .before .before .before .before .before .exps .ensures (c .before .before .before .before .before .before .loop .i) (omega arith) in
+    (omega arith, weighed-turn _ _ _ _ _ _ γ (c .weighed .ensures) (c .before .before .before .before .before .before .loop .inv .1))
 
 returns : tie.Need-returns Inv-loop μ-loop
 returns c = weighed-done _ _ _ _ _ _ _ (omega arith) (c .before .loop .inv .1)
@@ -67,17 +72,18 @@ weigh-spec =
     (tie.spec
     Inv-loop
     μ-loop
+    exps-requires
     loop-holds
     mul-weighed
     element-copy-out-weighed
     mul-weighed-2
-    element-copy-out-weighed-2
+    array-read-weighed
     mul-weighed-3
-    element-copy-out-weighed-3
+    element-copy-out-weighed-2
     mul-weighed-4
-    element-copy-out-weighed-4
+    element-copy-out-weighed-3
     mul-weighed-5
-    element-copy-out-weighed-5
+    element-copy-out-weighed-4
     weighed-requires
     add-i
     loop-less

@@ -1,6 +1,6 @@
 -- `tp_flash::from_dew` meets its contract. Assumes nothing.
-use borrow.Author.Needs.{needs}
 use Rattle.tp_flash.proofs.Laws.{from-dew-refused, from-dew-passed}
+use borrow.Author.Needs.{needs}
 use Rattle.tp_flash.proofs.from_dew.Statement.{statement}
 use Rattle.tp_flash.proofs.from_dew.Tie as tie
 
@@ -20,10 +20,10 @@ between-requires : tie.Need-between-requires
 between-requires c κs = search needs
 
 returns : tie.Need-returns
-returns c = search from-dew-refused
+returns c = λ sl feed. search from-dew-refused
 
 returns-2 : tie.Need-returns-2
-returns-2 c = search from-dew-passed
+returns-2 c = λ sl feed. search (from-dew-passed, c .between .ensures)
 
 pub from-dew-spec : {M : Type 1} → statement M
 from-dew-spec =
