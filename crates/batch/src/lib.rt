@@ -1,5 +1,7 @@
 // Many feeds at one temperature: the call on a book, a question and up to 64 feeds. The opened book, the tables and the
 // vapor pressures are worked out once, when a feed first needs them.
+#![tactic(auto)]
+
 ghost use Rattle.std.specs.Prelude.{◌≡◌, true, List, ℕ, ◌≤◌, ◌<◌, ◌+◌, ◌*◌, length};
 ghost use Rattle.floats.specs.Small.{float};
 ghost use Rattle.floats.specs.Vector.{places};
@@ -64,7 +66,7 @@ fn feed_at(feeds: &[u8], n: usize, k: usize) -> [f64; 8]
 }
 
 // What is kept from feed to feed: nothing until one needs it.
-#[derive(Drop)]
+#[derive(Clone, Copy)]
 enum Kept {
     Nothing,
     Made(Ready),

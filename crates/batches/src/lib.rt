@@ -1,1 +1,2 @@
 // Laws of many feeds at one temperature; no code.
+#![tactic(auto)]

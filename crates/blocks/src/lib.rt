@@ -1,10 +1,12 @@
 // Blocks of 512 bytes: 64 little-endian words of 64 bits, the last the check of the others.
+#![tactic(auto)]
+
 ghost use Rattle.std.specs.Prelude.{◌≡◌, ◌+◌, ◌*◌, ◌%◌, ◌^◌, ◌<◌, ◌≤◌, ◌++◌, length, drop};
 ghost use Rattle.blocks.specs.Words.{byte, word, word_of, word_from, block, check_sum, running_sum, sum_by, check_right};
 ghost use Rattle.blocks.specs.Bytes.{bytes, row_to, put, stored, block_bytes, word_at};
 
 // How a block's check is worked out of its words 0 to 62: plainly their sum, or the sum of their running sums.
-#[derive(Drop)]
+#[derive(Clone, Copy)]
 pub enum Rule {
     Plain,
     Running,

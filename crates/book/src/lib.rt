@@ -1,4 +1,6 @@
 // The book: questions 1 to 9, 35, 37 and 38.
+#![tactic(auto)]
+
 ghost use Rattle.std.specs.Prelude.{◌≡◌, ◌+◌, ◌-◌, ◌*◌, ◌<◌, ◌≤◌, ◌&&◌, length, nat_lt};
 ghost use Rattle.blocks.specs.Words.{word, word_from, block, check_right};
 ghost use Rattle.floats.specs.Small.{is_finite, positive, float_of, float};
@@ -9,14 +11,14 @@ ghost use Rattle.book.specs.Book.{floats_finite, version_right, head_right, mode
 use blocks::Rule;
 
 // What the activity coefficients are worked out by.
-#[derive(Drop)]
+#[derive(Clone, Copy)]
 pub enum Model {
     Nrtl,
     Wilson,
 }
 
 // What block 0 says: the number of solvents, the version, and the model.
-#[derive(Drop)]
+#[derive(Clone, Copy)]
 pub struct Head {
     pub n: usize,
     pub version: u64,
@@ -24,7 +26,7 @@ pub struct Head {
 }
 
 // A book that passed, or the number of the question that was answered no.
-#[derive(Drop)]
+#[derive(Clone, Copy)]
 pub enum Opened {
     Book(Head),
     No(u64),

@@ -1,5 +1,7 @@
 // An excess state, as far as every model has it: from g^E/(RT) and ln γ as jets to energies, with the questions ahead of
 // a model and the finite tests behind it.
+#![tactic(auto)]
+
 ghost use Rattle.std.specs.Prelude.{◌≡◌};
 ghost use Rattle.floats.specs.Vector.{at, places};
 ghost use Rattle.floats.specs.Outcome.{ok, no};
@@ -11,7 +13,7 @@ use jet::Jet;
 use thermo_types::{Temperature, Verdict};
 
 // g^E/RT; g^E and h^E in J/mol, s^E and c_p^E in J/(mol K). All 0.0 where the verdict is a refusal.
-#[derive(Drop)]
+#[derive(Clone, Copy)]
 pub struct Energies {
     pub verdict: Verdict,
     pub reduced: f64,

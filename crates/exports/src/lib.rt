@@ -1,4 +1,6 @@
 // The functions under C names, for the comparison with the reference and for benchmarks. A slice passes as a pointer and a length.
+#![tactic(auto)]
+
 ghost use Rattle.std.specs.Prelude.{◌≡◌, cond, ◌≤◌, ◌+◌, leb, length, set};
 ghost use Rattle.floats.specs.Small.{is_finite, max_of, min_of, abs_of, bits_of, float_of};
 ghost use Rattle.floats.specs.Vector.{at, fill, fill_from, places};

@@ -1,4 +1,6 @@
 // The small functions on f64, each equal to its definition in specs/Small.antt.
+#![tactic(auto)]
+
 ghost use Rattle.std.specs.Prelude.{◌≡◌};
 ghost use Rattle.floats.specs.Small.{is_finite, positive, max_of, min_of, abs_of, bits_of, float_of};
 ghost use Rattle.floats.specs.Vector.{places};

@@ -1,9 +1,11 @@
 // A value with its first and second temperature derivatives (the Rust's `Jet`); each method equals its definition in specs/Jets.antt.
+#![tactic(auto)]
+
 ghost use Rattle.std.specs.Prelude.{◌≡◌};
 ghost use Rattle.jet.specs.Jets.{const_j, two_j, add_j, sub_j, neg_j, mul_j, scale_j, div_j, exp_with, exp_j, ln_with, ln_j};
 
 // A quantity with its derivatives by the temperature, 1/K and 1/K².
-#[derive(Drop)]
+#[derive(Clone, Copy)]
 pub struct Jet {
     pub v: f64,
     pub d: f64,

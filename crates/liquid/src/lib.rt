@@ -1,5 +1,7 @@
 // Vapor pressure of a pure liquid (liquid.rs), from the solvent's record:
 // p = p_r exp((T_r/T) Σ n_k θ^t_k), θ = 1 − T/T_r.
+#![tactic(auto)]
+
 ghost use Rattle.std.specs.Prelude.{◌≡◌, ◌≤◌, ◌*◌, not, ◌&&◌};
 ghost use Rattle.std.specs.Float.Ieee.{neg, le};
 ghost use Rattle.floats.specs.Arithmetic.{◌⊕◌, ◌⊖◌, ◌⊗◌, ◌⊘◌, 0f, 1f};
@@ -12,7 +14,7 @@ use records::Ancillary;
 use thermo_types::{Temperature, Verdict};
 
 // p in Pa, ln p, d ln p/dT in 1/K, d² ln p/dT² in 1/K²; zeros where the verdict is a refusal.
-#[derive(Drop)]
+#[derive(Clone, Copy)]
 pub struct VaporPressure {
     pub verdict: Verdict,
     pub pressure: f64,
@@ -22,7 +24,7 @@ pub struct VaporPressure {
 }
 
 // ln p, p in Pa, with its derivatives by T in 1/K and 1/K².
-#[derive(Drop)]
+#[derive(Clone, Copy)]
 pub struct Logarithm {
     pub value: f64,
     pub slope: f64,
@@ -30,7 +32,7 @@ pub struct Logarithm {
 }
 
 // S = Σ n_k θ^t_k and its first two derivatives by T.
-#[derive(Drop)]
+#[derive(Clone, Copy)]
 pub struct Sums {
     pub s: f64,
     pub ds: f64,

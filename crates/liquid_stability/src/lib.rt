@@ -1,5 +1,7 @@
 // Finite near-pure tangent-plane trials of a liquid (activity.rs): evidence, not proof, of its stability.
 // Compositions are `[f64; 8]`, 0.0 past n; a solvent is named by its index in the book.
+#![tactic(auto)]
+
 ghost use Rattle.std.specs.Prelude.{◌≡◌, cond, ◌≤◌, eqb};
 ghost use Rattle.std.specs.Float.Ieee.{lt};
 ghost use Rattle.floats.specs.Arithmetic.{◌⊕◌, ◌⊖◌, ◌⊗◌, ◌⊘◌, 0f, 1f};
@@ -18,7 +20,7 @@ use thermo_models::Tabled;
 use thermo_types::{ActivityOptions, Verdict};
 
 // A trial that started near solvent `component` (its index in the book).
-#[derive(Drop)]
+#[derive(Clone, Copy)]
 pub struct LiquidStabilityTrial {
     pub component: usize,
     pub distance: f64,
@@ -28,7 +30,7 @@ pub struct LiquidStabilityTrial {
 }
 
 // The first `count` of the eight trials are filled.
-#[derive(Drop)]
+#[derive(Clone, Copy)]
 pub struct LiquidStability {
     pub verdict: Verdict,
     pub stable: bool,
@@ -37,7 +39,7 @@ pub struct LiquidStability {
 }
 
 // The tangent-plane distance tm, the largest change of ln W, and the largest distance of w from x.
-#[derive(Drop)]
+#[derive(Clone, Copy)]
 struct Measured {
     distance: f64,
     change: f64,
@@ -45,7 +47,7 @@ struct Measured {
 }
 
 // A turn is refused, ends its trial (trivial or not), or is followed by another.
-#[derive(Drop)]
+#[derive(Clone, Copy)]
 enum Judged {
     No(u64),
     Found(bool),
@@ -53,7 +55,7 @@ enum Judged {
 }
 
 // tm and w of a turn, and the ln W of the next.
-#[derive(Drop)]
+#[derive(Clone, Copy)]
 struct Turned {
     judged: Judged,
     distance: f64,
@@ -62,7 +64,7 @@ struct Turned {
 }
 
 // A trial, or the number that refused it and an empty one.
-#[derive(Drop)]
+#[derive(Clone, Copy)]
 struct Tried {
     verdict: Verdict,
     trial: LiquidStabilityTrial,

@@ -3,6 +3,8 @@
 // ln γ_i = C_i / S_i + Σ_j (x_j G_ij / S_j) (τ_ij − C_j / S_j).
 // Four solvents i side by side, then two: their sums don't depend on each other, so the machine's lanes share the loop.
 // Where n is odd the lane past it is worked out too, and not read.
+#![tactic(auto)]
+
 ghost use Rattle.std.specs.Prelude.{◌≡◌, ◌&&◌, ◌≤◌, ◌<◌, ◌+◌, ◌*◌, set};
 ghost use Rattle.floats.specs.Small.{is_finite};
 ghost use Rattle.floats.specs.Fold.{all_to};
@@ -24,13 +26,13 @@ use thermo_types::{Temperature, Verdict};
 
 // ---- lanes: Jets of the solvents side by side, entry i of plane k at k * 8 + i
 
-#[derive(Drop)]
+#[derive(Clone, Copy)]
 struct Pair {
     a: Jet,
     b: Jet,
 }
 
-#[derive(Drop)]
+#[derive(Clone, Copy)]
 struct Quad {
     a: Pair,
     b: Pair,

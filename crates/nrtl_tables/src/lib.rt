@@ -2,6 +2,8 @@
 // τ_ij = t0 + t1/T + t2 ln(T/K) + t3 T, α_ij = a0 + a1 T, G_ij = exp(−α_ij τ_ij); every diagonal term is zero.
 // Parameters are flat: t0 to t3, a0 and a1 of the pair (i, j) from (i * 8 + j) * 6 on. The table has eight planes of 64,
 // entry (i, j) of plane k at k * 64 + i * 8 + j: G, τ G, each with two derivatives, then τ with one.
+#![tactic(auto)]
+
 ghost use Rattle.std.specs.Prelude.{◌≡◌, ◌≤◌, ◌<◌, ◌+◌, ◌*◌};
 ghost use Rattle.floats.specs.Arithmetic.{0f, 1f};
 ghost use Rattle.floats.specs.Fold.{all_to};
@@ -22,7 +24,7 @@ pub const H_PLANE: usize = 192;
 pub const TAU_PLANE: usize = 384;
 
 // ln T, 1/T and T as jets.
-#[derive(Drop)]
+#[derive(Clone, Copy)]
 struct Basis {
     lnt: Jet,
     inv: Jet,

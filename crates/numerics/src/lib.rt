@@ -1,4 +1,6 @@
 // ln, exp and powf, each equal to its definition in specs/Numerics.antt.
+#![tactic(auto)]
+
 ghost use Rattle.std.specs.Prelude.{◌≡◌, ℕ, ◌+◌, ◌*◌, ◌^◌, ◌<◌, ◌≤◌, true, false, T, ℤ, pos, ◌-ℤ◌, if◌then◌else◌, from_bits, int_div};
 ghost use Rattle.std.specs.Float.Ieee.Positive.{positive};
 ghost use Rattle.std.specs.Int.Signed.{mag};
@@ -68,7 +70,7 @@ fn exp_far(v: f64) -> f64
 }
 
 // A value, and whether it is the definition's: for exp, where v is near 0 and the whole number next to C * v is its k.
-#[derive(Drop)]
+#[derive(Clone, Copy)]
 struct Near {
     y: f64,
     ok: bool,
@@ -112,7 +114,7 @@ pub fn exp(v: f64) -> f64
     if n.ok { n.y } else { exp_far(v) }
 }
 
-#[derive(Drop)]
+#[derive(Clone, Copy)]
 pub struct Two(pub f64, pub f64);
 
 // exp of each of two: their steps run side by side.
@@ -145,7 +147,7 @@ pub fn exps(v: &[f64; 8], n: usize) -> [f64; 8]
 }
 
 // q digits, shifted up by j so that the leading one stands at 2^52.
-#[derive(Drop)]
+#[derive(Clone, Copy)]
 struct Shifted {
     q: u64,
     j: u64,

@@ -1,4 +1,6 @@
 // Pooled drums: the call on a book, a question and drums, whose pool is the feed.
+#![tactic(auto)]
+
 ghost use Rattle.std.specs.Prelude.{◌≡◌, ℕ, ◌≤◌, ◌<◌, ◌+◌, ◌^◌, min, length, replicate};
 ghost use Rattle.floats.specs.Vector.{fill, vec, places};
 ghost use Rattle.floats.specs.Outcome.{bind};

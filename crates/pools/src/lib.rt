@@ -1,1 +1,2 @@
 // Pooled drums: laws of the whole call; no code.
+#![tactic(auto)]

@@ -1,5 +1,7 @@
 // Trying a pair before entering it: the call on a book, one offered pair block, a question and an answer slice. The book is
 // only read, and no copy of it is made.
+#![tactic(auto)]
+
 ghost use Rattle.std.specs.Prelude.{length, ◌≤◌};
 ghost use Rattle.floats.specs.Outcome.{bind};
 ghost use Rattle.floats.specs.Vector.{places};

@@ -1,1 +1,2 @@
 // Laws of trying a pair; no code.
+#![tactic(auto)]

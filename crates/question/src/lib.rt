@@ -1,5 +1,7 @@
 // The question: 512 bytes on standard input or from the desk. Three steps: block and task (11, 12), the feed (36), and
 // the rest (13 to 21), put to that feed; 34 where mass fractions can't be brought to moles.
+#![tactic(auto)]
+
 ghost use Rattle.std.specs.Prelude.{◌≡◌, ◌≤◌, ◌+◌};
 ghost use Rattle.floats.specs.Arithmetic.{◌⊘◌};
 ghost use Rattle.floats.specs.Small.{float};
@@ -16,7 +18,7 @@ use blocks::{Rule, word};
 use thermo_types::{ActivityOptions, Normalized, Verdict};
 
 // K, Pa; the first n fractions and K values, 0.0 past them.
-#[derive(Drop)]
+#[derive(Clone, Copy)]
 pub struct Question {
     pub task: u64,
     pub temperature: f64,
@@ -27,14 +29,14 @@ pub struct Question {
 }
 
 // A question that passed, or a refusal with an empty one.
-#[derive(Drop)]
+#[derive(Clone, Copy)]
 pub struct Asked {
     pub verdict: Verdict,
     pub question: Question,
 }
 
 // A task, or the number of the question that was answered no.
-#[derive(Drop)]
+#[derive(Clone, Copy)]
 pub enum Task {
     Read(u64),
     No(u64),

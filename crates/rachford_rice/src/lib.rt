@@ -1,4 +1,6 @@
 // Rachford-Rice phase split for prescribed equilibrium ratios (rachford_rice.rs). K values are inputs, not results.
+#![tactic(auto)]
+
 ghost use Rattle.std.specs.Prelude.{◌≡◌, cond, ◌&&◌, ◌≤◌};
 ghost use Rattle.std.specs.Float.Ieee.{lt};
 ghost use Rattle.floats.specs.Arithmetic.{◌⊕◌, ◌⊗◌, ◌⊘◌, ◌⊖◌, 0f, 1f, ½};
@@ -11,7 +13,7 @@ ghost use Rattle.rachford_rice.specs.Rachford.{middle, turn_of, residual_of, slo
 use thermo_types::Verdict;
 
 // The constrained outcome: vapor fraction, residual |g(β)| and count of a split.
-#[derive(Drop)]
+#[derive(Clone, Copy)]
 pub enum RachfordRiceOutcome {
     LiquidOnly,
     VaporOnly,
@@ -19,7 +21,7 @@ pub enum RachfordRiceOutcome {
 }
 
 // The answer: a refusal, or an outcome with the compositions beside it.
-#[derive(Drop)]
+#[derive(Clone, Copy)]
 pub struct RachfordRice {
     pub verdict: Verdict,
     pub outcome: RachfordRiceOutcome,
@@ -28,7 +30,7 @@ pub struct RachfordRice {
 }
 
 // One turn: the bounds moved, the next β, and whether it is the last.
-#[derive(Drop)]
+#[derive(Clone, Copy)]
 struct Turn {
     lo: f64,
     hi: f64,
@@ -37,7 +39,7 @@ struct Turn {
 }
 
 // g(β) and g'(β).
-#[derive(Drop)]
+#[derive(Clone, Copy)]
 struct Sums {
     residual: f64,
     slope: f64,

@@ -1,4 +1,6 @@
 // The records that the models read from a book. Every reader is total: past the book's end a word is 0.
+#![tactic(auto)]
+
 ghost use Rattle.std.specs.Prelude.{◌≡◌, ◌≤◌, ◌<◌, ◌+◌, ◌*◌, set};
 ghost use Rattle.blocks.specs.Words.{word, block};
 ghost use Rattle.floats.specs.Arithmetic.{0f};
@@ -16,7 +18,7 @@ use book::Model;
 
 // A correlation of document 003: t_r, low and high in K, the reducing value in Pa; the first `count` of n and t are
 // its terms.
-#[derive(Drop)]
+#[derive(Clone, Copy)]
 pub struct Ancillary {
     pub t_r: f64,
     pub reducing_value: f64,
@@ -28,12 +30,12 @@ pub struct Ancillary {
 }
 
 // The temperatures that a correlation holds between, in K.
-#[derive(Drop)]
+#[derive(Clone, Copy)]
 pub struct Range(pub f64, pub f64);
 
 // The parameters of an ordered pair. NRTL: tau = t0 + t1 / T + t2 ln T + t3 T, alpha = a0 + a1 T. Wilson: t0 and t1 are
 // the a and b of Λ = exp(a + b / T), the others +0.
-#[derive(Drop)]
+#[derive(Clone, Copy)]
 pub struct Terms {
     pub t0: f64,
     pub t1: f64,
@@ -44,14 +46,14 @@ pub struct Terms {
 }
 
 // The temperatures that a pair was regressed between, in K, and whether they were inferred.
-#[derive(Drop)]
+#[derive(Clone, Copy)]
 pub enum Regression {
     None,
     Interval(f64, f64, bool),
 }
 
 // A pair i < j: the terms of (i, j) and of (j, i), and its regression interval.
-#[derive(Drop)]
+#[derive(Clone, Copy)]
 pub struct Pair {
     pub ij: Terms,
     pub ji: Terms,

@@ -6,7 +6,7 @@ use rachford_rice::{RachfordRice, RachfordRiceOutcome};
 use thermo_types::Verdict;
 
 // How many words a function took, and how many it gave; none where it is not known.
-#[derive(Drop)]
+#[derive(Clone, Copy)]
 pub(crate) struct Called {
     pub inputs: usize,
     pub results: usize,

@@ -1,5 +1,7 @@
 // Replays stored answers of the reference (data/, written by reference/store): calls the core on each stored input and compares every word of the result.
 // Writes a line for each function, and how many lines could not be read. A program has no result to state: what is proved is that it is safe and ends.
+#![tactic(auto)]
+
 ghost use Rattle.io.specs.Counts.{IsPrefixLen};
 
 use libc::STDOUT_FILENO;

@@ -1,4 +1,6 @@
 // The blocks of an answer, of a trial and of a refusal: 64 words, of which `blocks` makes the last the check.
+#![tactic(auto)]
+
 ghost use Rattle.std.specs.Prelude.{◌≡◌, ◌≤◌, ◌+◌, length};
 ghost use Rattle.floats.specs.Arithmetic.{0f};
 ghost use Rattle.floats.specs.Small.{bits_of};
@@ -20,7 +22,7 @@ use tp_flash::{ActivityTpFlash, FlashPhases};
 pub const ANSWER_ROOM: usize = 4608;
 
 // Words 4 to 13: K, Pa, and counts.
-#[derive(Drop)]
+#[derive(Clone, Copy)]
 pub struct State {
     pub temperature: f64,
     pub pressure: f64,
@@ -35,7 +37,7 @@ pub struct State {
 }
 
 // Words 30 to 37: g^E / RT, J/mol, J/(mol K), and what is said of the state.
-#[derive(Drop)]
+#[derive(Clone, Copy)]
 pub struct ModelState {
     pub reduced: f64,
     pub gibbs: f64,
@@ -47,7 +49,7 @@ pub struct ModelState {
     pub stable: bool,
 }
 
-#[derive(Drop)]
+#[derive(Clone, Copy)]
 pub struct AnswerBlock {
     pub outcome: u64,
     pub state: State,

@@ -1,4 +1,6 @@
 // The phase split over plain slices: a number, and nineteen floats where there are two phases.
+#![tactic(auto)]
+
 ghost use Rattle.std.specs.Prelude.{◌≡◌, cond, ℕ, ◌≤◌, ◌+◌, length, set};
 ghost use Rattle.thermo_types.specs.declared.Verdict;
 ghost use Rattle.floats.specs.Vector.{at, fill_from};

@@ -1,5 +1,7 @@
 // Bubble and dew points at a temperature (activity.rs): modified Raoult, y_i p = x_i γ_i p_i^sat, with the model's liquid and
 // an ideal-gas vapor. Compositions and ln γ are arrays of eight, 0.0 past n; pressures in Pa, temperatures in K.
+#![tactic(auto)]
+
 ghost use Rattle.std.specs.Prelude.{◌≡◌, cond, ◌&&◌, ◌≤◌};
 ghost use Rattle.std.specs.Float.Ieee.{lt};
 ghost use Rattle.floats.specs.Arithmetic.{◌⊕◌, ◌⊖◌, ◌⊗◌, ◌⊘◌, 0f};
@@ -15,7 +17,7 @@ use thermo_models::Tabled;
 use thermo_types::{ActivityOptions, Normalized, Verdict};
 
 // Pressure in Pa and incipient vapor. Here and below: zeros where it is refused.
-#[derive(Drop)]
+#[derive(Clone, Copy)]
 pub struct BubblePoint {
     pub verdict: Verdict,
     pub pressure: f64,
@@ -23,21 +25,21 @@ pub struct BubblePoint {
 }
 
 // max_i |ln(y_i p) - ln(x_i γ_i p_i^sat)|.
-#[derive(Drop)]
+#[derive(Clone, Copy)]
 pub struct ResidualAnswer {
     pub verdict: Verdict,
     pub value: f64,
 }
 
 // Pressure in Pa, and the incipient liquid.
-#[derive(Drop)]
+#[derive(Clone, Copy)]
 struct IncipientLiquid {
     pressure: f64,
     liquid: Normalized,
 }
 
 // One turn of the dew iteration: the largest change of ln γ, and the new ln γ.
-#[derive(Drop)]
+#[derive(Clone, Copy)]
 struct DewTurn {
     verdict: Verdict,
     change: f64,
@@ -45,7 +47,7 @@ struct DewTurn {
 }
 
 // A converged dew point at T: pressure (Pa), incipient liquid, and the activity (ln γ, 1/K) at that liquid.
-#[derive(Drop)]
+#[derive(Clone, Copy)]
 pub struct DewPoint {
     pub verdict: Verdict,
     pub pressure: f64,
@@ -57,7 +59,7 @@ pub struct DewPoint {
 }
 
 // Saturation point of the feed; the incipient phase has zero amount. K, Pa.
-#[derive(Drop)]
+#[derive(Clone, Copy)]
 pub struct ActivitySaturation {
     pub verdict: Verdict,
     pub temperature: f64,

@@ -1,4 +1,6 @@
 // Bubble and dew temperatures at a pressure (activity.rs): ln p_sat(T) = ln p, by Newton steps kept inside a bracket.
+#![tactic(auto)]
+
 ghost use Rattle.std.specs.Prelude.{◌≡◌, ℕ, suc, ◌≤◌, ◌&&◌, List, if◌then◌else◌, Float};
 ghost use Rattle.std.specs.Float.Ieee.{lt};
 ghost use Rattle.floats.specs.Arithmetic.{◌⊕◌, ◌⊗◌, 0f};
@@ -21,7 +23,7 @@ use saturation::{ActivitySaturation, DewPoint};
 use thermo_types::{ActivityOptions, NewTemperature, Pressure, Temperature, Verdict};
 
 // The saturation curve whose temperature is sought.
-#[derive(Drop)]
+#[derive(Clone, Copy)]
 enum Curve {
     Bubble,
     Dew,
@@ -29,7 +31,7 @@ enum Curve {
 
 // f(T) = ln p_sat(T) - ln p, and its slope, 1/K; zeros where it is refused. Where |f| is within the tolerance T is the root,
 // and `answer` the saturation point there.
-#[derive(Drop)]
+#[derive(Clone, Copy)]
 struct PointAnswer {
     verdict: Verdict,
     value: f64,
@@ -38,7 +40,7 @@ struct PointAnswer {
 }
 
 // A bracket of the root, and the next temperature to try, K.
-#[derive(Drop)]
+#[derive(Clone, Copy)]
 struct Bracket {
     lo: f64,
     hi: f64,
@@ -46,7 +48,7 @@ struct Bracket {
 }
 
 // A search that goes on inside its bracket, or has its answer.
-#[derive(Drop)]
+#[derive(Clone, Copy)]
 struct Search {
     going: bool,
     bracket: Bracket,
@@ -147,7 +149,7 @@ fn collapsed(b: Bracket, t: f64) -> bool
 // ---- bubble temperature
 
 // Σ w_i, Pa, and Σ w_i (∂ ln γ_i/∂T + d ln p_i^sat/dT), Pa/K
-#[derive(Drop)]
+#[derive(Clone, Copy)]
 struct Weights {
     sum: f64,
     slope: f64,

@@ -1,4 +1,6 @@
 // The core as the desk calls it: a book, a question and an answer slice.
+#![tactic(auto)]
+
 ghost use Rattle.std.specs.Prelude.{◌≡◌, true, List, ◌++◌, ℕ, ◌≤◌, ◌<◌, ◌+◌, ◌*◌, length, take, drop, Float};
 ghost use Rattle.floats.specs.Vector.{places};
 ghost use Rattle.floats.specs.Outcome.{Out, ok, bind};
@@ -279,7 +281,7 @@ fn task_under(
 // ---- what the tasks at a temperature share, whatever the feed
 
 // What the tables stand for; or the number of the question that was answered no: 13, 14, 22, 23, or 25 of a vapor pressure.
-#[derive(Drop)]
+#[derive(Clone, Copy)]
 pub enum Ready {
     At(Tabled),
     No(u64),

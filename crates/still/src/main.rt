@@ -1,4 +1,6 @@
 // Reads book.bin and a question on standard input, and writes the answer's blocks, or one block with the refusal's number.
+#![tactic(auto)]
+
 ghost use Rattle.std.specs.Prelude.{◌≡◌, length};
 ghost use Rattle.io.specs.Counts.{IsPrefixLen};
 ghost use Rattle.replies.specs.Blocks.{answer_room};

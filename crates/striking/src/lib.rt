@@ -1,1 +1,2 @@
 // Demand 3: laws and the theorem; no code.
+#![tactic(auto)]

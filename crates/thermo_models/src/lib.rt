@@ -1,5 +1,7 @@
 // What the solvers ask of the models: the domain, the pure liquids, excess state and activity from the tables of a
 // temperature, and validity (models/activity.rs, nrtl.rs).
+#![tactic(auto)]
+
 ghost use Rattle.std.specs.Prelude.{◌≡◌, ◌≤◌, ◌<◌, true, not, ◌&&◌};
 ghost use Rattle.std.specs.Float.Ieee.{le};
 ghost use Rattle.floats.specs.Arithmetic.{0f};
@@ -161,7 +163,7 @@ pub fn pure_liquids(
 // ---- excess state and activity
 
 // What a table stands for: the model, whether its parameters passed, n solvents, T.
-#[derive(Drop)]
+#[derive(Clone, Copy)]
 pub struct Tabled {
     pub model: Model,
     pub alphas: Verdict,
@@ -244,21 +246,21 @@ pub fn activity(
 // ---- validity
 
 // Extrapolated: T outside an interval of a pair present. Unassessed: a pair without interval, or no pair present.
-#[derive(Drop)]
+#[derive(Clone, Copy)]
 pub enum ValidityStatus {
     Unassessed,
     WithinDeclaredDomain,
     Extrapolated,
 }
 
-#[derive(Drop)]
+#[derive(Clone, Copy)]
 pub struct Assessment {
     pub status: ValidityStatus,
     pub inferred: bool,
 }
 
 // What the pairs passed so far have shown.
-#[derive(Drop)]
+#[derive(Clone, Copy)]
 struct Seen {
     active: bool,
     missing: bool,

@@ -1,4 +1,6 @@
 // Typed quantities and mole fractions (thermo-types). Each function equals its definition in specs/.
+#![tactic(auto)]
+
 ghost use Rattle.std.specs.Prelude.{◌≡◌, ◌≤◌};
 ghost use Rattle.floats.specs.Arithmetic.{◌⊘◌};
 ghost use Rattle.floats.specs.Fold.{sum_to};
@@ -9,41 +11,41 @@ ghost use Rattle.thermo_types.specs.Quantities.{positive_of, new_temperature, ne
 ghost use Rattle.thermo_types.specs.Composition.{all_finite, none_negative, all_positive, sums_to_one, with_fractions, shares_of, normalize_of};
 
 // Passed, or refused with the number of the question that was answered no.
-#[derive(Drop)]
+#[derive(Clone, Copy)]
 pub enum Verdict {
     Passed,
     Refused(u64),
 }
 
 // Mole fractions that sum to 1; zeros where they are refused.
-#[derive(Drop)]
+#[derive(Clone, Copy)]
 pub struct Normalized {
     pub verdict: Verdict,
     pub fractions: [f64; 8],
 }
 
 // Kelvin. The field is private: `new` alone makes one.
-#[derive(Drop)]
+#[derive(Clone, Copy)]
 pub struct Temperature(f64);
 
-#[derive(Drop)]
+#[derive(Clone, Copy)]
 pub enum NewTemperature {
     Valid(Temperature),
     No(u64),
 }
 
 // Pascals. The field is private: `new` alone makes one.
-#[derive(Drop)]
+#[derive(Clone, Copy)]
 pub struct Pressure(f64);
 
-#[derive(Drop)]
+#[derive(Clone, Copy)]
 pub enum NewPressure {
     Valid(Pressure),
     No(u64),
 }
 
 // What the solvers iterate with: limits, the tolerance of ln fugacities, the threshold of tm below which a liquid is unstable, the bracket in K.
-#[derive(Drop)]
+#[derive(Clone, Copy)]
 pub struct ActivityOptions {
     pub max_iterations: u64,
     pub tolerance: f64,

@@ -1,5 +1,7 @@
 // Isothermal-isobaric gamma-phi flash (activity.rs): at most one liquid. Compositions are arrays of eight, of which
 // the first n are read.
+#![tactic(auto)]
+
 ghost use Rattle.std.specs.Prelude.{◌≡◌, cond, List, Float};
 ghost use Rattle.std.specs.Float.Ieee.{lt};
 ghost use Rattle.floats.specs.Arithmetic.{◌⊕◌, ◌⊖◌, 0f, 1f};
@@ -18,7 +20,7 @@ use rachford_rice::RachfordRiceOutcome;
 use thermo_models::Tabled;
 use thermo_types::{ActivityOptions, Normalized, Pressure, Verdict};
 
-#[derive(Drop)]
+#[derive(Clone, Copy)]
 pub enum FlashPhases {
     Liquid,
     Vapor,
@@ -26,7 +28,7 @@ pub enum FlashPhases {
 }
 
 // Pressures in Pa. The first `count` trials are those of the liquid, where it was tested.
-#[derive(Drop)]
+#[derive(Clone, Copy)]
 pub struct ActivityTpFlash {
     pub verdict: Verdict,
     pub phases: FlashPhases,
@@ -45,7 +47,7 @@ pub struct ActivityTpFlash {
 }
 
 // Bubble and dew pressure of the feed, Pa.
-#[derive(Drop)]
+#[derive(Clone, Copy)]
 struct Saturated {
     bubble: f64,
     dew: f64,
@@ -61,7 +63,7 @@ const FINITE_TRIALS: u64 = 1 + 4;
 // ---- the split at T and p
 
 // A converged split: vapor fraction, both phases, the largest gap of ln fugacities; zeros where it is refused.
-#[derive(Drop)]
+#[derive(Clone, Copy)]
 struct SplitPoint {
     verdict: Verdict,
     vapor_fraction: f64,
@@ -72,7 +74,7 @@ struct SplitPoint {
 }
 
 // A turn's split, and ln γ at its liquid.
-#[derive(Drop)]
+#[derive(Clone, Copy)]
 struct SplitTurn {
     point: SplitPoint,
     lg: [f64; 8],
@@ -576,7 +578,7 @@ fn between(
 }
 
 // Of a dew point, or its refusal.
-#[derive(Drop)]
+#[derive(Clone, Copy)]
 struct DewPressure {
     verdict: Verdict,
     value: f64,

@@ -1,5 +1,7 @@
 // Wilson: activity coefficients and excess properties of a composition, from the table of its temperature.
 // g^E/(RT) = −Σ_i x_i ln S_i, S_i = Σ_j x_j Λ_ij, ln γ_i = 1 − ln S_i − Σ_k x_k Λ_ki / S_k.
+#![tactic(auto)]
+
 ghost use Rattle.std.specs.Prelude.{◌≡◌, ◌≤◌, ◌<◌, ◌+◌, ◌*◌};
 ghost use Rattle.floats.specs.Vector.{at, places};
 ghost use Rattle.floats.specs.Arithmetic.{1f};
@@ -110,7 +112,7 @@ fn quotients_of(table: &[f64; 512], sums: &[f64; 32], x: &[f64; 8], n: usize, i:
 }
 
 // Two solvents side by side: their sums don't depend on each other, so the machine's lanes share the loop.
-#[derive(Drop)]
+#[derive(Clone, Copy)]
 struct Pair {
     a: Jet,
     b: Jet,

@@ -1,6 +1,8 @@
 // Wilson: Λ of every ordered pair, once per temperature. Λ_ij = exp(a_ij + b_ij/T), Λ_ii = 1.
 // Parameters are flat: a and b of the pair (i, j) from (i * 8 + j) * 6 on. The table has three planes of 64, entry (i, j)
 // of plane k at k * 64 + i * 8 + j: Λ with two derivatives.
+#![tactic(auto)]
+
 ghost use Rattle.std.specs.Prelude.{◌≡◌, ◌≤◌, ◌<◌, ◌+◌, ◌*◌};
 ghost use Rattle.floats.specs.Arithmetic.{1f};
 ghost use Rattle.floats.specs.Vector.{places};

@@ -1,4 +1,6 @@
 // The names under which desks in C, Rust and Python call the core; bindings/c/zektonk.h has their prototypes. A slice passes as a pointer and a length.
+#![tactic(auto)]
+
 ghost use Rattle.std.specs.Prelude.{length, ◌≡◌};
 ghost use Rattle.sheet.specs.Sheet.{sheet_of, number_of, Answers};
 ghost use Rattle.pool.specs.Pool.{pooled_of};

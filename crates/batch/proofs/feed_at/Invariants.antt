@@ -1,0 +1,18 @@
+-- `batch::feed_at` meets its contract. The loop's invariant: the entries passed are filled. Assumes nothing.
+use Prim.Native.Nat.{◌≤◌, ◌-◌, ◌+◌, ◌*◌}
+use mathlib.Core.Path.{◌≡◌, refl}
+use native.Mathlib.Omega.{arith}
+use borrow.Author.Rules.{rules}
+use lib.ListN.{length, length-set}
+use Rattle.floats.specs.Small.{float}
+use Rattle.floats.specs.Vector.{fill, vec}
+use Rattle.floats.proofs.Fills.{fill-turn, fill_done}
+use Rattle.blocks.specs.Words.{word}
+use Rattle.batch.specs.Feeds.{feed_at}
+use Rattle.batch.proofs.feed_at.Given as goal
+
+abbrev pub invariant-loop-i : goal.invariant-loop-i
+invariant-loop-i l = (l.i ≤ l.m) × (l.x ≡ vec (λ j. float (word l.feeds) (8 * l.k + j)) l.i) × (length l.x ≡ 8)
+
+abbrev pub decreases-loop-i : goal.decreases-loop-i
+decreases-loop-i l = l.m - l.i

@@ -1,0 +1,13 @@
+-- `blocks::block` meets its contract. Three cases: none, what there is of it, a whole block. Assumes nothing.
+use Rattle.std.proofs.Common.{rules}
+use Rattle.blocks.proofs.Laws.{part-block, block-past, block-end-part}
+use Rattle.blocks.proofs.block.Goals as goal
+
+pub returns-then-n-k : goal.returns-then-n-k
+returns-then-n-k c = block-past _ _ c.if-n-k.true
+
+pub returns-then-k-n : goal.returns-then-k-n
+returns-then-k-n c = block-end-part _ _ c.if-k-n.true
+
+pub returns : goal.returns
+returns c = part-block _ _

@@ -1,0 +1,14 @@
+use Rattle.std.proofs.Common.{◌≡◌, ◌-◌, ◌*◌, ◌≤◌, ◌++◌, length, drop, refl, arith, rules}
+use Rattle.blocks.proofs.Laws.{word-turn, words-end}
+use Rattle.blocks.specs.Bytes.{word_at, bytes, row_to}
+use Rattle.blocks.proofs.store_words.Goals as goal
+
+pub loop-k-init : goal.loop-k-init
+unfolding row_to
+loop-k-init c = (omega arith, refl, refl)
+
+pub loop-k-preserved : goal.loop-k-preserved
+loop-k-preserved c = (omega arith, word-turn _ _ _ c.loop.invariant.1 c.Store-word.ensures, omega arith)
+
+pub returns : goal.returns
+returns c = words-end _ _ _ c.loop-k.invariant.0 c.loop-k-test.false c.loop-k.invariant.1 c.store_word-2.ensures

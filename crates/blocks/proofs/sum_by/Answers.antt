@@ -1,0 +1,12 @@
+-- `blocks::sum_by` meets its contract. Assumes nothing.
+use Rattle.std.proofs.Common.{rules}
+use Rattle.blocks.specs.Words.{sum_by}
+use Rattle.blocks.proofs.sum_by.Goals as goal
+
+pub returns-in-Plain : goal.returns-in-Plain
+unfolding sum_by
+returns-in-Plain c = rw c.enum_told-1.given.1 c.plain_sum.ensures
+
+pub returns-in-Running : goal.returns-in-Running
+unfolding sum_by
+returns-in-Running c = rw c.enum_told-in-Running-1.given.1 c.running_sum.ensures

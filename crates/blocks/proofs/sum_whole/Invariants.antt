@@ -1,0 +1,11 @@
+-- `blocks::sum_whole` meets its contract. The invariant: the sum so far. Assumes nothing.
+use Rattle.std.proofs.Common.{◌≡◌, ◌-◌, ◌≤◌, refl, arith, rules}
+use Rattle.blocks.proofs.Laws.{sum-turn}
+use Rattle.blocks.specs.Words.{word, check_sum}
+use Rattle.blocks.proofs.sum_whole.Given as goal
+
+abbrev pub invariant-loop-k : goal.invariant-loop-k
+invariant-loop-k l = (l.k ≤ 63) × (l.sum ≡ check_sum (word l.s) l.k)
+
+abbrev pub decreases-loop-k : goal.decreases-loop-k
+decreases-loop-k l = 63 - l.k

@@ -1,0 +1,12 @@
+-- `blocks::words_running` meets its contract. The invariant: the sum and the sum of running sums so far. Assumes nothing.
+use Rattle.std.proofs.Common.{◌≡◌, ◌-◌, ◌≤◌, refl, arith, rules}
+use Rattle.blocks.specs.Words.{check_sum, running_sum}
+use Rattle.blocks.specs.Bytes.{word_at}
+use Rattle.blocks.proofs.Laws.{sum-turn, runs-turn}
+use Rattle.blocks.proofs.words_running.Given as goal
+
+abbrev pub invariant-loop-k : goal.invariant-loop-k
+invariant-loop-k l = (l.k ≤ 63) × (l.sum ≡ check_sum (word_at l.ws) l.k) × (l.runs ≡ running_sum (word_at l.ws) l.k)
+
+abbrev pub decreases-loop-k : goal.decreases-loop-k
+decreases-loop-k l = 63 - l.k

@@ -1,0 +1,6 @@
+-- `book::float_at` meets its contract. From what the callees ensure. Assumes nothing.
+use Rattle.std.proofs.Common.{rules}
+use Rattle.book.proofs.float_at.Goals as goal
+
+pub returns : goal.returns
+returns c = cc

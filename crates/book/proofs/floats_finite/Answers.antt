@@ -1,0 +1,20 @@
+use Rattle.std.proofs.Common.{◌≡◌, ◌-◌, ◌≤◌, ltb, refl, arith, rules}
+use Rattle.floats.proofs.Folds.{all_next, all_done}
+use Rattle.floats.specs.Fold.{all_to}
+use Rattle.book.proofs.Bits.{or_top}
+use Rattle.blocks.specs.Words.{word}
+use Rattle.book.specs.Book.{floats_finite}
+use Rattle.book.proofs.floats_finite.Goals as goal
+
+pub loop-k-init : goal.loop-k-init
+unfolding floats_finite all_to
+loop-k-init c = (omega arith, refl)
+
+pub loop-k-preserved : goal.loop-k-preserved
+unfolding floats_finite
+loop-k-preserved c = let turn = c.loop-k in
+    (omega arith, all_next _ _ (or_top turn.carries c.carry-carries.result) (rw c.word.ensures at c.carry-carries.ensures) turn.invariant.1)
+
+pub returns : goal.returns
+unfolding floats_finite
+returns c = all_done _ _ _ (omega arith) c.loop-k.invariant.1

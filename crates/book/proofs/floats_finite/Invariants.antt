@@ -1,0 +1,14 @@
+-- `book::floats_finite` meets its contract. The invariant: the test of the words so far. Assumes nothing.
+use Rattle.std.proofs.Common.{◌≡◌, ◌-◌, ◌≤◌, ltb, refl, arith, rules}
+use Rattle.floats.proofs.Folds.{all_next, all_done}
+use Rattle.floats.specs.Fold.{all_to}
+use Rattle.book.proofs.Bits.{or_top}
+use Rattle.blocks.specs.Words.{word}
+use Rattle.book.specs.Book.{floats_finite}
+use Rattle.book.proofs.floats_finite.Given as goal
+
+abbrev pub invariant-loop-k : goal.invariant-loop-k
+invariant-loop-k l = (l.k ≤ l.count) × (ltb l.carries 0x8000000000000000 ≡ floats_finite (word l.s) l.from l.k)
+
+abbrev pub decreases-loop-k : goal.decreases-loop-k
+decreases-loop-k l = l.count - l.k

@@ -1,0 +1,10 @@
+-- `book::pair_sound` meets its contract. From what the callees ensure. Assumes nothing.
+use Rattle.std.proofs.Common.{rules}
+use Rattle.book.proofs.Sound.{wilson_sound}
+use Rattle.book.proofs.pair_sound.Goals as goal
+
+pub returns-in-Nrtl : goal.returns-in-Nrtl
+returns-in-Nrtl c = rw c.enum_told-1.given.1 c.nrtl_sound.ensures
+
+pub returns-in-Wilson : goal.returns-in-Wilson
+returns-in-Wilson c = let e = c.enum_told-in-Wilson-1.given.1 in rw e (wilson_sound _ (rw e at c.pair_finite.ensures))

@@ -1,0 +1,14 @@
+-- `book::pairs_sound` meets its contract. A scan: so far every index passed its test; one that fails makes the whole false. Assumes nothing.
+use Rattle.std.proofs.Common.{◌≡◌, ◌+◌, ◌-◌, ◌≤◌, true, ◌&&◌, sym, refl, arith, rules}
+use Rattle.floats.proofs.Folds.{was_no, was_yes, all_turn, all_fails, all_end}
+use Rattle.floats.specs.Fold.{all_to}
+use Rattle.book.specs.Book.{pair_finite, alphas_equal}
+use Rattle.book.specs.Places.{words}
+use Rattle.book.proofs.pairs_sound.Given as goal
+
+abbrev pub invariant-loop-d : goal.invariant-loop-d
+invariant-loop-d l =
+    (l.d ≤ l.count) × (all_to (λ k. pair_finite l.model (words l.book (l.from + k)) && alphas_equal l.model (words l.book (l.from + k))) l.d ≡ true)
+
+abbrev pub decreases-loop-d : goal.decreases-loop-d
+decreases-loop-d l = l.count - l.d

@@ -1,0 +1,12 @@
+-- `book::parameters_finite` meets its contract. From what the callees ensure. Assumes nothing.
+use Rattle.std.proofs.Common.{rules}
+use Rattle.book.specs.Book.{parameters_finite}
+use Rattle.book.proofs.parameters_finite.Goals as goal
+
+pub returns-in-Nrtl : goal.returns-in-Nrtl
+unfolding parameters_finite
+returns-in-Nrtl c = rw c.enum_told-1.given.1 c.floats_finite.ensures
+
+pub returns-in-Wilson : goal.returns-in-Wilson
+unfolding parameters_finite
+returns-in-Wilson c = rw c.enum_told-in-Wilson-1.given.1 c.floats_finite-in-Wilson.ensures

@@ -1,0 +1,19 @@
+use Rattle.exports.specs.Slices.{eight_of}
+use Rattle.floats.proofs.Fills.{fill-turn, fill_done}
+use Rattle.floats.specs.Vector.{at, fill, vec}
+use mathlib.Core.Path.{◌≡◌, refl}
+use Prim.Native.Nat.{◌≤◌, ◌-◌}
+use borrow.Author.Rules.{rules}
+use native.Mathlib.Omega.{arith}
+use Rattle.exports.proofs.eight.Goals as goal
+
+pub loop-i-init : goal.loop-i-init
+unfolding fill
+loop-i-init c = (omega arith, refl)
+
+pub loop-i-preserved : goal.loop-i-preserved
+loop-i-preserved c = (omega arith, fill-turn _ _ _ c.entry.ensures c.loop-i.invariant.1)
+
+pub returns : goal.returns
+unfolding eight_of
+returns c = fill_done _ _ _ _ (omega arith) c.loop-i.invariant.1

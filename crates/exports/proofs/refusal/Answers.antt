@@ -1,0 +1,11 @@
+use Rattle.exports.specs.Slices.{verdict_number}
+use borrow.Author.Rules.{rules}
+use Rattle.exports.proofs.refusal.Goals as goal
+
+pub returns-in-Passed : goal.returns-in-Passed
+unfolding verdict_number
+returns-in-Passed c = rw c.enum_told-1.given.1
+
+pub returns-in-Refused : goal.returns-in-Refused
+unfolding verdict_number
+returns-in-Refused c = rw c.v-1.given.1

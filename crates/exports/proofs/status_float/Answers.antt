@@ -1,0 +1,16 @@
+-- `exports::status_float` meets its contract: by the variant. Assumes nothing.
+use borrow.Author.Rules.{rules}
+use Rattle.exports.specs.Models.{status_float}
+use Rattle.exports.proofs.status_float.Goals as goal
+
+pub returns-in-Unassessed : goal.returns-in-Unassessed
+unfolding status_float
+returns-in-Unassessed c = rw c.enum_told-1.given.1
+
+pub returns-in-WithinDeclaredDomain : goal.returns-in-WithinDeclaredDomain
+unfolding status_float
+returns-in-WithinDeclaredDomain c = rw c.enum_told-in-WithinDeclaredDomain-1.given.1
+
+pub returns-in-Extrapolated : goal.returns-in-Extrapolated
+unfolding status_float
+returns-in-Extrapolated c = rw c.enum_told-in-Extrapolated-1.given.1

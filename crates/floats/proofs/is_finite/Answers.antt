@@ -1,0 +1,33 @@
+-- `floats::is_finite` meets its contract, by cases on x.
+use mathlib.Core.Path.{◌≡◌, refl}
+use mathlib.Core.Bool.{true, false, false≢true, true≢false}
+use lib.Ieee.{Float, nan, inf, fin, binary64, of_bits, lt, nan_bits}
+use Rattle.floats.specs.Small.{is_finite}
+use Rattle.floats.proofs.is_finite.Goals as goal
+
+below : (x : Float) → lt x (of_bits binary64 0x7ff0000000000000) ≡ true → lt (of_bits binary64 0xfff0000000000000) x ≡ is_finite x
+unfolding lt of_bits is_finite
+below nan h = absurd (false≢true h)
+below (inf true) h = refl
+below (inf false) h = absurd (false≢true h)
+below (fin s m e) h = refl
+
+above : (x : Float) → lt x (of_bits binary64 0x7ff0000000000000) ≡ false → false ≡ is_finite x
+unfolding lt of_bits is_finite
+above nan h = refl
+above (inf s) h = refl
+above (fin s m e) h = absurd (true≢false h)
+
+pub float_from_bits-t-2 : goal.float_from_bits-t-2
+unfolding nan_bits
+float_from_bits-t-2 c = tt
+
+pub float_from_bits-result : goal.float_from_bits-result
+unfolding nan_bits
+float_from_bits-result c = tt
+
+pub returns-then-x : goal.returns-then-x
+returns-then-x c = below c.args.x c.if-x.true
+
+pub returns-else-x : goal.returns-else-x
+returns-else-x c = above c.args.x c.if-x.false

@@ -1,0 +1,7 @@
+-- `liquid::ln_pressure` meets its contract. Assumes nothing.
+use Rattle.liquid.proofs.Ways.{logarithm_is}
+use borrow.Author.Rules.{rules}
+use Rattle.liquid.proofs.ln_pressure.Goals as goal
+
+pub returns : goal.returns
+returns c = logarithm_is _ _ c.places.ensures c.sum_terms-s.ensures c.from_sums.ensures

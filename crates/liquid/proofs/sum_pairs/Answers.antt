@@ -1,0 +1,19 @@
+use mathlib.Core.Path.{◌≡◌}
+use Prim.Native.Nat.{◌*◌, ◌≤◌, ◌-◌}
+use native.Mathlib.Omega.{arith}
+use borrow.Author.Rules.{rules}
+use Rattle.liquid.specs.Vapor.{sums_of}
+use Rattle.liquid.proofs.Ways.{terms_start, terms_done, pair-next}
+use Rattle.liquid.proofs.sum_pairs.Goals as goal
+
+pub loop-i-init : goal.loop-i-init
+loop-i-init c = (omega arith, terms_start _ _ _ _)
+
+pub loop-i-preserved : goal.loop-i-preserved
+loop-i-preserved c = (
+  omega arith,
+  pair-next _ _ _ _ c.loop-i.i c.requires.1 c.exp_two-p.ensures c.exp_two-q.ensures c.exp_two-r.ensures c.add_term-z.ensures c.add_term-z-in-loop-i.ensures c.loop-i.invariant.1,
+)
+
+pub returns : goal.returns
+returns c = terms_done _ _ _ _ _ _ (omega arith) c.loop-i.invariant.1

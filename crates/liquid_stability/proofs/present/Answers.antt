@@ -1,0 +1,24 @@
+use Prim.Native.Nat.{◌≤◌, ◌-◌}
+use mathlib.Core.Logic.{⊎_elim}
+use mathlib.Core.Path.{◌≡◌, refl}
+use native.Mathlib.Omega.{arith}
+use Rattle.floats.proofs.Folds.{fold_done}
+use Rattle.floats.specs.Fold.{fold_to}
+use Rattle.liquid_stability.specs.Stability.{present_count}
+use Rattle.liquid_stability.proofs.Laws.{count-present, count-absent}
+use Rattle.liquid_stability.proofs.present.Goals as goal
+
+pub loop-i-init : goal.loop-i-init
+unfolding present_count fold_to
+loop-i-init c = (omega arith, omega arith, refl)
+
+pub loop-i-preserved : goal.loop-i-preserved
+loop-i-preserved c = let l = c.loop-i in (
+  omega arith,
+  ⊎_elim (λ w. omega arith) (λ w. omega arith) c.if-x-i.branch,
+  ⊎_elim (λ w. count-present _ _ l.invariant.2 w.0.taken w.1) (λ w. count-absent _ _ l.invariant.2 w.0.left w.1) c.if-x-i.branch,
+)
+
+pub returns : goal.returns
+unfolding present_count
+returns c = fold_done _ _ _ _ (omega arith) c.loop-i.invariant.2

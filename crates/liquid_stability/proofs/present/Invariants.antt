@@ -1,0 +1,16 @@
+-- `liquid_stability::present` meets its contract. The invariant: the solvents present so far, at most as many as were passed. Assumes nothing.
+use Prim.Native.Nat.{◌≤◌, ◌-◌}
+use mathlib.Core.Logic.{⊎_elim}
+use mathlib.Core.Path.{◌≡◌, refl}
+use native.Mathlib.Omega.{arith}
+use Rattle.floats.proofs.Folds.{fold_done}
+use Rattle.floats.specs.Fold.{fold_to}
+use Rattle.liquid_stability.specs.Stability.{present_count}
+use Rattle.liquid_stability.proofs.Laws.{count-present, count-absent}
+use Rattle.liquid_stability.proofs.present.Given as goal
+
+abbrev pub invariant-loop-i : goal.invariant-loop-i
+invariant-loop-i l = (l.i ≤ l.n) × (l.count ≤ l.i) × (l.count ≡ present_count l.x l.i)
+
+abbrev pub decreases-loop-i : goal.decreases-loop-i
+decreases-loop-i l = l.n - l.i

@@ -1,0 +1,17 @@
+-- `liquid_stability::start` meets its contract. The invariant: ln W so far. Assumes nothing.
+use Prim.Native.Nat.{◌≤◌, ◌-◌}
+use mathlib.Core.Bool.{cond}
+use mathlib.Core.Path.{◌≡◌, refl}
+use native.Mathlib.Omega.{arith}
+use borrow.Author.Rules.{rules}
+use lib.Dec.{eqb}
+use Rattle.floats.proofs.Fills.{fill-turn, fill_done}
+use Rattle.floats.specs.Vector.{fill, vec}
+use Rattle.liquid_stability.specs.Stability.{start_from}
+use Rattle.liquid_stability.proofs.start.Given as goal
+
+abbrev pub invariant-loop-i : goal.invariant-loop-i
+invariant-loop-i l = (l.i ≤ l.n) × (l.ln_w ≡ vec (λ k. cond (eqb k l.j) l.a l.b) l.i)
+
+abbrev pub decreases-loop-i : goal.decreases-loop-i
+decreases-loop-i l = l.n - l.i

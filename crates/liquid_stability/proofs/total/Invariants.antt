@@ -1,0 +1,16 @@
+-- `liquid_stability::total` meets its contract. The invariant: the sum over the solvents present so far. Assumes nothing.
+use Prim.Native.Nat.{◌≤◌, ◌-◌}
+use borrow.Author.Rules.{rules}
+use mathlib.Core.Path.{refl, ◌≡◌}
+use native.Mathlib.Omega.{arith}
+use Rattle.floats.proofs.Folds.{fold_turn, fold_done}
+use Rattle.floats.specs.Arithmetic.{0f, ◌⊕◌}
+use Rattle.floats.specs.Fold.{fold_to, active}
+use Rattle.floats.specs.Vector.{at}
+use Rattle.liquid_stability.proofs.total.Given as goal
+
+abbrev pub invariant-loop-i : goal.invariant-loop-i
+invariant-loop-i l = (l.i ≤ l.n) × (l.s ≡ fold_to (active (at l.x) (λ k a. a ⊕ at l.big k)) 0f l.i)
+
+abbrev pub decreases-loop-i : goal.decreases-loop-i
+decreases-loop-i l = l.n - l.i

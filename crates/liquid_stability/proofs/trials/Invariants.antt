@@ -1,0 +1,17 @@
+-- `liquid_stability::trials` meets its contract. The invariant: the trials so far are ok, with this state. Assumes nothing.
+use Prim.Native.Nat.{◌≤◌, ◌-◌}
+use borrow.Author.Rules.{rules}
+use mathlib.Core.Logic.{⊎_elim}
+use mathlib.Core.Path.{◌≡◌}
+use native.Mathlib.Omega.{arith}
+use Rattle.liquid_stability.specs.Stability.{trials_to}
+use Rattle.thermo_models.specs.Activity.{activity_on}
+use Rattle.liquid_stability.proofs.Laws.{so_far, trials-none, trials-refused, trials_done, trials_skip, trials-more}
+use Rattle.liquid_stability.proofs.trials.Given as goal
+
+abbrev pub invariant-loop-j : goal.invariant-loop-j
+invariant-loop-j l = (l.j ≤ l.n) × (l.count ≤ l.j)
+    × (trials_to (activity_on l.table l.at) l.n l.o l.x l.d l.j ≡ so_far l.stable l.count l.trials)
+
+abbrev pub decreases-loop-j : goal.decreases-loop-j
+decreases-loop-j l = l.n - l.j

@@ -1,0 +1,11 @@
+-- `nrtl::clear_past` meets its contract. Assumes nothing.
+use mathlib.Core.Path.{refl}
+use native.Mathlib.Omega.{arith}
+use borrow.Author.Rules.{rules}
+use Rattle.nrtl.proofs.clear_past.Goals as goal
+
+pub returns-then-n-eq1 : goal.returns-then-n-eq1
+returns-then-n-eq1 c = (record { odd = λ e. refl; even = λ e. absurd (omega arith) }, record { odd = λ e. refl; even = λ e. absurd (omega arith) })
+
+pub returns-else-n-eq1 : goal.returns-else-n-eq1
+returns-else-n-eq1 c = (record { odd = λ e. absurd (omega arith); even = λ e. refl }, record { odd = λ e. absurd (omega arith); even = λ e. refl })

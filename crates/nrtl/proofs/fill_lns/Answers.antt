@@ -1,0 +1,29 @@
+use Prim.Native.Nat.{◌≤◌, ◌+◌, ◌-◌, ◌%◌}
+use mathlib.Core.Path.{◌≡◌, refl}
+use native.Mathlib.Omega.{arith}
+use borrow.Author.Rules.{rules}
+use Rattle.floats.specs.Vector.{at, fill}
+use Rattle.floats.proofs.Fills.{fill_done}
+use Rattle.jet.specs.Planes.{twos}
+use Rattle.nrtl_tables.specs.Table.{g_plane, tau_plane}
+use Rattle.nrtl.specs.Columns.{ln_from}
+use Rattle.nrtl.specs.Lanes.{two_in}
+use Rattle.nrtl.proofs.Lanes.{two-turn, four-turn}
+use Rattle.nrtl.proofs.fill_lns.Goals as goal
+
+pub loop-i-init : goal.loop-i-init
+unfolding fill
+loop-i-init c = (omega arith, omega arith, omega arith, refl, refl)
+
+pub loop-i-preserved : goal.loop-i-preserved
+loop-i-preserved c = let q = c.ln_quad.ensures in
+    let a = c.loop-i.invariant in
+    (omega arith, omega arith, omega arith, four-turn _ _ _ q.0 a.3, four-turn _ _ _ q.1 a.4)
+
+pub returns-then-i-n : goal.returns-then-i-n
+returns-then-i-n c = let q = c.ln_pair.ensures in
+    let a = c.loop-i.invariant in
+    (fill_done _ _ _ _ (omega arith) (two-turn _ _ _ q.0 a.3), fill_done _ _ _ _ (omega arith) (two-turn _ _ _ q.1 a.4))
+
+pub returns-else-i-n : goal.returns-else-i-n
+returns-else-i-n c = let a = c.loop-i.invariant in (fill_done _ _ _ _ (omega arith) a.3, fill_done _ _ _ _ (omega arith) a.4)

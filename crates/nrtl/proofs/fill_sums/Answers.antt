@@ -1,0 +1,27 @@
+use Prim.Native.Nat.{◌≤◌, ◌+◌, ◌-◌, ◌%◌}
+use mathlib.Core.Path.{◌≡◌, refl}
+use native.Mathlib.Omega.{arith}
+use borrow.Author.Rules.{rules}
+use Rattle.floats.specs.Fold.{fold_to}
+use Rattle.floats.specs.Vector.{at}
+use Rattle.nrtl.specs.Lanes.{lanes}
+use Rattle.nrtl.specs.On.{s_on, r_on}
+use Rattle.nrtl.proofs.Lanes.{pair_turn, quad_turn, lanes_done}
+use Rattle.nrtl.proofs.fill_sums.Goals as goal
+
+pub loop-i-init : goal.loop-i-init
+unfolding fold_to
+loop-i-init c = (omega arith, omega arith, omega arith, refl, refl)
+
+pub loop-i-preserved : goal.loop-i-preserved
+loop-i-preserved c = let q = c.sum_quad.ensures in
+    let a = c.loop-i.invariant in
+    (omega arith, omega arith, omega arith, quad_turn _ _ _ _ q.0 a.3, quad_turn _ _ _ _ q.1 a.4)
+
+pub returns-then-i-n : goal.returns-then-i-n
+returns-then-i-n c = let q = c.sum_pair.ensures in
+    let a = c.loop-i.invariant in
+    (lanes_done _ _ _ _ _ (omega arith) (pair_turn _ _ _ _ q.0 a.3), lanes_done _ _ _ _ _ (omega arith) (pair_turn _ _ _ _ q.1 a.4))
+
+pub returns-else-i-n : goal.returns-else-i-n
+returns-else-i-n c = let a = c.loop-i.invariant in (lanes_done _ _ _ _ _ (omega arith) a.3, lanes_done _ _ _ _ _ (omega arith) a.4)

@@ -1,0 +1,8 @@
+-- `nrtl::keep_sums` meets its contract. Assumes nothing.
+use native.Mathlib.Omega.{arith}
+use borrow.Author.Rules.{rules}
+use Rattle.nrtl.proofs.Lanes.{pair-kept, ratio-kept}
+use Rattle.nrtl.proofs.keep_sums.Goals as goal
+
+pub returns : goal.returns
+returns c = (search pair-kept, search ratio-kept)

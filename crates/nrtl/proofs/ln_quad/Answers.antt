@@ -1,0 +1,12 @@
+-- `nrtl::ln_quad` meets its contract. Assumes nothing.
+use native.Mathlib.Omega.{arith}
+use borrow.Author.Rules.{rules}
+use Rattle.jet.specs.declared.Jet.{Jet}
+use Rattle.nrtl.proofs.Lanes.{lns_quad}
+use Rattle.nrtl.proofs.ln_quad.Goals as goal
+
+pub returns : goal.returns
+returns c = let a = c.args in (
+  lns_quad (λ (j : Jet). j.v) _ _ a.ln-gamma.now c.quad-lns.ensures c.keep-lns.ensures.0 c.keep_lns-2.ensures.0,
+  lns_quad (λ (j : Jet). j.d) _ _ a.slopes.now c.quad-lns.ensures c.keep-lns.ensures.1 c.keep_lns-2.ensures.1,
+)

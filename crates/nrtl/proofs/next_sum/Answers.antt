@@ -1,0 +1,7 @@
+-- `nrtl::next_sum` meets its contract. Assumes nothing.
+use native.Mathlib.Omega.{arith}
+use borrow.Author.Rules.{rules}
+use Rattle.nrtl.proofs.next_sum.Goals as goal
+
+pub returns : goal.returns
+returns c = cc

@@ -1,0 +1,26 @@
+-- `nrtl::quad_sums` meets its contract. Assumes nothing.
+use Prim.Native.Nat.{◌≤◌, ◌<◌, ◌+◌, ◌-◌}
+use mathlib.Core.Path.{◌≡◌, refl}
+use native.Mathlib.Omega.{arith}
+use borrow.Author.Rules.{rules}
+use Rattle.floats.specs.Fold.{fold_to}
+use Rattle.floats.specs.Vector.{at}
+use Rattle.jet.specs.Planes.{jets}
+use Rattle.jet.proofs.Sums.{sum_jet_turn, sum_jet_done}
+use Rattle.nrtl.specs.Columns.{col_s}
+use Rattle.nrtl.proofs.Lanes.{quad_is}
+use Rattle.nrtl.proofs.quad_sums.Given as goal
+
+abbrev pub invariant-loop-k : goal.invariant-loop-k
+invariant-loop-k l =
+    (l.k ≤ l.n)
+    × (l.n ≤ 8)
+    × (l.i < 5)
+    × (l.b ≤ 320)
+    × (l.p ≡ col_s (jets l.table l.b) (at l.x) l.k l.i)
+    × (l.q ≡ col_s (jets l.table l.b) (at l.x) l.k (l.i + 1))
+    × (l.r ≡ col_s (jets l.table l.b) (at l.x) l.k (l.i + 2))
+    × (l.s ≡ col_s (jets l.table l.b) (at l.x) l.k (l.i + 2 + 1))
+
+abbrev pub decreases-loop-k : goal.decreases-loop-k
+decreases-loop-k l = l.n - l.k

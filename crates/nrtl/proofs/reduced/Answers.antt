@@ -1,0 +1,22 @@
+use Prim.Native.Nat.{◌≤◌, ◌-◌}
+use mathlib.Core.Path.{◌≡◌}
+use native.Mathlib.Omega.{arith}
+use borrow.Author.Rules.{rules}
+use Rattle.floats.specs.Fold.{fold_to}
+use Rattle.floats.specs.Vector.{at}
+use Rattle.jet.proofs.Sums.{sum_jet_turn, sum_jet_done}
+use Rattle.nrtl.specs.Columns.{gibbs_from}
+use Rattle.nrtl.specs.Lanes.{jet_in}
+use Rattle.nrtl.proofs.reduced.Goals as goal
+
+pub loop-i-init : goal.loop-i-init
+unfolding gibbs_from fold_to
+loop-i-init c = (omega arith, c.constant-e.ensures)
+
+pub loop-i-preserved : goal.loop-i-preserved
+unfolding gibbs_from
+loop-i-preserved c = (omega arith, sum_jet_turn _ _ _ c.add-e.ensures (rw (c.scale.ensures, c.jet_in.ensures)) c.loop-i.invariant.1)
+
+pub returns : goal.returns
+unfolding gibbs_from
+returns c = sum_jet_done _ _ _ _ (omega arith) c.loop-i.invariant.1

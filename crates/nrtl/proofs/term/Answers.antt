@@ -1,0 +1,8 @@
+-- `nrtl::term` meets its contract. Assumes nothing.
+use borrow.Author.Rules.{rules}
+use Rattle.nrtl.specs.Columns.{term_j}
+use Rattle.nrtl.proofs.term.Goals as goal
+
+pub returns : goal.returns
+unfolding term_j
+returns c = cc

@@ -1,0 +1,20 @@
+use Prim.Native.Nat.{◌≤◌, ◌-◌}
+use mathlib.Core.Path.{◌≡◌, refl}
+use Rattle.floats.specs.Fold.{fold_to}
+use Rattle.jet.proofs.Planes.{square_done}
+use Rattle.nrtl_tables.specs.Pair.{tau_ij, g_ij}
+use Rattle.nrtl_tables.specs.Table.{table_rows}
+use Rattle.nrtl_tables.proofs.Stores.{square-more}
+use borrow.Author.Rules.{rules}
+use native.Mathlib.Omega.{arith}
+use Rattle.nrtl_tables.proofs.square.Goals as goal
+
+pub loop-i-init : goal.loop-i-init
+unfolding fold_to
+loop-i-init c = (omega arith, refl)
+
+pub loop-i-preserved : goal.loop-i-preserved
+loop-i-preserved c = (omega arith, square-more _ _ _ _ (omega arith) c.loop-i.invariant.1 c.border.ensures c.diagonal.ensures)
+
+pub returns : goal.returns
+returns c = square_done _ _ _ _ _ (omega arith) c.loop-i.invariant.1

@@ -1,0 +1,6 @@
+-- `numerics::raised` meets its contract. Assumes nothing.
+use Rattle.std.proofs.Common.{rules}
+use Rattle.numerics.proofs.raised.Goals as goal
+
+pub returns-then-up : goal.returns-then-up
+returns-then-up c = rw c.if-up.true

@@ -1,0 +1,19 @@
+use Prim.Native.Nat.{◌≤◌, ◌-◌, ◌+◌, ◌^◌, min}
+use mathlib.Core.Path.{◌≡◌, refl}
+use Rattle.floats.specs.Fold.{fold_to}
+use Rattle.pool.specs.Pool.{total_to, count_in, pool_count}
+use Rattle.pool.proofs.Laws.{kept-turn, kept_done}
+use borrow.Author.Rules.{rules}
+use native.Mathlib.Omega.{arith}
+use Rattle.pool.proofs.pool_count.Goals as goal
+
+pub loop-d-init : goal.loop-d-init
+unfolding fold_to
+loop-d-init c = (omega arith, refl)
+
+pub loop-d-preserved : goal.loop-d-preserved
+loop-d-preserved c = (omega arith, kept-turn _ _ _ c.loop-d.invariant.1 c.word.ensures c.added-sum.ensures)
+
+pub returns : goal.returns
+unfolding pool_count
+returns c = kept_done _ _ _ _ (omega arith) c.loop-d.invariant.1

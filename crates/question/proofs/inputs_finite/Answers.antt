@@ -1,0 +1,6 @@
+-- `question::inputs_finite` meets its contract. Assumes nothing.
+use borrow.Author.Rules.{rules}
+use Rattle.question.proofs.inputs_finite.Goals as goal
+
+pub returns : goal.returns
+returns c = cc

@@ -1,0 +1,6 @@
+-- `question::options_pass` meets its contract. Assumes nothing.
+use borrow.Author.Rules.{rules}
+use Rattle.question.proofs.options_pass.Goals as goal
+
+pub returns : goal.returns
+returns c = cc

@@ -1,0 +1,18 @@
+-- `question::over_masses` meets its contract. The loop's invariant: the entries passed are filled. Assumes nothing.
+use Prim.Native.Nat.{◌≤◌, ◌-◌, ◌+◌}
+use mathlib.Core.Path.{◌≡◌, refl}
+use native.Mathlib.Omega.{arith}
+use borrow.Author.Rules.{rules}
+use lib.ListN.{length, length-set}
+use Rattle.floats.specs.Arithmetic.{◌⊘◌}
+use Rattle.floats.specs.Vector.{at, fill, vec}
+use Rattle.floats.proofs.Fills.{fill-turn, fill_done}
+use Rattle.book.specs.Places.{words}
+use Rattle.book.specs.Book.{molar_mass}
+use Rattle.question.proofs.over_masses.Given as goal
+
+abbrev pub invariant-loop-i : goal.invariant-loop-i
+invariant-loop-i l = (l.i ≤ l.m) × (l.moles ≡ vec (λ k. at l.x k ⊘ molar_mass (words l.book) k) l.i) × (length l.moles ≡ 8)
+
+abbrev pub decreases-loop-i : goal.decreases-loop-i
+decreases-loop-i l = l.m - l.i

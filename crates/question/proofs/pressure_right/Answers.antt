@@ -1,0 +1,6 @@
+-- `question::pressure_right` meets its contract. Assumes nothing.
+use borrow.Author.Rules.{rules}
+use Rattle.question.proofs.pressure_right.Goals as goal
+
+pub returns : goal.returns
+returns c = cc

@@ -1,0 +1,6 @@
+-- `question::ratios_positive` meets its contract. Assumes nothing.
+use borrow.Author.Rules.{rules}
+use Rattle.question.proofs.ratios_positive.Goals as goal
+
+pub returns : goal.returns
+returns c = cc

@@ -1,0 +1,10 @@
+-- `question::read_moles` meets its contract. Assumes nothing.
+use borrow.Author.Rules.{rules}
+use Rattle.question.proofs.Laws.{moles-no, moles_yes}
+use Rattle.question.proofs.read_moles.Goals as goal
+
+pub returns-in-Refused : goal.returns-in-Refused
+returns-in-Refused c = moles-no _ _ c.moles-feed.ensures c.verdict-1.given.1 c.refused.ensures
+
+pub returns-in-Passed : goal.returns-in-Passed
+returns-in-Passed c = moles_yes _ _ c.moles.ensures c.enum_told.given.1 c.read_limits.ensures

@@ -1,0 +1,6 @@
+-- `question::temperature_right` meets its contract. Assumes nothing.
+use borrow.Author.Rules.{rules}
+use Rattle.question.proofs.temperature_right.Goals as goal
+
+pub returns : goal.returns
+returns c = cc

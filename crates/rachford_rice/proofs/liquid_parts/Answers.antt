@@ -1,0 +1,19 @@
+use Prim.Native.Nat.{◌≤◌, ◌-◌}
+use mathlib.Core.Path.{◌≡◌, refl}
+use native.Mathlib.Omega.{arith}
+use borrow.Author.Rules.{rules}
+use Rattle.floats.specs.Vector.{at, vec, fill}
+use Rattle.floats.proofs.Fills.{fill-turn, fill_done}
+use Rattle.rachford_rice.specs.Rachford.{liquid_part}
+use Rattle.rachford_rice.proofs.liquid_parts.Goals as goal
+
+pub loop-i-init : goal.loop-i-init
+unfolding fill
+loop-i-init c = (omega arith, refl)
+
+pub loop-i-preserved : goal.loop-i-preserved
+unfolding liquid_part
+loop-i-preserved c = (omega arith, fill-turn _ _ _ c.liquid_part.ensures c.loop-i.invariant.1)
+
+pub returns : goal.returns
+returns c = fill_done _ _ _ _ (omega arith) c.loop-i.invariant.1

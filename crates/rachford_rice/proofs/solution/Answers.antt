@@ -1,0 +1,7 @@
+-- `rachford_rice::solution` meets its contract. Assumes nothing.
+use borrow.Author.Rules.{rules}
+use Rattle.rachford_rice.proofs.Laws.{solution-is}
+use Rattle.rachford_rice.proofs.solution.Goals as goal
+
+pub returns : goal.returns
+returns c = search solution-is

@@ -1,0 +1,18 @@
+use mathlib.Core.Path.{◌≡◌}
+use Prim.Native.Nat.{◌≤◌, ◌-◌}
+use native.Mathlib.Omega.{arith}
+use borrow.Author.Rules.{rules}
+use Rattle.blocks.specs.Words.{word}
+use Rattle.records.proofs.Loads.{square_holds, square-more, square_done}
+use Rattle.records.specs.Offered.{pair_at}
+use Rattle.records.specs.Parameters.{parameter, parameter_rows}
+use Rattle.records.proofs.fill.Goals as goal
+
+pub loop-i-init : goal.loop-i-init
+loop-i-init c = (omega arith, square_holds _)
+
+pub loop-i-preserved : goal.loop-i-preserved
+loop-i-preserved c = (omega arith, square-more _ (λ k. word (pair_at _ _ _ k)) _ _ (omega arith) c.loop-i.invariant.1 c.fill_border.ensures c.diagonal.ensures)
+
+pub returns : goal.returns
+returns c = square_done _ _ _ (omega arith) c.loop-i.invariant.1

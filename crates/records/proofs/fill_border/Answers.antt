@@ -1,0 +1,20 @@
+use Prim.Native.Nat.{◌≤◌, ◌-◌}
+use mathlib.Core.Path.{◌≡◌, refl}
+use Rattle.blocks.specs.Words.{word}
+use Rattle.floats.specs.Fold.{fold_to}
+use Rattle.floats.proofs.Folds.{fold_turn, fold_done}
+use Rattle.records.specs.Offered.{pair_at}
+use Rattle.records.specs.Parameters.{parameter, parameter_border}
+use borrow.Author.Rules.{rules}
+use native.Mathlib.Omega.{arith}
+use Rattle.records.proofs.fill_border.Goals as goal
+
+pub loop-j-init : goal.loop-j-init
+unfolding fold_to
+loop-j-init c = (omega arith, refl)
+
+pub loop-j-preserved : goal.loop-j-preserved
+loop-j-preserved c = (omega arith, fold_turn _ _ _ c.fill_both.ensures c.loop-j.invariant.1)
+
+pub returns : goal.returns
+returns c = fold_done _ _ _ _ (omega arith) c.loop-j.invariant.1

@@ -1,0 +1,17 @@
+-- `records::fill_border` meets its contract. Assumes nothing.
+use Prim.Native.Nat.{◌≤◌, ◌-◌}
+use mathlib.Core.Path.{◌≡◌, refl}
+use Rattle.blocks.specs.Words.{word}
+use Rattle.floats.specs.Fold.{fold_to}
+use Rattle.floats.proofs.Folds.{fold_turn, fold_done}
+use Rattle.records.specs.Offered.{pair_at}
+use Rattle.records.specs.Parameters.{parameter, parameter_border}
+use borrow.Author.Rules.{rules}
+use native.Mathlib.Omega.{arith}
+use Rattle.records.proofs.fill_border.Given as goal
+
+abbrev pub invariant-loop-j : goal.invariant-loop-j
+invariant-loop-j l = (l.j ≤ l.i) × (l.plane ≡ parameter_border (parameter l.model (λ k. word (pair_at l.book l.offered l.place k)) l.n) l.i l.j l.initial.plane)
+
+abbrev pub decreases-loop-j : goal.decreases-loop-j
+decreases-loop-j l = l.i - l.j

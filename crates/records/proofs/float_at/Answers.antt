@@ -1,0 +1,6 @@
+-- `records::float_at` meets its contract. From what the callees ensure. Assumes nothing.
+use borrow.Author.Rules.{rules}
+use Rattle.records.proofs.float_at.Goals as goal
+
+pub returns : goal.returns
+returns c = cc

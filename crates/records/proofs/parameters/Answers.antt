@@ -1,0 +1,7 @@
+-- `records::parameters` meets its contract. From what the callees ensure. Assumes nothing.
+use borrow.Author.Rules.{rules}
+use Rattle.records.proofs.Offered.{copy-parameters}
+use Rattle.records.proofs.parameters.Goals as goal
+
+pub returns : goal.returns
+returns c = rw copy-parameters (rw (c.places.ensures, c.model_of.ensures, c.offered_place-place.ensures) at c.fill.ensures)

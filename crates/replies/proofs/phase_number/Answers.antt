@@ -1,0 +1,16 @@
+-- `replies::phase_number` meets its contract. Assumes nothing.
+use borrow.Author.Rules.{rules}
+use Rattle.replies.specs.Answers.{phase_number}
+use Rattle.replies.proofs.phase_number.Goals as goal
+
+pub returns-in-Liquid : goal.returns-in-Liquid
+unfolding phase_number
+returns-in-Liquid c = rw c.enum_told-1.given.1
+
+pub returns-in-Vapor : goal.returns-in-Vapor
+unfolding phase_number
+returns-in-Vapor c = rw c.enum_told-in-Vapor-1.given.1
+
+pub returns-in-Both : goal.returns-in-Both
+unfolding phase_number
+returns-in-Both c = rw c.enum_told-in-Both-1.given.1

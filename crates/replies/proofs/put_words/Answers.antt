@@ -1,0 +1,18 @@
+use native.Mathlib.Omega.{arith}
+use Prim.Native.Nat.{◌≤◌, ◌-◌}
+use mathlib.Core.Path.{◌≡◌, refl}
+use lib.ListN.{length}
+use Rattle.floats.specs.Vector.{fill_from}
+use Rattle.floats.proofs.Fills.{fill_from-turn, fill_from_done}
+use Rattle.blocks.specs.Bytes.{word_at}
+use Rattle.replies.proofs.put_words.Goals as goal
+
+pub loop-i-init : goal.loop-i-init
+unfolding fill_from
+loop-i-init c = (omega arith, refl)
+
+pub loop-i-preserved : goal.loop-i-preserved
+loop-i-preserved c = (omega arith, fill_from-turn _ _ _ _ refl c.loop.invariant.1)
+
+pub returns : goal.returns
+returns c = let e : c.loop-i.i ≡ length c.args.words.now = omega arith in fill_from_done _ _ _ _ _ e c.loop-i.invariant.1

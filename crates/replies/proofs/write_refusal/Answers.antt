@@ -1,0 +1,8 @@
+-- `replies::write_refusal` meets its contract. Assumes nothing.
+use borrow.Author.Rules.{rules}
+use Rattle.replies.specs.Blocks.{refusal_bytes}
+use Rattle.replies.proofs.write_refusal.Goals as goal
+
+pub returns : goal.returns
+unfolding refusal_bytes
+returns c = rw (← c.refusal_words-ws.ensures) c.write_block.ensures

@@ -1,0 +1,14 @@
+-- `rice_exports::put` meets its contract. The loop's invariant: the entries passed are stored. Assumes nothing.
+use Prim.Native.Nat.{◌≤◌, ◌-◌}
+use mathlib.Core.Path.{◌≡◌, refl, ap, ◌∙◌}
+use native.Mathlib.Omega.{arith}
+use lib.ListN.{length}
+use Rattle.floats.proofs.Fills.{fill_from-turn, fill_from_done, fill_from_length}
+use Rattle.floats.specs.Vector.{at, fill_from}
+use Rattle.rice_exports.proofs.put.Given as goal
+
+abbrev pub invariant-loop-i : goal.invariant-loop-i
+invariant-loop-i l = (l.i ≤ 8) × (l.out ≡ fill_from (at l.x) l.from l.i l.initial.out)
+
+abbrev pub decreases-loop-i : goal.decreases-loop-i
+decreases-loop-i l = 8 - l.i

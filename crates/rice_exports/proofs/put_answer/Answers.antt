@@ -1,0 +1,14 @@
+-- `rice_exports::put_answer` meets its contract. Assumes nothing.
+use native.Mathlib.Omega.{arith}
+use borrow.Author.Rules.{rules}
+use Rattle.rice_exports.proofs.Laws.{as_refused, as_passed}
+use Rattle.rice_exports.proofs.put_answer.Goals as goal
+
+pub overflow_add-result : goal.overflow_add-result
+overflow_add-result c = omega (arith, c.requires.1 _ c.verdict-1.given.1)
+
+pub returns-in-Refused : goal.returns-in-Refused
+returns-in-Refused c = as_refused _ _ c.verdict-1.given.1
+
+pub returns-in-Passed : goal.returns-in-Passed
+returns-in-Passed c = as_passed _ _ c.enum_told-1.given.1 c.put_phases.ensures.0 c.put_phases.ensures.1

@@ -1,0 +1,17 @@
+-- `saturation::dew_at` meets its contract. The loop's invariant: what is left to run from here is the whole run. Assumes nothing.
+use Prim.Native.Nat.{◌-◌}
+use mathlib.Core.Path.{◌≡◌}
+use native.Mathlib.Omega.{arith}
+use borrow.Author.Rules.{rules}
+use Rattle.floats.specs.Vector.{places}
+use Rattle.thermo_models.specs.Activity.{activity_on}
+use Rattle.saturation.specs.Saturation.{dew_loop, dew_at}
+use Rattle.saturation.proofs.Laws.{loop_start, loop_out, loop_refused, loop_done, loop_more}
+use Rattle.saturation.proofs.dew_at.Given as goal
+
+abbrev pub invariant-loop-done : goal.invariant-loop-done
+invariant-loop-done l =
+    dew_loop (activity_on l.table l.s) l.ps l.n l.y l.o.tolerance (l.done-end - l.done) l.done l.lg ≡ dew_at (activity_on l.table l.s) l.ps (places l.s.n) l.o l.y
+
+abbrev pub decreases-loop-done : goal.decreases-loop-done
+decreases-loop-done l = l.done-end - l.done

@@ -1,0 +1,14 @@
+-- `saturation::divided` meets its contract. Assumes nothing.
+use Prim.Native.Nat.{◌≤◌, ◌-◌}
+use mathlib.Core.Path.{◌≡◌, refl}
+use native.Mathlib.Omega.{arith}
+use Rattle.floats.proofs.Fills.{fill-turn, fill_done}
+use Rattle.floats.specs.Vector.{at, fill, vec}
+use Rattle.floats.specs.Arithmetic.{◌⊘◌}
+use Rattle.saturation.proofs.divided.Given as goal
+
+abbrev pub invariant-loop-i : goal.invariant-loop-i
+invariant-loop-i l = (l.i ≤ l.n) × (l.x ≡ vec (λ k. at l.w k ⊘ l.s) l.i)
+
+abbrev pub decreases-loop-i : goal.decreases-loop-i
+decreases-loop-i l = l.n - l.i

@@ -1,0 +1,6 @@
+-- `saturation_temperature::refused` meets its contract. Assumes nothing.
+use Rattle.std.proofs.Common.{rules}
+use Rattle.saturation_temperature.proofs.refused.Goals as goal
+
+pub returns : goal.returns
+returns c = rw (← c.no_saturation.ensures) c.over.ensures

@@ -1,0 +1,7 @@
+-- `sheet::make_ready` meets its contract: nothing is offered. Assumes nothing.
+use borrow.Author.Rules.{rules}
+use Rattle.records.proofs.Offered.{copy-nothing}
+use Rattle.sheet.proofs.make_ready.Goals as goal
+
+pub returns : goal.returns
+returns c = rw copy-nothing at (c.ready_offered.ensures l)

@@ -1,0 +1,10 @@
+-- `sheet::task_under` meets its contract. Assumes nothing.
+use borrow.Author.Rules.{rules}
+use Rattle.sheet.proofs.Dispatch.{under_4, under_5}
+use Rattle.sheet.proofs.task_under.Goals as goal
+
+pub returns-then-q-eq4 : goal.returns-then-q-eq4
+returns-then-q-eq4 c = search under_4
+
+pub returns : goal.returns
+returns c = search under_5

@@ -1,0 +1,10 @@
+-- `sheet::write_alone` meets its contract. Assumes nothing.
+use borrow.Author.Rules.{rules}
+use Rattle.sheet.proofs.Laws.{head-no, head_yes}
+use Rattle.sheet.proofs.write_alone.Goals as goal
+
+pub returns-in-Refused : goal.returns-in-Refused
+returns-in-Refused c = search head-no
+
+pub returns-in-Passed : goal.returns-in-Passed
+returns-in-Passed c = search head_yes

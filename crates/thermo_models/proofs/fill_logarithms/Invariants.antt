@@ -1,0 +1,21 @@
+-- `thermo_models::fill_logarithms` meets its contract. Assumes nothing.
+use borrow.Author.Rules.{rules}
+use mathlib.Core.Path.{◌≡◌, refl}
+use Prim.Native.Nat.{◌≤◌, ◌-◌}
+use native.Mathlib.Omega.{arith}
+use Rattle.floats.specs.Vector.{fill, vec}
+use Rattle.floats.proofs.Fills.{fill-turn, fill_done}
+use Rattle.liquid.specs.Vapor.{vapor_of}
+use Rattle.thermo_models.proofs.Pures.{logarithm_of}
+use Rattle.thermo_models.specs.Domain.{vapor_record}
+use Rattle.thermo_models.proofs.fill_logarithms.Given as goal
+
+abbrev pub invariant-loop-i : goal.invariant-loop-i
+invariant-loop-i l =
+    (l.i ≤ l.n)
+    × (l.ls ≡ vec (λ l.i. (vapor_of (vapor_record l.book l.i) l.t).ln_pressure) l.i)
+    × (l.dps ≡ vec (λ l.i. (vapor_of (vapor_record l.book l.i) l.t).slope) l.i)
+    × (l.cs ≡ vec (λ l.i. (vapor_of (vapor_record l.book l.i) l.t).curvature) l.i)
+
+abbrev pub decreases-loop-i : goal.decreases-loop-i
+decreases-loop-i l = l.n - l.i

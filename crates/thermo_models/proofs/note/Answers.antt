@@ -1,0 +1,12 @@
+-- `thermo_models::note` meets its contract: by the variant of the regression. Assumes nothing.
+use borrow.Author.Rules.{rules}
+use Rattle.thermo_models.specs.Validity.{noted}
+use Rattle.thermo_models.proofs.note.Goals as goal
+
+pub returns-in-None : goal.returns-in-None
+unfolding noted
+returns-in-None c = rw c.enum_told-1.given.1
+
+pub returns-in-Interval : goal.returns-in-Interval
+unfolding noted
+returns-in-Interval c = rw (c.r-1.given.1, ← c.in_range.ensures)

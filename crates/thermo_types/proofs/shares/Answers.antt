@@ -1,0 +1,7 @@
+-- `thermo_types::shares` meets its contract. Assumes nothing.
+use borrow.Author.Rules.{rules}
+use Rattle.thermo_types.proofs.Normalizing.{shares-is}
+use Rattle.thermo_types.proofs.shares.Goals as goal
+
+pub returns : goal.returns
+returns c = search shares-is

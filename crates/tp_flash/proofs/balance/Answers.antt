@@ -1,0 +1,22 @@
+use Prim.Native.Nat.{◌≤◌, ◌-◌}
+use mathlib.Core.Path.{◌≡◌, refl}
+use native.Mathlib.Omega.{arith}
+use borrow.Author.Rules.{rules}
+use Rattle.floats.proofs.Folds.{fold_turn, fold_done}
+use Rattle.floats.specs.Arithmetic.{◌⊕◌, ◌⊖◌, ◌⊗◌, 0f, 1f}
+use Rattle.floats.specs.Fold.{fold_to}
+use Rattle.floats.specs.Small.{max_of, abs_of}
+use Rattle.floats.specs.Vector.{at}
+use Rattle.tp_flash.specs.Split.{balance_of}
+use Rattle.tp_flash.proofs.balance.Goals as goal
+
+pub loop-i-init : goal.loop-i-init
+unfolding fold_to
+loop-i-init c = (omega arith, refl)
+
+pub loop-i-preserved : goal.loop-i-preserved
+loop-i-preserved c = (omega arith, fold_turn _ _ _ (rw c.abs.ensures at c.max-r.ensures) c.loop-i.invariant.1)
+
+pub returns : goal.returns
+unfolding balance_of
+returns c = rw (← c.places-m.ensures) (fold_done _ _ _ _ (omega arith) c.loop-i.invariant.1)

@@ -1,0 +1,12 @@
+-- `tp_flash::stops_at` meets its contract. Assumes nothing.
+use borrow.Author.Rules.{rules}
+use Rattle.tp_flash.specs.Answers.{stops_at}
+use Rattle.tp_flash.proofs.stops_at.Goals as goal
+
+pub returns-in-Passed : goal.returns-in-Passed
+unfolding stops_at
+returns-in-Passed c = rw c.enum_told-1.given.1
+
+pub returns-in-Refused : goal.returns-in-Refused
+unfolding stops_at
+returns-in-Refused c = rw c.enum_told-in-Refused-1.given.1

@@ -1,0 +1,16 @@
+-- `tp_flash::vapor_fraction` meets its contract. Assumes nothing.
+use borrow.Author.Rules.{rules}
+use Rattle.tp_flash.specs.Answers.{fraction_in}
+use Rattle.tp_flash.proofs.vapor_fraction.Goals as goal
+
+pub returns-in-LiquidOnly : goal.returns-in-LiquidOnly
+unfolding fraction_in
+returns-in-LiquidOnly c = rw c.enum_told-1.given.1
+
+pub returns-in-VaporOnly : goal.returns-in-VaporOnly
+unfolding fraction_in
+returns-in-VaporOnly c = rw c.enum_told-in-VaporOnly-1.given.1
+
+pub returns-in-TwoPhase : goal.returns-in-TwoPhase
+unfolding fraction_in
+returns-in-TwoPhase c = rw c.outcome-1.given.1

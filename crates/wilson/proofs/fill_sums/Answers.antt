@@ -1,0 +1,20 @@
+use Prim.Native.Nat.{◌≤◌, ◌-◌}
+use mathlib.Core.Path.{refl}
+use native.Mathlib.Omega.{arith}
+use borrow.Author.Rules.{rules}
+use Rattle.floats.specs.Fold.{fold_to}
+use Rattle.floats.specs.Vector.{at}
+use Rattle.excess.specs.Steps.{SumsTo}
+use Rattle.excess.proofs.Steps.{sums-turn, sums_done}
+use Rattle.wilson.specs.On.{s_on, ln_s_on}
+use Rattle.wilson.proofs.fill_sums.Goals as goal
+
+pub loop-i-init : goal.loop-i-init
+unfolding fold_to
+loop-i-init c = (omega arith, record { total = c.constant-total.ensures; kept = refl })
+
+pub loop-i-preserved : goal.loop-i-preserved
+loop-i-preserved c = (omega arith, sums-turn _ _ _ _ _ c.sum_at-total.ensures c.loop-i.invariant.1)
+
+pub returns : goal.returns
+returns c = sums_done _ _ _ _ _ (omega arith) c.loop-i.invariant.1

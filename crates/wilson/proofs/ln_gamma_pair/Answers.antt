@@ -1,0 +1,9 @@
+-- `wilson::ln_gamma_pair` meets its contract. Assumes nothing.
+use Rattle.wilson.specs.Sums.{wilson_from}
+use borrow.Author.Rules.{rules}
+use Rattle.wilson.proofs.ln_gamma_pair.Goals as goal
+
+pub returns : goal.returns
+unfolding wilson_from
+returns c = let q = c.quotient-pair.ensures in
+    (rw (← q.0) c.ln-gamma-from.ensures, rw (← q.1) c.ln_gamma_from-2.ensures)

@@ -1,0 +1,18 @@
+-- `wilson::quotients_of` meets its contract. Assumes nothing.
+use Prim.Native.Nat.{◌≤◌, ◌-◌}
+use mathlib.Core.Path.{◌≡◌}
+use native.Mathlib.Omega.{arith}
+use borrow.Author.Rules.{rules}
+use Rattle.floats.specs.Fold.{fold_to}
+use Rattle.floats.specs.Vector.{at}
+use Rattle.jet.specs.Planes.{twos}
+use Rattle.jet.proofs.Sums.{sum_jet_turn, sum_jet_done}
+use Rattle.excess.specs.Steps.{s_in}
+use Rattle.wilson.specs.Sums.{quotients}
+use Rattle.wilson.proofs.quotients_of.Given as goal
+
+abbrev pub invariant-loop-k : goal.invariant-loop-k
+invariant-loop-k l = (l.k ≤ l.n) × (l.t ≡ quotients (twos l.table 0) (s_in l.sums) (at l.x) l.k l.i)
+
+abbrev pub decreases-loop-k : goal.decreases-loop-k
+decreases-loop-k l = l.n - l.k

@@ -1,0 +1,16 @@
+-- `wilson_tables::border` meets its contract. Assumes nothing.
+use Prim.Native.Nat.{◌≤◌, ◌-◌}
+use mathlib.Core.Path.{◌≡◌, refl}
+use Rattle.floats.proofs.Folds.{fold_turn, fold_done}
+use Rattle.floats.specs.Fold.{fold_to}
+use Rattle.wilson_tables.specs.Pair.{lambda_ij}
+use Rattle.wilson_tables.specs.Table.{lambda_pairs}
+use borrow.Author.Rules.{rules}
+use native.Mathlib.Omega.{arith}
+use Rattle.wilson_tables.proofs.border.Given as goal
+
+abbrev pub invariant-loop-j : goal.invariant-loop-j
+invariant-loop-j l = (l.j ≤ l.i) × (l.table ≡ lambda_pairs (lambda_ij l.parameters l.t) l.i l.j l.initial.table)
+
+abbrev pub decreases-loop-j : goal.decreases-loop-j
+decreases-loop-j l = l.i - l.j

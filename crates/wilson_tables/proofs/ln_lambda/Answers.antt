@@ -1,0 +1,9 @@
+-- `wilson_tables::ln_lambda` meets its contract. Assumes nothing.
+use native.Mathlib.Omega.{arith}
+use borrow.Author.Rules.{rules}
+use Rattle.wilson_tables.specs.Pair.{ln_lambda_j}
+use Rattle.wilson_tables.proofs.ln_lambda.Goals as goal
+
+pub returns : goal.returns
+unfolding ln_lambda_j
+returns c = rw (← c.constant.ensures, ← c.kelvin.ensures, ← c.div-b.ensures, ← c.constant-2.ensures) c.add.ensures
