@@ -11,7 +11,7 @@ use Rattle.floats.proofs.Folds.{all_next, all_done}
 use Rattle.nrtl.proofs.all_finite.Given as goal
 
 abbrev pub invariant-loop-i : goal.invariant-loop-i
-invariant-loop-i l = (l.i ≤ l.n) × (l.finite ≡ all_to (λ l.i. is_finite (at l.ln_gamma l.i) && is_finite (at l.slopes l.i)) l.i)
+invariant-loop-i l = (l.i ≤ l.n) × (l.finite ≡ all_to (λ k. is_finite (at l.ln_gamma k) && is_finite (at l.slopes k)) l.i)
 
 abbrev pub decreases-loop-i : goal.decreases-loop-i
 decreases-loop-i l = l.n - l.i

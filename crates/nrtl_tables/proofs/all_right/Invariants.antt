@@ -9,7 +9,7 @@ use Rattle.nrtl_tables.specs.Pair.{alpha_right, all_right}
 use Rattle.nrtl_tables.proofs.all_right.Given as goal
 
 abbrev pub invariant-loop-i : goal.invariant-loop-i
-invariant-loop-i l = (l.i ≤ l.n) × (l.right ≡ all_to (λ l.i. all_to (alpha_right l.parameters l.b l.i) l.n) l.i)
+invariant-loop-i l = (l.i ≤ l.n) × (l.right ≡ all_to (λ k. all_to (alpha_right l.parameters l.b k) l.n) l.i)
 
 abbrev pub decreases-loop-i : goal.decreases-loop-i
 decreases-loop-i l = l.n - l.i

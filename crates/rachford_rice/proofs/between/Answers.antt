@@ -10,7 +10,7 @@ returns-then-largest c = rw (← c.k_max-largest.ensures, c.if-largest.true) c.r
 
 pub returns-then-smallest : goal.returns-then-smallest
 unfolding between need split_of
-returns-then-smallest c = returns-2 c = rw (
+returns-then-smallest c = rw (
   ← c.k_max-largest.ensures,
   c.if-largest.false,
   ← c.k_min-smallest.ensures,
@@ -19,7 +19,7 @@ returns-then-smallest c = returns-2 c = rw (
 
 pub returns : goal.returns
 unfolding between need
-returns c = returns-3 c = rw (
+returns c = rw (
   ← c.k_max-largest.ensures,
   c.if-largest.false,
   ← c.k_min-smallest.ensures,

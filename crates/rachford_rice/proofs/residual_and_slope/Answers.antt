@@ -15,7 +15,7 @@ loop-i-init c = (omega arith, refl, refl)
 
 pub loop-i-preserved : goal.loop-i-preserved
 unfolding residual_of
-loop-i-preserved c = loop-again c = (
+loop-i-preserved c = (
   omega arith,
   fold_turn _ _ _ c.add_terms-s.ensures.0 c.loop-i.invariant.1,
   slope-turn _ _ _ _

@@ -13,7 +13,7 @@ use Rattle.floats.proofs.Folds.{all_next, all_done}
 use Rattle.thermo_models.proofs.all_representable.Given as goal
 
 abbrev pub invariant-loop-i : goal.invariant-loop-i
-invariant-loop-i l = (l.i ≤ l.n) × (l.ok ≡ all_to (λ l.i. is_finite (at l.ps l.i) && is_finite (at l.ls l.i) && is_finite (at l.dps l.i) && is_finite (at l.cs l.i) && not (le (at l.ps l.i) 0f)) l.i)
+invariant-loop-i l = (l.i ≤ l.n) × (l.ok ≡ all_to (λ k. is_finite (at l.ps k) && is_finite (at l.ls k) && is_finite (at l.dps k) && is_finite (at l.cs k) && not (le (at l.ps k) 0f)) l.i)
 
 abbrev pub decreases-loop-i : goal.decreases-loop-i
 decreases-loop-i l = l.n - l.i

@@ -13,9 +13,9 @@ use Rattle.thermo_models.proofs.fill_logarithms.Given as goal
 abbrev pub invariant-loop-i : goal.invariant-loop-i
 invariant-loop-i l =
     (l.i ≤ l.n)
-    × (l.ls ≡ vec (λ l.i. (vapor_of (vapor_record l.book l.i) l.t).ln_pressure) l.i)
-    × (l.dps ≡ vec (λ l.i. (vapor_of (vapor_record l.book l.i) l.t).slope) l.i)
-    × (l.cs ≡ vec (λ l.i. (vapor_of (vapor_record l.book l.i) l.t).curvature) l.i)
+    × (l.ls ≡ vec (λ k. (vapor_of (vapor_record l.book k) l.t).ln_pressure) l.i)
+    × (l.dps ≡ vec (λ k. (vapor_of (vapor_record l.book k) l.t).slope) l.i)
+    × (l.cs ≡ vec (λ k. (vapor_of (vapor_record l.book k) l.t).curvature) l.i)
 
 abbrev pub decreases-loop-i : goal.decreases-loop-i
 decreases-loop-i l = l.n - l.i

@@ -10,7 +10,7 @@ use Rattle.thermo_models.proofs.Pures.{pressures-turn}
 use Rattle.thermo_models.proofs.fill_pressures.Given as goal
 
 abbrev pub invariant-loop-i : goal.invariant-loop-i
-invariant-loop-i l = (l.i ≤ l.n / 2) × (l.ps ≡ vec (λ l.i. exp_of (at l.ls l.i)) (2 * l.i))
+invariant-loop-i l = (l.i ≤ l.n / 2) × (l.ps ≡ vec (λ k. exp_of (at l.ls k)) (2 * l.i))
 
 abbrev pub decreases-loop-i : goal.decreases-loop-i
 decreases-loop-i l = l.n / 2 - l.i

@@ -11,7 +11,7 @@ use Rattle.thermo_models.specs.Validity.{unseen, row_seen, all_seen}
 use Rattle.thermo_models.proofs.see_all.Given as goal
 
 abbrev pub invariant-loop-i : goal.invariant-loop-i
-invariant-loop-i l = (l.i ≤ l.n) × (l.s ≡ fold_to (λ l.i. row_seen (with_pair l.n l.book l.offered) l.n l.t l.x l.i l.n) unseen l.i)
+invariant-loop-i l = (l.i ≤ l.n) × (l.s ≡ fold_to (λ k. row_seen (with_pair l.n l.book l.offered) l.n l.t l.x k l.n) unseen l.i)
 
 abbrev pub decreases-loop-i : goal.decreases-loop-i
 decreases-loop-i l = l.n - l.i

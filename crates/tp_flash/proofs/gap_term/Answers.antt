@@ -3,7 +3,7 @@ use borrow.Author.Rules.{rules}
 use Rattle.tp_flash.proofs.gap_term.Goals as goal
 
 pub returns-then-z : goal.returns-then-z
-returns-then-z c = returns c = rw (
+returns-then-z c = rw (
   c.if-z.true,
   ← c.ln.ensures,
   ← c.ln-then-z.ensures,
