@@ -84,6 +84,10 @@ all_cong {p} {q} (suc n) e =
     let b : p n ≡ q n = e n (omega arith) in
     rw (a, b)
 
+-- what a test found its argument to be, the definition that it equals is too
+pub as_tested : {b t r : Bool} → b ≡ r → b ≡ t → t ≡ r
+as_tested h e = sym e ∙ h
+
 -- a test `if !f(..)`: what f ensures of its result says what the test found
 pub was_no : {b t : Bool} → not b ≡ true → b ≡ t → t ≡ false
 was_no {b} n e = sym e ∙ not-true b n

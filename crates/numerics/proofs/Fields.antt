@@ -87,6 +87,8 @@ kept-fits false v h = tt
 pub no_nan_of : (v : Float) → T (positive v) → T (not (is_nan v))
 unfolding is_nan
 no_nan_of (fin s m e) p = tt
+no_nan_of nan p = elim p [ ]
+no_nan_of (inf _) p = elim p [ ]
 
 -- none of the tests of `ln_of` holds
 no_test : (v : Float) → T (positive v) → (is_nan v ≡ false) × (lt v 0f ≡ false) × (eq v 0f ≡ false) × (eq v ∞ ≡ false)
@@ -94,6 +96,9 @@ unfolding is_nan lt eq of_bits
 no_test (fin false m e) p =
     let h = mul-pos (ltb→lt 0 m p) (up_pos e) in
     (refl, le-ltb (m * up e * 1) (0 * down e) (omega arith), rw (ne_eqb (m * up e * 1) (0 * down e) (λ q. omega arith)) refl, refl)
+no_test nan p = elim p [ ]
+no_test (inf _) p = elim p [ ]
+no_test (fin true m e) p = elim p [ ]
 
 pub positive-ln : (v : Float) → T (positive v) → ln_split (exponent v) (mantissa v) ≡ ln_of v
 unfolding ln_of

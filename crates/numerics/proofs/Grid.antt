@@ -24,9 +24,13 @@ At s L H (fin t m e) = (t ≡ s) × (L * down e ≤ m * up e * U) × (m * up e *
 
 pub at_up : (s : Bool) (L H : ℕ) (x : Float) → At s L H x → Up H x
 at_up s L H (fin t m e) h = h.2
+at_up s L H nan h = elim h [ ]
+at_up s L H (inf _) h = elim h [ ]
 
 pub up_more : (H K : ℕ) (x : Float) → H ≤ K → Up H x → Up K x
 up_more H K (fin t m e) l h = le_trans h (mul-le-mul_right (down e) l)
+up_more H K nan l h = elim h [ ]
+up_more H K (inf _) l h = elim h [ ]
 
 -- ---- rounding
 grid_value : (N : ℕ) → N < 2 ^ 53 → HasValue (round binary64 false N U) false N U
@@ -58,10 +62,19 @@ between L H (fin false m e) (fin false n d) (fin false n' d') p v w a b = (
   cross-low (m * up e) (down e) (n * up d) (down d) L (down_pos d) (le_or (n * up d * down e) (m * up e * down d) a) v.1,
   cross (m * up e) (down e) (n' * up d') (down d') H (down_pos d') (le_or (m * up e * down d') (n' * up d' * down e) b) w.1,
 )
+between L H nan y z p v w a b = elim p [ ]
+between L H (inf false) y nan p v w a b = elim w [ ]
+between L H (inf false) y (inf _) p v w a b = elim w [ ]
+between L H (fin false m e) nan z p v w a b = elim v [ ]
+between L H (fin false m e) (inf _) z p v w a b = elim v [ ]
+between L H (fin false m e) (fin false n d) nan p v w a b = elim w [ ]
+between L H (fin false m e) (fin false n d) (inf _) p v w a b = elim w [ ]
 
 neg-at : (L H : ℕ) (x : Float) → At false L H x → At true L H (neg x)
 unfolding neg
 neg-at L H (fin t m e) h = (ap not h.0, h.1, h.2)
+neg-at L H nan h = elim h [ ]
+neg-at L H (inf _) h = elim h [ ]
 
 round_at-plus : (a c L H : ℕ) → 0 < c → H < 2 ^ 53 → L * c ≤ a * U → a * U ≤ H * c → At false L H (round binary64 false a c)
 round_at-plus a c L H C l h k =
@@ -103,12 +116,20 @@ mul_at s t L H M K A B (fin s' m e) (fin t' n d) p q l h k =
     (round_at (unlike s' t') (m * up e * (n * up d)) (down e * down d) A B (mul-pos (down_pos e) (down_pos d)) l
     (lift (m * up e * (n * up d)) (down e * down d) A (L * M) p (prod-low (m * up e) (down e) L (n * up d) (down d) M h.1 k.1))
     (drop (m * up e * (n * up d)) (down e * down d) B (H * K) q (prod (m * up e) (down e) H (n * up d) (down d) K h.2 k.2)))
+mul_at s t L H M K A B nan y p q l h k = elim h [ ]
+mul_at s t L H M K A B (inf _) y p q l h k = elim h [ ]
+mul_at s t L H M K A B (fin s' m e) nan p q l h k = elim k [ ]
+mul_at s t L H M K A B (fin s' m e) (inf _) p q l h k = elim k [ ]
 
 pub mul-up : (H K B : ℕ) (x y : Float) → H * K ≤ B * U → B < 2 ^ 53 → Up H x → Up K y → Up B (mul binary64 x y)
 unfolding mul
 mul-up H K B (fin s m e) (fin t n d) q l h k =
     round_up (unlike s t) (m * up e * (n * up d)) (down e * down d) B (mul-pos (down_pos e) (down_pos d)) l
     (drop (m * up e * (n * up d)) (down e * down d) B (H * K) q (prod (m * up e) (down e) H (n * up d) (down d) K h k))
+mul-up H K B nan y q l h k = elim h [ ]
+mul-up H K B (inf _) y q l h k = elim h [ ]
+mul-up H K B (fin s m e) nan q l h k = elim k [ ]
+mul-up H K B (fin s m e) (inf _) q l h k = elim k [ ]
 
 -- ---- sums
 wide : (X E H D : ℕ) → X * U ≤ H * E → X * D * U ≤ H * (E * D)
@@ -135,6 +156,10 @@ add_at s L H M K (fin s' m e) (fin t' n d) l h k =
     rw (h.0, k.0)
     (sum-at s (m * up e * down d) (n * up d * down e) (down e * down d) L H M K (mul-pos (down_pos e) (down_pos d)) l (wide_low (m * up e) (down e) L (down d) h.1) (wide (m * up e) (down e) H (down d) h.2)
     (wide_low' (n * up d) (down d) M (down e) k.1) (wide' (n * up d) (down d) K (down e) k.2))
+add_at s L H M K nan y l h k = elim h [ ]
+add_at s L H M K (inf _) y l h k = elim h [ ]
+add_at s L H M K (fin s' m e) nan l h k = elim k [ ]
+add_at s L H M K (fin s' m e) (inf _) l h k = elim k [ ]
 
 pick : (H : ℕ) (x y : Bool) (p q r : Float) → Up H p → Up H q → Up H r → Up H (cond x p (cond y q r))
 pick H true y p q r u v w = u
@@ -153,10 +178,16 @@ pub add-up : (H K : ℕ) (x y : Float) → H + K < 2 ^ 53 → Up H x → Up K y 
 unfolding add
 add-up H K (fin s m e) (fin t n d) l h k =
     sum-up s (m * up e * down d) t (n * up d * down e) (down e * down d) H K (mul-pos (down_pos e) (down_pos d)) l (wide (m * up e) (down e) H (down d) h) (wide' (n * up d) (down d) K (down e) k)
+add-up H K nan y l h k = elim h [ ]
+add-up H K (inf _) y l h k = elim h [ ]
+add-up H K (fin s m e) nan l h k = elim k [ ]
+add-up H K (fin s m e) (inf _) l h k = elim k [ ]
 
 neg-up : (H : ℕ) (x : Float) → Up H x → Up H (neg x)
 unfolding neg
 neg-up H (fin t m e) h = h
+neg-up H nan h = elim h [ ]
+neg-up H (inf _) h = elim h [ ]
 
 pub sub-up : (H K : ℕ) (x y : Float) → H + K < 2 ^ 53 → Up H x → Up K y → Up (H + K) (sub binary64 x y)
 unfolding sub
@@ -182,6 +213,10 @@ sub-near s L H M K D (fin s' m e) (fin t' n d) l p q h k =
     rw (h.0, k.0)
     (diff_up s (m * up e * down d) (n * up d * down e) (down e * down d) L H M K D (mul-pos (down_pos e) (down_pos d)) l p q (wide_low (m * up e) (down e) L (down d) h.1) (wide (m * up e) (down e) H (down d) h.2)
     (wide_low' (n * up d) (down d) M (down e) k.1) (wide' (n * up d) (down d) K (down e) k.2))
+sub-near s L H M K D nan y l p q h k = elim h [ ]
+sub-near s L H M K D (inf _) y l p q h k = elim h [ ]
+sub-near s L H M K D (fin s' m e) nan l p q h k = elim k [ ]
+sub-near s L H M K D (fin s' m e) (inf _) l p q h k = elim k [ ]
 
 -- x is finite and at least L units in size
 abbrev pub Down : ℕ → Float → Type 0
@@ -191,6 +226,8 @@ Down L (fin s m e) = L * down e ≤ m * up e * U
 
 pub at_down : (s : Bool) (L H : ℕ) (x : Float) → At s L H x → Down L x
 at_down s L H (fin t m e) h = h.1
+at_down s L H nan h = elim h [ ]
+at_down s L H (inf _) h = elim h [ ]
 
 round_down : (s : Bool) (a c L H : ℕ) → 0 < c → H < 2 ^ 53 → L * c ≤ a * U → a * U ≤ H * c → Down L (round binary64 s a c)
 round_down s a c L H C l h k = at_down s L H (round binary64 s a c) (round_at s a c L H C l h k)
@@ -223,6 +260,10 @@ sub-above s L H M K D (fin s' m e) (fin t' n d) l p h k =
     rw (h.0, k.0)
     (diff_above s (m * up e * down d) (n * up d * down e) (down e * down d) L H K D (mul-pos (down_pos e) (down_pos d)) l p (wide_low (m * up e) (down e) L (down d) h.1) (wide (m * up e) (down e) H (down d) h.2)
     (wide' (n * up d) (down d) K (down e) k.2))
+sub-above s L H M K D nan y l p h k = elim h [ ]
+sub-above s L H M K D (inf _) y l p h k = elim h [ ]
+sub-above s L H M K D (fin s' m e) nan l p h k = elim k [ ]
+sub-above s L H M K D (fin s' m e) (inf _) l p h k = elim k [ ]
 
 pub sub-below : (s : Bool) (L H M K D : ℕ) (x y : Float) → 0 < D → K < 2 ^ 53 → H + D ≤ M → At s L H x → At s M K y → Down D (sub binary64 x y)
 unfolding sub add neg
@@ -230,10 +271,16 @@ sub-below s L H M K D (fin s' m e) (fin t' n d) z l p h k =
     rw (h.0, k.0)
     (diff_below s (m * up e * down d) (n * up d * down e) (down e * down d) H M K D (mul-pos (down_pos e) (down_pos d)) z l p (wide (m * up e) (down e) H (down d) h.2)
     (wide_low' (n * up d) (down d) M (down e) k.1) (wide' (n * up d) (down d) K (down e) k.2))
+sub-below s L H M K D nan y z l p h k = elim h [ ]
+sub-below s L H M K D (inf _) y z l p h k = elim h [ ]
+sub-below s L H M K D (fin s' m e) nan z l p h k = elim k [ ]
+sub-below s L H M K D (fin s' m e) (inf _) z l p h k = elim k [ ]
 
 neg-sign : (s : Bool) (L H : ℕ) (x : Float) → At s L H x → At (not s) L H (neg x)
 unfolding neg
 neg-sign s L H (fin t m e) h = (ap not h.0, h.1, h.2)
+neg-sign s L H nan h = elim h [ ]
+neg-sign s L H (inf _) h = elim h [ ]
 
 -- of two signs
 pub sub-apart : (s : Bool) (L H M K : ℕ) (x y : Float) → H + K < 2 ^ 53 → At s L H x → At (not s) M K y → Down (L + M) (sub binary64 x y)
@@ -265,6 +312,10 @@ div-up t H L M B (fin s m e) (fin t' n d) p q l h k =
   where
     first : (n u : ℕ) → L * down d ≤ n * u * U → 0 < n * u
     first n u g = let z = mul-pos p (down_pos d) in omega arith
+div-up t H L M B nan y p q l h k = elim h [ ]
+div-up t H L M B (inf _) y p q l h k = elim h [ ]
+div-up t H L M B (fin s m e) nan p q l h k = elim k [ ]
+div-up t H L M B (fin s m e) (inf _) p q l h k = elim k [ ]
 
 -- ---- 2 - x and 1 + x, for an x that is smaller; 1 + x is an eighth at least
 pub two_minus : (H : ℕ) (x : Float) → H ≤ U → Up H x → At false U (3 * U) (sub binary64 (of_bits binary64 0x4000000000000000) x)
@@ -277,6 +328,8 @@ two_minus H (fin false n d) l h =
     let g : n * up d * U ≤ U * down d = le_trans h (mul-le-mul_right (down d) l) in
     let p = down_pos d in
     rw (le-ltb (2 * down d) (n * up d * 1) (omega arith)) (round_at false (2 * down d - n * up d * 1) (1 * down d) U (3 * U) (omega arith) (lit< tt) (omega arith) (omega arith))
+two_minus H nan l h = elim h [ ]
+two_minus H (inf _) l h = elim h [ ]
 
 pub one-plus : (H : ℕ) (x : Float) → H + 134217728 ≤ U → Up H x → At false 134217728 (2 * U) (add binary64 (of_bits binary64 0x3ff0000000000000) x)
 unfolding add sum of_bits
@@ -291,3 +344,5 @@ one-plus H (fin false n d) l h =
     let k = add-mul H 134217728 (down d) in
     let p = down_pos d in
     round_at false (1 * down d + n * up d * 1) (1 * down d) 134217728 (2 * U) (omega arith) (lit< tt) (omega arith) (omega arith)
+one-plus H nan l h = elim h [ ]
+one-plus H (inf _) l h = elim h [ ]

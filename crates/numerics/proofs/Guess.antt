@@ -31,6 +31,8 @@ far_no : (x : Float) → Down 536869888 x → lt (neg δ) x ≡ true → lt x δ
 unfolding lt neg of_bits
 far_no (fin true m e) h a b = let g = ltb-true (m * up e * 1048576) (524287 * down e) a in omega arith
 far_no (fin false m e) h a b = let g = ltb-true (m * up e * 1048576) (524287 * down e) b in omega arith
+far_no nan h a b = elim h [ ]
+far_no (inf _) h a b = elim h [ ]
 
 -- ---- p from P to P + 1 units, and less than δ away from k
 abbrev signed : Bool → ℕ → ℤ
@@ -54,6 +56,8 @@ module _ (P : ℕ) (p : Float) (l : P < 2 ^ 50) where
 
   less : (L : ℕ) (x : Float) → 536869888 ≤ L → Down L x → Down 536869888 x
   less L (fin s m e) a h = le_trans (mul-le-mul_right (down e) a) h
+  less L nan a h = elim h [ ]
+  less L (inf _) a h = elim h [ ]
 
   beside_zero : (s : Bool) → At s P (P + 1) p → Close (pos 0) → P < 536869888
   beside_zero false h c = lt_of_not-le (λ g. none (pos 0) c (sub-above false P (P + 1) 0 0 536869888 p (whole (pos 0)) (omega arith) (omega arith) h zero_at))
@@ -105,9 +109,13 @@ own : (s : Bool) (L H : ℕ) (p : Float) → At s L H p → Own s H p
 own s L H (fin t m e) h =
     let a = v-at m e t in
     record { P = units_of_lem m e; stands = (h.0, a.1, a.2); least = le_of_mul-le-mul_right (le_trans a.1 h.2) (down_pos e) }
+own s L H nan h = elim h [ ]
+own s L H (inf _) h = elim h [ ]
 
 700_within : (v : Float) → Within 700 v → Within 746 v
 700_within (fin s m e) h = let p = down_pos e in omega arith
+700_within nan h = elim h [ ]
+700_within (inf _) h = elim h [ ]
 
 zero_of : (s : Bool) → At s 0 1 (C ⊗ fin s 0 (pos 0))
 unfolding mul of_bits
@@ -144,6 +152,8 @@ near-k (fin s (suc m) e) t K f w k a b =
     let g = o.least in
     let z = beside o.P (C ⊗ v) (omega arith) s t K k o.stands (a, b) in
     the_cut s o.P K (exp_shift v) (omega arith) z.above z.below (shift_at s o.P (o.P + 1) m e (omega arith) o.stands) ∙ z.sign
+near-k nan t K f w k a b = elim w [ ]
+near-k (inf _) t K f w k a b = elim w [ ]
 
 -- it is at most 1010
 signed_mag : (s : Bool) (K : ℕ) → mag (signed s K) ≤ K
@@ -162,6 +172,8 @@ near_mag (fin s (suc m) e) f w =
     let i = c.high in
     let j = signed_mag s c.K in
     rw c.is (omega arith)
+near_mag nan f w = elim w [ ]
+near_mag (inf _) f w = elim w [ ]
 
 -- ---- u - 1023 as a float, and the power of 2 with the field u
 pub record Counted (u : ℕ) : Type 0 where
@@ -186,6 +198,8 @@ plainer (fin t m e) q h = (
   h.0,
   eq_of_mul-eq-mul_right (2 ^ 1074) (pow_pos 1074) (m * up e * 1) (q * down e) (ap (λ (z : ℕ). z * 2 ^ 1074) (mul-one (m * up e)) ∙ h.1 ∙ mul_right_comm q (2 ^ 1074) (down e)),
 )
+plainer nan q h = elim h [ ]
+plainer (inf _) q h = elim h [ ]
 
 shifted : (u : ℕ) → u < 2048 → HasValue (of_bits binary64 (u + 4841369599423283200)) false (u + 4503599627370496) 1
 shifted u l =
@@ -231,6 +245,8 @@ less_1023 u (fin false m e) h = go (leb 1023 u) refl
         let d : 4503599627371519 * D - m * up e * 1 ≡ n * D = omega arith in
         rw (lt-ltb (m * up e * 1) (4503599627371519 * D) (omega arith))
         (round_same binary64 true (4503599627371519 * D - m * up e * 1) (D * 1) n 1 (unit D (down_pos e)) (lit< tt) (mul-one (4503599627371519 * D - m * up e * 1) ∙ d ∙ ap (λ (z : ℕ). n * z) (sym (mul-one D))))
+less_1023 u nan h = elim h [ ]
+less_1023 u (inf _) h = elim h [ ]
 
 pub count-is : (u : ℕ) → u < 2048 → of_bits binary64 (u + 4841369599423283200) ⊖ # 0x43300000000003ff ≡ whole (minus u 1023)
 count-is u l = less_1023 u (of_bits binary64 (u + 4841369599423283200)) (shifted u l)
@@ -260,6 +276,8 @@ inner : (v : Float) → Within 700 v → exp_of v ≡ exp_from v (to_signed 63 (
 unfolding exp_of is_nan lt of_bits
 inner (fin true m e) h = rw (le-ltb (0x174910d52d3051 * down e) (m * up e * 8796093022208) (omega arith))
 inner (fin false m e) h = rw (le-ltb (0x162e42fefa39ef * down e) (m * up e * 8796093022208) (omega arith))
+inner nan h = elim h [ ]
+inner (inf _) h = elim h [ ]
 
 module _ (v : Float) {f y : Float} (w : y ≡ digits (v ⊖ f ⊗ A) (f ⊗ B)) where
   pub two_products : (k : ℤ) → f ≡ whole k → y ⊗ pow2 (quot_z k (pos 2)) ⊗ pow2 (k -ℤ quot_z k (pos 2)) ≡ exp_from v k
@@ -295,6 +313,8 @@ sum-no_nan v h = go (C ⊗ v ⊕ # 0x43380000000003ff) (add-within 1400 67553994
 
     go : (x : Float) → Within 6755399441058167 x → T (not (is_nan x))
     go (fin s m e) h = unfold is_nan in tt
+    go nan h = elim h [ ]
+    go (inf _) h = elim h [ ]
 
 -- ---- what `exp_near` returns, where it says ok
 is_true : (b : Bool) → T b → b ≡ true

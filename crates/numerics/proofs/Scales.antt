@@ -60,6 +60,8 @@ again (fin t m e) b num den n d P D h w =
         let r : num * e * (u * d) ≡ num * u * d * e = simp (mul_assoc, mul_comm, mul_left_comm) in
         let f : n * (den * v) * e ≡ n * (e * v) * den = simp (mul_assoc, mul_comm, mul_left_comm) in
         l ∙ ap (λ (z : ℕ). z * (u * d)) p ∙ r ∙ ap (λ (z : ℕ). z * e) q ∙ f
+again lib.Ieee.nan b num den n d P D h w = elim h [ ]
+again (lib.Ieee.inf _) b num den n d P D h w = elim h [ ]
 
 -- ---- the first product is exact
 chain : (m a b P Q R I J c d : ℕ) → a * P ≡ I * c → b * Q ≡ J * d → m * a * (1 * b) * (P * Q * R) ≡ m * (I * J * R) * (c * d)
@@ -129,3 +131,5 @@ scale-once (fin false m e) k f h l =
         let u : x * (1 * a) * b * (d * l) ≡ x * d * (a * b * l) = simp (mul_assoc, mul_comm, mul_left_comm, one-mul) in
         let v : x * d * (k * (c * e)) ≡ x * (1 * k) * (d * c * e) = simp (mul_assoc, mul_comm, mul_left_comm, one-mul) in
         u ∙ ap (λ (z : ℕ). x * d * z) p ∙ v
+scale-once lib.Ieee.nan k f h l = elim h [ ]
+scale-once (lib.Ieee.inf _) k f h l = elim h [ ]

@@ -126,6 +126,8 @@ cut s L H (fin t m e) l h =
     let m1 : min K 9223372036854775808 ≡ K = omega arith in
     let m2 : min K 9223372036854775807 ≡ K = omega arith in
     record { K = K; is = rw (m1, m2, h.0); low = omega arith; high = hi }
+cut s L H nan l h = elim h [ ]
+cut s L H (inf _) l h = elim h [ ]
 
 -- ---- C * v ± 0.5, in units
 same_sign : (s : Bool) → unlike false s ≡ s
@@ -201,9 +203,12 @@ mul-plus (inf false) a p = refl
 mul-plus (inf true) a p = absurd (true≢false p)
 mul-plus (fin false m e) a p = round_plus binary64 (m * up e * (1 * up a)) (down e * down a)
 mul-plus (fin true m e) a p = absurd (true≢false p)
+mul-plus nan a p = elim p [ ]
 
 at-plus : (L H : ℕ) (x : Float) → At false L H x → Plus x
 at-plus L H (fin s m e) h = h.0
+at-plus L H nan h = elim h [ ]
+at-plus L H (inf _) h = elim h [ ]
 
 at-k : (v : Float) (k : ℤ) → At false 134217728 (2 * U) (digits (v ⊖ whole k ⊗ A) (whole k ⊗ B)) → Plus (exp_from v k)
 unfolding exp_from
@@ -236,6 +241,7 @@ NoMinus (fin s m e) = s ≡ false
 weaker : (x : Float) → Plus x → NoMinus x
 weaker (inf s) p = p
 weaker (fin s m e) p = p
+weaker nan p = elim p [ ]
 
 pub plain : (e : ℤ) → up e * down e ≡ 1 → e ≡ pos 0
 plain (pos zero) h = refl
@@ -256,6 +262,8 @@ zero_at false = (refl, lit≤ tt, lit≤ tt)
 pub inside-at : (v : Float) → T (fits binary64 v) → Within 746 v → At false 134217728 (2 * U) (digits_of v)
 inside-at (fin s zero e) f w = subst (λ (x : ℤ). At false 134217728 (2 * U) (digits_of (fin s 0 x))) (sym (plain e (eqb→eq (up e * down e) 1 (unfold fits in f)))) (zero_at s)
 inside-at (fin s (suc m) e) f w = from_at s m e w
+inside-at nan f w = elim w [ ]
+inside-at (inf _) f w = elim w [ ]
 
 inf_plus : NoMinus (# 0x7ff0000000000000)
 unfolding of_bits

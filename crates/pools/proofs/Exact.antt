@@ -25,6 +25,8 @@ amount-value c l = round_whole binary64 false c l
 -- in units of the smallest float
 in_units : (x : Float) (c : ℕ) → HasValue x false c 1 → Val (c * W) x
 in_units (fin s m e) c h = (h.0, ap (λ (z : ℕ). z * W) (sym (mul-one (m * up e)) ∙ h.1) ∙ mul_right_comm c (down e) W)
+in_units lib.Ieee.nan c h = elim h [ ]
+in_units (lib.Ieee.inf _) c h = elim h [ ]
 
 pub amount_units : (c : ℕ) → c ≤ 2 ^ 53 → Val (c * W) (amount c)
 amount_units c l = in_units (amount c) c (amount-value c l)
@@ -42,6 +44,8 @@ value-positive : (x : Float) (c : ℕ) → HasValue x false c 1 → 0 < c → po
 unfolding positive is_finite lt of_bits
 value-positive (fin true m e) c h p = absurd (true≢false h.0)
 value-positive (fin false m e) c h p = lt-ltb (0 * down e) (m * up e * 1) (omega (arith, h.1, mul-pos p (down_pos e)))
+value-positive lib.Ieee.nan c h p = elim h [ ]
+value-positive (lib.Ieee.inf _) c h p = elim h [ ]
 
 pub amount-positive : (c : ℕ) → 0 < c → c ≤ 2 ^ 53 → positive (amount c) ≡ true
 amount-positive c p l = value-positive (amount c) c (amount-value c l) p

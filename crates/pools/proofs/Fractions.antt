@@ -84,6 +84,10 @@ zero_bits : (x : Float) → T (fits binary64 x) → Zero x → ZeroWord (bits_of
 unfolding to_bits
 zero_bits (fin true zero e) f z = subst (λ (x : Float). ZeroWord (bits_of x)) (one_zero binary64 true e f) (inr refl)
 zero_bits (fin false zero e) f z = subst (λ (x : Float). ZeroWord (bits_of x)) (one_zero binary64 false e f) (inl refl)
+zero_bits lib.Ieee.nan f z = elim z [ ]
+zero_bits (lib.Ieee.inf _) f z = elim z [ ]
+zero_bits (fin false (suc _) e) f z = elim z [ ]
+zero_bits (fin true (suc _) e) f z = elim z [ ]
 
 bits_zero : (x : Float) → T (fits binary64 x) → ZeroWord (bits_of x) → Zero x
 unfolding of_bits
@@ -108,6 +112,10 @@ no_units (suc k) u d w p h = let l = mul-pos (zero-lt-suc k) p in absurd (omega 
 zero_units : (k : ℕ) (y : Float) → Is k y → Zero y → k ≡ 0
 zero_units k (fin false zero e) h z = no_units k (up e) (down e) W (down_pos e) h
 zero_units k (fin true zero e) h z = h.1
+zero_units k lib.Ieee.nan h z = elim h [ ]
+zero_units k (lib.Ieee.inf _) h z = elim h [ ]
+zero_units k (fin false (suc _) e) h z = elim z [ ]
+zero_units k (fin true (suc _) e) h z = elim z [ ]
 
 twice : (x t : ℕ) → x * 2 ^ 52 ≤ 0 * t * 2 ^ 52 + x + t * 2 ^ 52 → x ≤ t * 2
 twice x t h = omega arith
@@ -128,7 +136,7 @@ not_zero : (c t : ℕ) → 0 < c → c ≤ t → t ≤ 2 ^ 53 → Zero (amount c
 not_zero c t p l h z =
     let s = share (c * W) (t * W) (amount c) (amount t) (amount-is c (le_trans l h)) (amount_units t h) (mul-pos (le_trans p l) W_pos) (double c t W l) in
     let k : s.k ≡ 0 = zero_units s.k (amount c ⊘ amount t) s.is z in
-    tiny c t W p h (lit≤ tt) (rw k at s.near-to)
+    tiny c t W p h (lit≤ tt) (rw k at s.near_to)
 
 -- ---- a solvent's fraction is a zero exactly where its count is
 module _ (drums : List ℕ) (n i : ℕ) (few : n ≤ 8) (l : i < n) (t : total_right drums n ≡ true) where

@@ -27,8 +27,8 @@ module _ (keep keep' : ℕ → Bool) (n : ℕ) (e : (i : ℕ) → i < n → keep
   place : (i : ℕ) → i < n → cnt keep i ≡ cnt keep' i
   place i l = places-alike i (omega arith)
 
-  pair_place : (i j : ℕ) → i < j → j < n → pair_place (cnt keep n) (cnt keep i) (cnt keep j) ≡ pair_place (cnt keep' n) (cnt keep' i) (cnt keep' j)
-  pair_place i j l m = rw (places-alike n (le_refl n), place i (omega arith), place j m)
+  place_pair : (i j : ℕ) → i < j → j < n → pair_place (cnt keep n) (cnt keep i) (cnt keep j) ≡ pair_place (cnt keep' n) (cnt keep' i) (cnt keep' j)
+  place_pair i j l m = rw (places-alike n (le_refl n), place i (omega arith), place j m)
 
   pub shorter-alike : (s s' : List ℕ) → ShorterBook keep n s s' → ShorterBook keep' n s s'
   shorter-alike s s' h =
@@ -41,11 +41,11 @@ module _ (keep keep' : ℕ → Bool) (n : ℕ) (e : (i : ℕ) → i < n → keep
         solvent = λ i l t k u d. h.solvent i l (kept i l t) k u d ∙ ap (λ (c : ℕ). words s' (c + 1) k) (place i l);
         index = λ i l t. subst (λ (c : ℕ). words s' (c + 1) 1 ≡ c) (place i l) (h.index i l (kept i l t));
         pair = λ i j l m p q k u d f.
-            h.pair i j l m (kept i (omega arith) p) (kept j m q) k u d f ∙ ap (λ (b : ℕ). words s' b k) (pair_place i j l m);
+            h.pair i j l m (kept i (omega arith) p) (kept j m q) k u d f ∙ ap (λ (b : ℕ). words s' b k) (place_pair i j l m);
         pair-i = λ i j l m p q.
-            sym (ap (λ (b : ℕ). words s' b 1) (pair_place i j l m)) ∙ h.pair-i i j l m (kept i (omega arith) p) (kept j m q) ∙ place i (omega arith);
+            sym (ap (λ (b : ℕ). words s' b 1) (place_pair i j l m)) ∙ h.pair-i i j l m (kept i (omega arith) p) (kept j m q) ∙ place i (omega arith);
         pair-j = λ i j l m p q.
-            sym (ap (λ (b : ℕ). words s' b 2) (pair_place i j l m)) ∙ h.pair-j i j l m (kept i (omega arith) p) (kept j m q) ∙ place j m;
+            sym (ap (λ (b : ℕ). words s' b 2) (place_pair i j l m)) ∙ h.pair-j i j l m (kept i (omega arith) p) (kept j m q) ∙ place j m;
       }
 
   entries-alike : {f : ℕ} {w w' : ℕ → ℕ} → SameEntries keep n f w w' → SameEntries keep' n f w w'

@@ -107,7 +107,7 @@ pool_as_plain book question drums r room p w = go (book_of book) refl
     go (no k) e = refl
     go (ok h) e =
         let a = accepted book e in
-        from_alike book question drums r h.n h.version room a.few (accepted-is _ p.task).1 p.drums-right
+        from_alike book question drums r h.n h.version room a.few (accepted-is _ p.task).1 p.drums_right
         (rw a.count at p.total_right) p.moles (rw a.count at w)
 
 -- ---- a question with given words: each stands in its lowest byte

@@ -61,7 +61,7 @@ taken book question drums room e =
       few = omega (arith, a.count, a.few);
       passed = record {
         task = rw t.1 tt;
-        drums_right_lem = is_true _ d.0;
+        drums_right = is_true _ d.0;
         total_right = rw a.count (is_true _ s.0);
         moles = eqb→eq (word question 27) 0 k.0;
       };
@@ -83,6 +83,7 @@ strike_total keep f f' (suc n) k a =
 -- ---- tests that are read off equal numbers
 not_not : (b : Bool) → T (not (not b)) → T b
 not_not true h = tt
+not_not false h = elim h [ ]
 
 kept_word : (c b : ℕ) → (c ≡ 0 → ZeroWord b) → (ZeroWord b → c ≡ 0) → not (eqb c 0) ≡ not (eqb b 0 || eqb b 0x8000000000000000)
 kept_word zero b f g = pick (f refl)
@@ -117,8 +118,8 @@ module _ (book question drums book' question' drums' : List ℕ) (h : ShorterPoo
   kept-count : (i : ℕ) → i < n → T (keep i) → pool_count drums i ≡ pool_count drums' (cnt keep i)
   unfolding pool_count
   kept-count i l t =
-      total_cong (λ d. count_in drums d i) (λ d. count_in drums' d (cnt keep i)) (drum_count drums) (λ d k. h.of-drums.count d i k l t)
-      ∙ ap (λ (m : ℕ). total_to (λ d. count_in drums' d (cnt keep i)) (m / 64)) h.of-drums.size
+      total_cong (λ d. count_in drums d i) (λ d. count_in drums' d (cnt keep i)) (drum_count drums) (λ d k. h.of_drums.count d i k l t)
+      ∙ ap (λ (m : ℕ). total_to (λ d. count_in drums' d (cnt keep i)) (m / 64)) h.of_drums.size
 
   struck-count : (i : ℕ) → i < n → T (not (keep i)) → pool_count drums i ≡ 0
   unfolding kept_pool
@@ -138,11 +139,11 @@ module _ (book question drums book' question' drums' : List ℕ) (h : ShorterPoo
 
   passed' : DrumsPass book' question' drums'
   passed' = record {
-    task = passes (rule_of book') question' h.of-question.size h.of-question.check (rw (← h.of-question.head 0 (omega arith)) asked.kind)
-        (rw (← h.of-question.head 1 (omega arith)) asked.task);
-    drums_right_lem = sym (sized-alike drums drums' h.of-drums.size) ∙ taken.passed.drums-right;
-    total_right = rw h.of-book.count right';
-    moles = sym (h.of-question.unnamed 27 (omega arith) (omega arith)) ∙ taken.passed.moles;
+    task = passes (rule_of book') question' h.of_question.size h.of_question.check (rw (← h.of_question.head 0 (omega arith)) asked.kind)
+        (rw (← h.of_question.head 1 (omega arith)) asked.task);
+    drums_right = sym (sized-alike drums drums' h.of_drums.size) ∙ taken.passed.drums_right;
+    total_right = rw h.of_book.count right';
+    moles = sym (h.of_question.unnamed 27 (omega arith) (omega arith)) ∙ taken.passed.moles;
   }
 
   -- ---- the two plain questions
@@ -162,7 +163,7 @@ module _ (book question drums book' question' drums' : List ℕ) (h : ShorterPoo
   plain = as_plain_lem (rule_of book) n z question taken.few (eqb→eq (length question) 512 asked.size)
 
   plain' : WithFractions (rule_of book') n' z' question' r'
-  plain' = as_plain_lem (rule_of book') n' z' question' few' h.of-question.size
+  plain' = as_plain_lem (rule_of book') n' z' question' few' h.of_question.size
 
   fraction-same : (i : ℕ) → i < n → T (keep i) → at z i ≡ at z' (cnt keep i)
   fraction-same i l t =
@@ -186,31 +187,31 @@ module _ (book question drums book' question' drums' : List ℕ) (h : ShorterPoo
 
   shorter-plain : ShorterQuestion (rule_of book') (kept_in r) n r r'
   shorter-plain = record {
-    size = sym plain'.size ∙ h.of-question.size;
+    size = sym plain'.size ∙ h.of_question.size;
     check = rw plain'.check tt;
-    head = λ k l. sym (plain.others k (omega arith) (inl l)) ∙ h.of-question.head k l ∙ plain'.others k (omega arith) (inl l);
+    head = λ k l. sym (plain.others k (omega arith) (inl l)) ∙ h.of_question.head k l ∙ plain'.others k (omega arith) (inl l);
     fraction = λ i l t.
         let u = back i l t in
         plain.fraction i l ∙ ap bits_of (fraction-same i l u) ∙ sym (plain'.fraction (cnt keep i) (cnt_lt keep i n u l))
         ∙ ap (λ (c : ℕ). word r' (4 + c)) (places i l);
-    options = λ k l m. sym (plain.others k (omega arith) (inr l)) ∙ h.of-question.options k l m ∙ plain'.others k (omega arith) (inr l);
+    options = λ k l m. sym (plain.others k (omega arith) (inr l)) ∙ h.of_question.options k l m ∙ plain'.others k (omega arith) (inr l);
     ratio = λ i l t.
         let c = cnt_le keep i in
         let f = taken.few in
-        sym (plain.others (19 + i) (omega arith) (inr (omega arith))) ∙ h.of-question.ratio i l (back i l t)
+        sym (plain.others (19 + i) (omega arith) (inr (omega arith))) ∙ h.of_question.ratio i l (back i l t)
         ∙ plain'.others (19 + cnt keep i) (omega arith) (inr (omega arith)) ∙ ap (λ (c : ℕ). word r' (19 + c)) (places i l);
-    unnamed = λ k l m. sym (plain.others k m (inr (omega arith))) ∙ h.of-question.unnamed k l m ∙ plain'.others k m (inr (omega arith));
+    unnamed = λ k l m. sym (plain.others k m (inr (omega arith))) ∙ h.of_question.unnamed k l m ∙ plain'.others k m (inr (omega arith));
   }
 
   shorter : Shorter book r book' r'
-  shorter = record { of_book = shorter-alike keep (kept_in r) n kept-alike book book' h.of-book; of_question = shorter-plain }
+  shorter = record { of_book = shorter-alike keep (kept_in r) n kept-alike book book' h.of_book; of_question = shorter-plain }
 
   -- ---- both calls as plain ones
   as_long : (room : ℕ) → pooled_of book question drums room ≡ sheet_of book r room
   as_long room = pool_as_plain book question drums r room taken.passed plain
 
   as_short : (room : ℕ) → pooled_of book' question' drums' room ≡ sheet_of book' r' room
-  as_short room = pool_as_plain book' question' drums' r' room passed' (rw h.of-book.count plain')
+  as_short room = pool_as_plain book' question' drums' r' room passed' (rw h.of_book.count plain')
 
   pub strike_pool : (old old' : List ℕ) → answer_room ≤ length old' → Accepted (pooled_of book question drums (length old))
       → Accepted (pooled_of book' question' drums' (length old')) × SameSheet keep n (after_pool book question drums old) (after_pool book' question' drums' old')

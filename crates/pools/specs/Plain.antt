@@ -36,7 +36,7 @@ Absent = (drums : List ℕ) (n i : ℕ) → n ≤ 8 → i < n → total_right dr
 -- what passes 11, 12, 31, 32 and 36
 pub record DrumsPass (book question drums : List ℕ) : Type 0 where
   pub task : Accepted (task_in (rule_of book) question)
-  pub drums_right_lem : drums_right drums ≡ true
+  pub drums_right : drums_right drums ≡ true
   pub total_right : total_right drums (solvents book) ≡ true
   pub moles : word question 27 ≡ 0
 

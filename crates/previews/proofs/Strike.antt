@@ -217,7 +217,7 @@ module _ (book offered question book' question' : List ℕ) (s : Shorter book qu
   count-copied = ap (λ (w : ℕ → ℕ). w 2) (copy-words o.head.n book offered 0 (omega arith))
 
   of_book : ShorterBook kept o.head.n book book'
-  of_book = rw count at s.of-book
+  of_book = rw count at s.of_book
 
   preview_plain : (room : ℕ) → preview_of book offered question room ≡ sheet_of copied question room
   preview_plain = as_copy book offered o question
@@ -226,7 +226,7 @@ module _ (book offered question book' question' : List ℕ) (s : Shorter book qu
   shorter-plain : (short : List ℕ) → ShorterBook kept o.head.n copied short → rule_of short ≡ rule_of book' → Shorter copied question short question'
   shorter-plain short h e = record {
     of_book = rw (count-copied, count) h;
-    of_question = rw (count-copied, e) s.of-question;
+    of_question = rw (count-copied, e) s.of_question;
   }
 
   strike_absent : OfAbsent kept offered → (old old' : List ℕ) → answer_room ≤ length old' → Accepted (preview_of book offered question (length old))

@@ -69,8 +69,8 @@ samples = record {
   r = answered (book1_of Running 3) _ opened.running refl;
   s = unopened (book1_of Plain 4) _ opened.unknown;
   s-block = unsent (book1_of Plain 4) _ opened.unknown refl;
-  t = answered (wilson1 2) _ opened.wilson-one refl;
-  u = answered (wilson2 2) _ opened.wilson-two refl;
+  t = answered (wilson1 2) _ opened.wilson_one refl;
+  u = answered (wilson2 2) _ opened.wilson_two refl;
   v = unopened (wilson1 1) _ opened.unmodelled;
   v-block = unsent (wilson1 1) _ opened.unmodelled refl;
 }

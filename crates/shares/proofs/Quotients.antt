@@ -60,3 +60,7 @@ share n s (fin true a e) (fin false b d) h v p l =
     let r : 0 < b = first_pos b (up d) u in
     rw (ne_eqb b 0 (λ z. omega arith), h.0, h.1, zero-mul, zero-mul)
     (zero_share s (round binary64 true 0 (b * up d * down e)) (zero_round (b * up d * down e) (mul-pos u (down_pos e))))
+share n s x lib.Ieee.nan h v p l = elim v [ ]
+share n s x (lib.Ieee.inf _) h v p l = elim v [ ]
+share n s lib.Ieee.nan (fin false b d) h v p l = elim h [ ]
+share n s (lib.Ieee.inf _) (fin false b d) h v p l = elim h [ ]

@@ -30,6 +30,8 @@ positive s (fin true m e) v h = absurd (true≢false v.0)
 positive s (fin false m e) v h =
     let p : 0 < m * up e = omega (arith, ltb-true (0 * down e) (m * up e * 1) h) in
     top s (down e) (m * up e) W p W_pos (sym v.1)
+positive s lib.Ieee.nan v h = elim v [ ]
+positive s (lib.Ieee.inf _) v h = elim v [ ]
 
 module _ (x : ℕ → Float) (n : ℕ) (l : n ≤ 1024) (h : (i : ℕ) → i < n → Is (units_of (x i)) (x i)) (c : is_finite (sum_to x n) ≡ true) (d : lt 0f (sum_to x n) ≡ true) where
   abbrev u : ℕ → ℕ
@@ -51,7 +53,7 @@ module _ (x : ℕ → Float) (n : ℕ) (l : n ≤ 1024) (h : (i : ℕ) → i < n
   share-is i k = let s = share-at i k in rw (is_units s.k (share_of x n i) s.is) s.is
 
   share-near : (i : ℕ) → i < n → Near (y i) (u i * W) (rounded u n)
-  share-near i k = let s = share-at i k in rw (is_units s.k (share_of x n i) s.is) s.near-to
+  share-near i k = let s = share-at i k in rw (is_units s.k (share_of x n i) s.is) s.near_to
 
   shares-one : Part 38 (total y n) W
   shares-one = shares-part u y W n l (lit≤ tt) sum_pos share-near

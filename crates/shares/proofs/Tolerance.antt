@@ -42,6 +42,8 @@ grid_small g a c w j p l h n =
 value-small : (g j : ℕ) (s : Bool) (x : Float) → g * j ≤ W → HasValue x s g W → Small j x
 value-small g j s (fin t m e) l v =
     le_of_mul-le-mul_right (le_trans (le_of_eq (mul_right_comm (m * up e) j W ∙ ap (λ (z : ℕ). z * j) v.1 ∙ mul_right_comm g (down e) j)) (le_trans (mul-le-mul_right (down e) l) (le_of_eq (mul_comm W (down e))))) W_pos
+value-small g j s nan l v = elim v [ ]
+value-small g j s (inf _) l v = elim v [ ]
 
 round_value : (s : Bool) (a c : ℕ) → grid binary64 a c < overflow binary64 → HasValue (round binary64 s a c) s (grid binary64 a c) W
 round_value s a c h = rw (round_is binary64 s a c) (units_val binary64 s (kept 53 (a * W) c) (drop 53 (a * W) c) h)
@@ -81,9 +83,13 @@ minus_one q (fin false m e) v h =
     pick (2 ^ 36) (ltb (m * up e * 1) (1 * down e)) (round binary64 true (1 * down e - m * up e * 1) (down e * 1)) (round binary64 false (m * up e * 1 - 1 * down e) (down e * 1))
     (round_small true (1 * down e - m * up e * 1) (down e * 1) (2 ^ 36) (omega arith) (lit< tt) (lit≤ tt) (omega arith))
     (round_small false (m * up e * 1 - 1 * down e) (down e * 1) (2 ^ 36) (omega arith) (lit< tt) (lit≤ tt) (omega arith))
+minus_one q nan v h = elim v [ ]
+minus_one q (inf _) v h = elim v [ ]
 
 less : (x : Float) → Small (2 ^ 36) x → Small (2 ^ 35) x
 less (fin s m e) h = omega arith
+less nan h = elim h [ ]
+less (inf _) h = elim h [ ]
 
 from_zero : (x : Float) → Small (2 ^ 36) x → Small (2 ^ 35) (0f ⊖ x)
 unfolding sub add neg sum of_bits
@@ -93,6 +99,8 @@ from_zero (fin false m e) h =
     pick (2 ^ 35) (ltb (0 * down e) (m * up e * 1)) (round binary64 true (m * up e * 1 - 0 * down e) (1 * down e)) (round binary64 false (0 * down e - m * up e * 1) (1 * down e))
     (round_small true (m * up e * 1 - 0 * down e) (1 * down e) (2 ^ 35) (omega arith) (lit< tt) (lit≤ tt) (omega arith))
     (round_small false (0 * down e - m * up e * 1) (1 * down e) (2 ^ 35) (omega arith) (lit< tt) (lit≤ tt) (omega arith))
+from_zero nan h = elim h [ ]
+from_zero (inf _) h = elim h [ ]
 
 abs-small : (x : Float) → Small (2 ^ 36) x → Small (2 ^ 35) (abs_of x)
 abs-small x h = pick (2 ^ 35) (le x 0f) (0f ⊖ x) x (from_zero x h) (less x h)
@@ -101,6 +109,8 @@ passes : (x : Float) → Small (2 ^ 35) x → not (lt sum_tolerance x) ≡ true
 unfolding lt of_bits
 passes (fin true m e) h = refl
 passes (fin false m e) h = rw (le-ltb (7737125245533627 * down e) (m * up e * 2 ^ 86) (le_trans (le_of_eq (sym (mul_assoc (m * up e) (2 ^ 35) (2 ^ 51)))) (le_trans (mul-le-mul_right (2 ^ 51) h) (omega arith))))
+passes nan h = elim h [ ]
+passes (inf _) h = elim h [ ]
 
 pub near-one-passes : (q : ℕ) (x : Float) → Val q x → Part 37 q W → not (lt sum_tolerance (abs_of (x ⊖ 1f))) ≡ true
 near-one-passes q x v h = passes (abs_of (x ⊖ 1f)) (abs-small (x ⊖ 1f) (minus_one q x v h))

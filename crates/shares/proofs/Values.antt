@@ -2,7 +2,7 @@
 use mathlib.Core.Path.{◌≡◌, refl, sym, ap, ◌∙◌}
 use mathlib.Core.Bool.{true, false, not, ◌&&◌, true≢false}
 use Prim.Native.Nat.{ℕ, zero, suc, ◌+◌, ◌-◌, ◌*◌, ◌/◌, ◌%◌, ◌^◌, ◌<◌, ◌≤◌}
-use native.Mathlib.Nat.{le_of_suc-le-suc, lt_of_not-le, not-le_of_lt, zero-lt-suc, zero-mul, zero_div, mul_assoc, mul_comm, mul_right_comm, mul-pos, mul-one, add-mul, add-zero, sub-zero, mul-div_cancel}
+use native.Mathlib.Nat.{le_of_suc-le-suc, lt_of_not-le, not-le_of_lt, zero-lt-suc, zero-mul, zero-div, mul_assoc, mul_comm, mul_right_comm, mul-pos, mul-one, add-mul, add-zero, sub-zero, mul-div_cancel}
 use native.Mathlib.Omega.{arith}
 use borrow.Author.Tests.{lt-ltb, le-ltb}
 use lib.Dec.{T, ltb, eqb, leb, leb→le}
@@ -33,7 +33,9 @@ units_of (fin s m e) = m * up e * W / down e
 
 pub is_units : (n : ℕ) (x : Float) → Is n x → units_of x ≡ n
 is_units n (fin false m e) h = rw h (mul-div_cancel n (down_pos e))
-is_units n (fin true m e) h = rw (h.0, h.1, zero-mul, zero-mul) (zero_div (down e))
+is_units n (fin true m e) h = rw (h.0, h.1, zero-mul, zero-mul) (zero-div (down e))
+is_units n nan h = elim h [ ]
+is_units n (inf _) h = elim h [ ]
 
 -- ---- every float that is finite and not negative
 exponent : (a : ℕ) → 2 ^ a ≤ W → a ≤ 1074
@@ -49,7 +51,7 @@ exact n w d k p h =
     e ∙ ap (λ (z : ℕ). z * d) (sym (mul-div_cancel (n * k) p) ∙ ap (λ (z : ℕ). z / d) (sym e))
 
 nothing : (e : ℤ) → 0 * up e * W / down e ≡ 0
-nothing e = rw (zero-mul, zero-mul) (zero_div (down e))
+nothing e = rw (zero-mul, zero-mul) (zero-div (down e))
 
 negative : (m : ℕ) (e : ℤ) → lt (fin true (suc m) e) 0f ≡ true
 unfolding lt of_bits
@@ -71,11 +73,15 @@ pub is_finite_lem : (n : ℕ) (x : Float) → Is n x → is_finite x ≡ true
 unfolding is_finite
 is_finite_lem n (fin false m e) h = refl
 is_finite_lem n (fin true m e) h = refl
+is_finite_lem n nan h = elim h [ ]
+is_finite_lem n (inf _) h = elim h [ ]
 
 pub is-plus : (n : ℕ) (x : Float) → Is n x → not (lt x 0f) ≡ true
 unfolding lt of_bits
 is-plus n (fin false m e) h = rw (le-ltb (m * up e * 1) (0 * down e) (omega arith))
 is-plus n (fin true m e) h = rw (h.0, le-ltb 0 (0 * up e * 1 + 0 * down e) (omega arith))
+is-plus n nan h = elim h [ ]
+is-plus n (inf _) h = elim h [ ]
 
 -- ---- sums, from +0
 abbrev pub Val : ℕ → Float → Type 0
@@ -100,10 +106,16 @@ add_is m n (fin false a e) (fin true b d) v h =
     rw (h.0, h.1, zero-mul, zero-mul, sub-zero, add-zero, le-ltb (a * up e * down d) 0 (omega arith))
     (round_same binary64 false (a * up e * down d) (down e * down d) m W (mul-pos (down_pos e) (down_pos d)) W_pos
     (mul_right_comm (a * up e) (down d) W ∙ ap (λ (z : ℕ). z * down d) v.1 ∙ mul_assoc m (down e) (down d)))
+add_is m n nan y v h = elim v [ ]
+add_is m n (inf _) y v h = elim v [ ]
+add_is m n (fin false a e) nan v h = elim h [ ]
+add_is m n (fin false a e) (inf _) v h = elim h [ ]
 
 pub is_val : (n : ℕ) (x : Float) → Val n x → Is n x
 is_val n (fin false m e) v = v.1
 is_val n (fin true m e) v = absurd (true≢false v.0)
+is_val n nan v = elim v [ ]
+is_val n (inf _) v = elim v [ ]
 
 -- a sum that does not overflow
 add_val : (m n : ℕ) (x y : Float) → Val m x → Is n y → G (m + n) < overflow binary64 → Val (G (m + n)) (x ⊕ y)
@@ -125,6 +137,8 @@ unfolding is_finite add
 add_finite n nan y h f = f
 add_finite n (inf s) (fin t m e) h f = f
 add_finite n (fin s m e) y h f = refl
+add_finite n (inf s) nan h f = elim h [ ]
+add_finite n (inf s) (inf _) h f = elim h [ ]
 
 zero_val : Val 0 0f
 unfolding of_bits

@@ -222,6 +222,12 @@ low-less (inf true) nan (inf true) l m = refl
 low-less (inf true) (inf true) (inf true) l m = refl
 low-less (inf true) nan (fin s k e) l m = refl
 low-less (inf true) (inf true) (fin s k e) l m = refl
+low-less (inf false) b c l m = elim l [ ]
+low-less (inf true) (inf false) (inf true) l m = elim m [ ]
+low-less (inf true) (fin _ _ _) (inf true) l m = elim m [ ]
+low-less (inf true) (inf false) (fin s k e) l m = elim m [ ]
+low-less (inf true) (fin _ _ _) (fin s k e) l m = elim m [ ]
+low-less (fin _ _ _) b c l m = elim l [ ]
 
 max_nan : (a : Float) → max_of a nan ≡ a
 unfolding is_nan lt

@@ -29,6 +29,11 @@ use Rattle.striking.proofs.Vectors.{zeros-fractions, parts-fractions}
 zero_times : (x y : Float) → Zero x → T (is_finite y) → Zero (x ⊗ y)
 unfolding is_finite mul
 zero_times (fin s zero e) (fin t m d) h f = zero_round binary64 _ (0 * up e * (m * up d)) (down e * down d) (ap (λ (a : ℕ). a * (m * up d)) (zero-mul (up e)) ∙ zero-mul (m * up d)) (mul-pos (down_pos e) (down_pos d))
+zero_times lib.Ieee.nan y h f = elim h [ ]
+zero_times (lib.Ieee.inf _) y h f = elim h [ ]
+zero_times (fin s zero e) lib.Ieee.nan h f = elim f [ ]
+zero_times (fin s zero e) (lib.Ieee.inf _) h f = elim f [ ]
+zero_times (fin s (suc _) e) y h f = elim h [ ]
 
 module _ (keep : ℕ → Bool) (n : ℕ) (small : n ≤ 8) (z z' k k' : ℕ → Float) (hz : Fractions keep n z z') (ez : (i : ℕ) → i < n → T (keep i) → z i ≡ z' (cnt keep i)) (ek : (i : ℕ) → i < n → T (keep i) → k i ≡ k' (cnt keep i)) where
   -- a fold over the positive fractions of a term that is computed from z i and k i alone

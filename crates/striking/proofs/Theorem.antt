@@ -96,8 +96,8 @@ strike_sheet book question book' question' h room room' enough = go (book_of boo
         let c : solvents book ≡ g.n = (open-book.accepted book e).count in
         subst (λ (m : ℕ). Acc (Alike (kept_in question) m) (sheet_from book g.version g.n question room) (sheet_of book' question' room')) (sym c)
         (acc_passed (leb answer_room room) 10 _ _
-        (asked book question book' question' g e (subst (λ (m : ℕ). ShorterBook (kept_in question) m book book') c h.of-book)
-        (subst (λ (m : ℕ). ShorterQuestion (rule_of book') (kept_in question) m question question') c h.of-question) room' enough))
+        (asked book question book' question' g e (subst (λ (m : ℕ). ShorterBook (kept_in question) m book book') c h.of_book)
+        (subst (λ (m : ℕ). ShorterQuestion (rule_of book') (kept_in question) m question question') c h.of_question) room' enough))
 
 -- what was written to a slice stands before what stood there
 accepted-is : {A : Type 0} (o : Out A) → Accepted o → (a : A) × (o ≡ ok a)

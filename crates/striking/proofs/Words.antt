@@ -2,7 +2,7 @@
 use mathlib.Core.Path.{◌≡◌, refl, ap, ◌∙◌}
 use mathlib.Core.Logic.{inl, inr}
 use Prim.Native.Nat.{ℕ, zero, suc, ◌+◌, ◌*◌, ◌/◌, ◌^◌, ◌-◌}
-use native.Mathlib.Nat.{zero-mul, zero_div}
+use native.Mathlib.Nat.{zero-mul, zero-div}
 use mathlib.Core.Bool.{Bool, true, false, cond}
 use lib.Ieee.{Float, nan, inf, fin, binary64, to_bits, up, down, size, low, prec, hid, top}
 use Rattle.floats.specs.Small.{bits_of}
@@ -15,7 +15,7 @@ unfolding to_bits
 zero_bits (fin s zero e) z = go s
   where
     none : 0 * up e * 2 ^ low binary64 / down e ≡ 0
-    none = ap (λ (a : ℕ). a * 2 ^ low binary64 / down e) (zero-mul (up e)) ∙ ap (λ (a : ℕ). a / down e) (zero-mul (2 ^ low binary64)) ∙ zero_div (down e)
+    none = ap (λ (a : ℕ). a * 2 ^ low binary64 / down e) (zero-mul (up e)) ∙ ap (λ (a : ℕ). a / down e) (zero-mul (2 ^ low binary64)) ∙ zero-div (down e)
 
     bits : Bool → ℕ → ℕ
     bits s n = cond s (top binary64) 0 + (size n - prec binary64) * hid binary64 + n / 2 ^ (size n - prec binary64)
@@ -23,6 +23,9 @@ zero_bits (fin s zero e) z = go s
     go : (s : Bool) → ZeroWord (bits s (0 * up e * 2 ^ low binary64 / down e))
     go true = inr (ap (bits true) none ∙ (unfold size in refl))
     go false = inl (ap (bits false) none ∙ (unfold size in refl))
+zero_bits nan z = elim z [ ]
+zero_bits (inf _) z = elim z [ ]
+zero_bits (fin s (suc _) e) z = elim z [ ]
 
 pub same_word : {x y : Float} → x ≈ y → SameWord (bits_of x) (bits_of y)
 same_word {x} {y} p = go x p

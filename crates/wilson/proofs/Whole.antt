@@ -41,11 +41,11 @@ module _ (m : List Float) (x : ℕ → Float) (n : ℕ) (t : Float) (n8 : n ≤ 
   pub state_yes : {g : Jet} → g ≡ neg_j total → f ≡ true → {r : Energies} {lg' sl' : List Float} → Gives (state_with g t lg sl) r lg' sl'
       → Gives (state_from (reduced_on m x n) (ln_gamma_on m x n) n t) r lg' sl'
   unfolding gibbs_of_ln
-  state_yes p q g = ways.all-finite _ _ n t _ same pl (p ∙ ap neg_j ps.total) q g
+  state_yes p q g = ways.all_finite_lem _ _ n t _ same pl (p ∙ ap neg_j ps.total) q g
 
   pub state-no : f ≡ false → {r : Energies} {lg' sl' : List Float} → Gives (no 25) r lg' sl'
       → Gives (state_from (reduced_on m x n) (ln_gamma_on m x n) n t) r lg' sl'
-  state-no q g = ways.not-all-finite _ _ n t _ same pl q g
+  state-no q g = ways.not_all_finite _ _ n t _ same pl q g
 
 -- ---- `excess`
 module _ (m : List Float) (n : ℕ) (t : Float) (x : ℕ → Float) {v : Verdict} {k : ℕ} {r : Energies} {lg sl : List Float} where

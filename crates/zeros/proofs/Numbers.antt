@@ -2,7 +2,7 @@
 -- Assumes nothing.
 use mathlib.Core.Path.{◌≡◌, refl, sym, ap, ◌∙◌, subst}
 use Prim.Native.Nat.{ℕ, zero, suc, ◌/◌, ◌*◌, ◌^◌, ◌-◌, ◌<◌, min}
-use native.Mathlib.Nat.{zero-mul, zero_div}
+use native.Mathlib.Nat.{zero-mul, zero-div}
 use native.Mathlib.Omega.{arith}
 use mathlib.Core.Bool.{Bool, true, false, cond}
 use lib.IntN.{ℤ, pos, neg_ℤ}
@@ -50,7 +50,7 @@ to_signed_canon h (fin s zero e) = ap pos (least (0 * 1 / 1) (2 ^ h - 1) refl) �
     least a b z = omega arith
 
     none : 0 * up e / down e ≡ 0
-    none = ap (λ (x : ℕ). x / down e) (zero-mul (up e)) ∙ zero_div (down e)
+    none = ap (λ (x : ℕ). x / down e) (zero-mul (up e)) ∙ zero-div (down e)
 
     go : (s : Bool) → cond s (neg_ℤ (pos (min (0 * up e / down e) (2 ^ h)))) (pos (min (0 * up e / down e) (2 ^ h - 1))) ≡ pos 0
     go true = ap (λ (c : ℕ). neg_ℤ (pos c)) (least (0 * up e / down e) (2 ^ h) none)

@@ -86,6 +86,12 @@ Zero (fin s (suc m) e) = ⊥
 pub zero_≈ : (x y : Float) → Zero x → Zero y → x ≈ y
 unfolding canon
 zero_≈ (fin s zero e) (fin t zero d) h k = by refl
+zero_≈ nan y h k = elim h [ ]
+zero_≈ (inf _) y h k = elim h [ ]
+zero_≈ (fin s zero e) nan h k = elim k [ ]
+zero_≈ (fin s zero e) (inf _) h k = elim k [ ]
+zero_≈ (fin s zero e) (fin t (suc _) d) h k = elim k [ ]
+zero_≈ (fin s (suc _) e) y h k = elim h [ ]
 
 pub zero_round : (f : Format) (s : Bool) (a c : ℕ) → a ≡ 0 → 0 < c → Zero (round f s a c)
 zero_round f s a c z C = subst Zero (sym (round_zero f s a c z C)) tt
@@ -105,10 +111,19 @@ none u v = ap (λ (x : ℕ). x * v) (zero-mul u) ∙ zero-mul v
 pub zero_add≡ : (f : Format) (x y : Float) → Zero x → Zero y → Zero (add f x y)
 unfolding add
 zero_add≡ f (fin s zero e) (fin t zero d) h k = zero_sum f s (0 * up e * down d) t (0 * up d * down e) (down e * down d) (none (up e) (down d)) (none (up d) (down e)) (mul-pos (down_pos e) (down_pos d))
+zero_add≡ f nan y h k = elim h [ ]
+zero_add≡ f (inf _) y h k = elim h [ ]
+zero_add≡ f (fin s zero e) nan h k = elim k [ ]
+zero_add≡ f (fin s zero e) (inf _) h k = elim k [ ]
+zero_add≡ f (fin s zero e) (fin t (suc _) d) h k = elim k [ ]
+zero_add≡ f (fin s (suc _) e) y h k = elim h [ ]
 
 pub zero_neg : (x : Float) → Zero x → Zero (neg x)
 unfolding neg
 zero_neg (fin s zero e) h = tt
+zero_neg nan h = elim h [ ]
+zero_neg (inf _) h = elim h [ ]
+zero_neg (fin s (suc _) e) h = elim h [ ]
 
 pub zero_sub : (f : Format) (x y : Float) → Zero x → Zero y → Zero (sub f x y)
 unfolding sub
@@ -119,6 +134,9 @@ unfolding mul
 zero_mul-l f (fin s zero e) nan h k = k
 zero_mul-l f (fin s zero e) (inf t) h k = k
 zero_mul-l f (fin s zero e) (fin t n d) h k = zero_round f (unlike s t) (0 * up e * (n * up d)) (down e * down d) (none (up e) (n * up d)) (mul-pos (down_pos e) (down_pos d))
+zero_mul-l f nan y h k = elim h [ ]
+zero_mul-l f (inf _) y h k = elim h [ ]
+zero_mul-l f (fin s (suc _) e) y h k = elim h [ ]
 
 pub zero_mul-r : (f : Format) (x y : Float) → Zero y → Num (mul f x y) → Zero (mul f x y)
 zero_mul-r f x y h k = subst Zero (mul_comm≡ f y x) (zero_mul-l f y x h (subst Num (mul_comm≡ f x y) k))
@@ -130,6 +148,11 @@ zero_over_lem f (fin s zero e) (fin t zero d) h k g = absurd (g tt)
 zero_over_lem f (fin s zero e) (fin t (suc n) d) h k g =
     subst (λ (b : Bool). Zero (cond b nan (round f (unlike s t) (0 * up e * down d) (suc n * up d * down e)))) (sym (eqb-suc-zero n))
     (zero_round f (unlike s t) (0 * up e * down d) (suc n * up d * down e) (none (up e) (down d)) (mul-pos (mul-pos (zero-lt-suc n) (up_pos d)) (down_pos e)))
+zero_over_lem f nan y h k g = elim h [ ]
+zero_over_lem f (inf _) y h k g = elim h [ ]
+zero_over_lem f (fin s zero e) nan h k g = elim k [ ]
+zero_over_lem f (fin s zero e) (inf _) h k g = elim k [ ]
+zero_over_lem f (fin s (suc _) e) y h k g = elim h [ ]
 
 pub zero_div : (f : Format) (x y : Float) → Zero x → Num (div f x y) → Zero (div f x y)
 unfolding div
@@ -137,6 +160,9 @@ zero_div f (fin s zero e) nan h k = k
 zero_div f (fin s zero e) (inf t) h k = tt
 zero_div f (fin s zero e) (fin t zero d) h k = k
 zero_div f (fin s zero e) (fin t (suc n) d) h k = zero_over_lem f (fin s zero e) (fin t (suc n) d) h tt (λ z. z)
+zero_div f nan y h k = elim h [ ]
+zero_div f (inf _) y h k = elim h [ ]
+zero_div f (fin s (suc _) e) y h k = elim h [ ]
 
 -- ---- two values that fit and are one number with one sign are one value: their bits are the same
 unique : (f : Format) (x : Float) (s : Bool) (m : ℕ) (e : ℤ) → T (fits f x) → T (fits f (fin s m e)) → HasValue x s (m * up e) (down e) → x ≡ fin s m e
@@ -149,6 +175,8 @@ unique f (fin t n d) s m e p q v =
     ap (λ (x : ℕ). cond t (lib.Ieee.top f) 0 + (size x - prec f) * lib.Ieee.hid f + x / 2 ^ (size x - prec f)) a
     ∙ ap (λ (z : Bool). to_bits f (fin z m e)) v.0 in
     sym (of_bits-to_bits f (fin t n d) p) ∙ ap (of_bits f) b ∙ of_bits-to_bits f (fin s m e) q
+unique f nan s m e p q v = elim v [ ]
+unique f (inf _) s m e p q v = elim v [ ]
 
 pow_le_back : (a l : ℕ) → 2 ^ a ≤ 2 ^ l → a ≤ l
 pow_le_back a l h = le_of_suc-le-suc (lt_of_not-le (λ (g : suc l ≤ a). lt_irrefl (2 ^ l) (lt_of_lt_of_le (pow-lt g) h)))
@@ -202,6 +230,9 @@ again-fits f (fin s (suc m) e) p =
 
 pub add_zero≈ : (x z : Float) → T (fits binary64 x) → Zero z → add binary64 x z ≈ x
 add_zero≈ x (fin s zero e) p h = by (ap canon (add_comm≡ binary64 x (fin s 0 e)) ∙ add_zero_l binary64 s e x ∙ ap canon (again-fits binary64 x p))
+add_zero≈ x nan p h = elim h [ ]
+add_zero≈ x (inf _) p h = elim h [ ]
+add_zero≈ x (fin s (suc _) e) p h = elim h [ ]
 
 -- ---- not -0
 abbrev pub Plain : Float → Type 0
@@ -357,6 +388,9 @@ solid_canon (fin s (suc m) e) h = refl
 zero_canon : (x : Float) → Zero x → Zero (canon x)
 unfolding canon
 zero_canon (fin s zero e) h = tt
+zero_canon nan h = elim h [ ]
+zero_canon (inf _) h = elim h [ ]
+zero_canon (fin s (suc _) e) h = elim h [ ]
 
 canon_zero : (x : Float) → Zero (canon x) → Zero x
 unfolding canon

@@ -3,8 +3,8 @@ use borrow.Author.Rules.{rules}
 use Rattle.batch.proofs.kept_or_made.Goals as goal
 
 pub returns-in-Made : goal.returns-in-Made
-returns-in-Made c = h.made _ c.kept-1.given.1
+returns-in-Made c h = h.made _ c.in-Made.is
 
 pub returns-in-Nothing : goal.returns-in-Nothing
-returns-in-Nothing c = rw (← c.word.ensures, ← c.word-in-Nothing.ensures, ← c.float_of.ensures, ← c.word-in-Nothing-2.ensures, ← c.float_of-in-Nothing.ensures)
-    (c.make_ready.ensures (h.room c.enum_told-1.given.1))
+returns-in-Nothing c h = rw (← c.word.ensures, ← c.word-in-Nothing.ensures, ← c.float_of.ensures, ← c.word-in-Nothing-2.ensures, ← c.float_of-in-Nothing.ensures)
+    (c.make_ready.ensures (h.room c.in-Nothing.is))

@@ -5,8 +5,8 @@ use Rattle.blocks.proofs.sum_by.Goals as goal
 
 pub returns-in-Plain : goal.returns-in-Plain
 unfolding sum_by
-returns-in-Plain c = rw c.enum_told-1.given.1 c.plain_sum.ensures
+returns-in-Plain c = rw c.in-Plain.is c.plain_sum.ensures
 
 pub returns-in-Running : goal.returns-in-Running
 unfolding sum_by
-returns-in-Running c = rw c.enum_told-in-Running-1.given.1 c.running_sum.ensures
+returns-in-Running c = rw c.in-Running.is c.running_sum.ensures

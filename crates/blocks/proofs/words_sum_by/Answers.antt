@@ -5,8 +5,8 @@ use Rattle.blocks.proofs.words_sum_by.Goals as goal
 
 pub returns-in-Plain : goal.returns-in-Plain
 unfolding sum_by
-returns-in-Plain c = rw c.enum_told-1.given.1 c.words_sum.ensures
+returns-in-Plain c = rw c.in-Plain.is c.words_sum.ensures
 
 pub returns-in-Running : goal.returns-in-Running
 unfolding sum_by
-returns-in-Running c = rw c.enum_told-in-Running-1.given.1 c.words_running.ensures
+returns-in-Running c = rw c.in-Running.is c.words_running.ensures

@@ -1,5 +1,5 @@
 use Rattle.std.proofs.Common.{◌≡◌, ◌-◌, ◌≤◌, true, sym, refl, arith, rules}
-use Rattle.floats.proofs.Folds.{was_no, was_yes, all_turn, all_fails, all_end}
+use Rattle.floats.proofs.Folds.{as_tested, was_no, was_yes, all_turn, all_fails, all_end}
 use Rattle.floats.specs.Fold.{all_to}
 use Rattle.book.specs.Book.{cas_new}
 use Rattle.book.specs.Places.{words}
@@ -10,10 +10,10 @@ unfolding all_to
 loop-i-init c = (omega arith, refl)
 
 pub returns-then-not-cas_new : goal.returns-then-not-cas_new
-returns-then-not-cas_new c = sym (all_fails _ _ _ c.loop-i-test.true (was_no c.if-not-cas_new.true c.cas_new.ensures))
+returns-then-not-cas_new c = sym (all_fails _ _ _ c.loop-i-test.true (as_tested c.if-not-cas_new.true c.cas_new.ensures))
 
 pub loop-i-preserved : goal.loop-i-preserved
-loop-i-preserved c = (omega arith, all_turn _ _ c.loop-i.invariant.1 (was_yes c.if-not-cas_new.false c.cas_new.ensures))
+loop-i-preserved c = (omega arith, all_turn _ _ c.loop-i.invariant.1 (as_tested c.if-not-cas_new.false c.cas_new.ensures))
 
 pub returns : goal.returns
 returns c = all_end _ _ _ c.loop-i.invariant.0 c.loop-i-test.false c.loop-i.invariant.1

@@ -1,5 +1,5 @@
 use Rattle.std.proofs.Common.{◌≡◌, ◌-◌, ◌≤◌, true, sym, refl, arith, rules}
-use Rattle.floats.proofs.Folds.{was_no, was_yes, all_end, all_turn, all_fails}
+use Rattle.floats.proofs.Folds.{as_tested, was_no, was_yes, all_end, all_turn, all_fails}
 use Rattle.floats.specs.Fold.{all_to}
 use Rattle.blocks.specs.Words.{check_right}
 use Rattle.book.specs.Places.{words}
@@ -11,11 +11,11 @@ loop-k-init c = (omega arith, refl)
 
 pub returns-then-not-check_right : goal.returns-then-not-check_right
 returns-then-not-check_right c = let seen = rw c.block.ensures at c.check_right.ensures in
-    sym (all_fails _ _ _ c.loop-k-test.true (was_no c.if-not-check_right.true seen))
+    sym (all_fails _ _ _ c.loop-k-test.true (as_tested c.if-not-check_right.true seen))
 
 pub loop-k-preserved : goal.loop-k-preserved
 loop-k-preserved c = let seen = rw c.block.ensures at c.check_right.ensures in
-    (omega arith, all_turn _ _ c.loop-k.invariant.1 (was_yes c.if-not-check_right.false seen))
+    (omega arith, all_turn _ _ c.loop-k.invariant.1 (as_tested c.if-not-check_right.false seen))
 
 pub returns : goal.returns
 returns c = all_end _ _ _ c.loop-k.invariant.0 c.loop-k-test.false c.loop-k.invariant.1

@@ -1,13 +1,13 @@
 -- `book::masses_right` meets its contract. The two ways of the test. Assumes nothing.
 use Rattle.std.proofs.Common.{rules}
-use Rattle.floats.proofs.Folds.{was_no, was_yes}
+use Rattle.floats.proofs.Folds.{as_tested, was_no, was_yes}
 use Rattle.book.specs.Book.{masses_right}
 use Rattle.book.proofs.masses_right.Goals as goal
 
 pub returns-then-not-has_masses : goal.returns-then-not-has_masses
 unfolding masses_right
-returns-then-not-has_masses c = rw (was_no c.if-not-has_masses.true c.has_masses.ensures)
+returns-then-not-has_masses c = rw (as_tested c.if-not-has_masses.true c.has_masses.ensures)
 
 pub returns : goal.returns
 unfolding masses_right
-returns c = rw (was_yes c.if-not-has_masses.false c.has_masses.ensures) c.masses_positive.ensures
+returns c = rw (as_tested c.if-not-has_masses.false c.has_masses.ensures) c.masses_positive.ensures

@@ -4,7 +4,7 @@ use Rattle.book.proofs.Sound.{wilson_sound}
 use Rattle.book.proofs.pair_sound.Goals as goal
 
 pub returns-in-Nrtl : goal.returns-in-Nrtl
-returns-in-Nrtl c = rw c.enum_told-1.given.1 c.nrtl_sound.ensures
+returns-in-Nrtl c = rw c.in-Nrtl.is c.nrtl_sound.ensures
 
 pub returns-in-Wilson : goal.returns-in-Wilson
-returns-in-Wilson c = let e = c.enum_told-in-Wilson-1.given.1 in rw e (wilson_sound _ (rw e at c.pair_finite.ensures))
+returns-in-Wilson c = let e = c.in-Wilson.is in rw e (wilson_sound _ (rw e at c.pair_finite.ensures))

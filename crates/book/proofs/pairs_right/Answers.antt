@@ -1,5 +1,5 @@
 use Rattle.std.proofs.Common.{◌≡◌, ◌+◌, ◌-◌, ◌≤◌, true, sym, refl, arith}
-use Rattle.floats.proofs.Folds.{was_no, was_yes, all_turn, all_fails, all_end}
+use Rattle.floats.proofs.Folds.{as_tested, was_no, was_yes, all_turn, all_fails, all_end}
 use Rattle.floats.specs.Fold.{all_to}
 use Rattle.book.proofs.Laws.{row_fits, row_next}
 use Rattle.book.specs.Book.{row_right}
@@ -16,7 +16,7 @@ row_right-requires c = let a = c.args in
 
 pub returns-then-not-row_right : goal.returns-then-not-row_right
 returns-then-not-row_right c = let q = c.loop-i.invariant.2 in
-    sym (all_fails _ _ _ c.loop-i-test.true (was_no c.if-not-row_right.true (rw q at c.row_right.ensures)))
+    sym (all_fails _ _ _ c.loop-i-test.true (as_tested c.if-not-row_right.true (rw q at c.row_right.ensures)))
 
 pub overflow_add-from-in-loop-i : goal.overflow_add-from-in-loop-i
 overflow_add-from-in-loop-i c = let a = c.args in
@@ -24,7 +24,7 @@ overflow_add-from-in-loop-i c = let a = c.args in
 
 pub loop-i-preserved : goal.loop-i-preserved
 loop-i-preserved c = let seen = rw c.loop-i.invariant.2 at c.row_right.ensures in
-    (omega arith, all_turn _ _ c.loop-i.invariant.1 (was_yes c.if-not-row_right.false seen), rw (row_next, ← c.loop-i.invariant.2))
+    (omega arith, all_turn _ _ c.loop-i.invariant.1 (as_tested c.if-not-row_right.false seen), rw (row_next, ← c.loop-i.invariant.2))
 
 pub returns : goal.returns
 returns c = all_end _ _ _ c.loop-i.invariant.0 c.loop-i-test.false c.loop-i.invariant.1

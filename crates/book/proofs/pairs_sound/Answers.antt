@@ -1,5 +1,5 @@
 use Rattle.std.proofs.Common.{◌≡◌, ◌+◌, ◌-◌, ◌≤◌, true, ◌&&◌, sym, refl, arith, rules}
-use Rattle.floats.proofs.Folds.{was_no, was_yes, all_turn, all_fails, all_end}
+use Rattle.floats.proofs.Folds.{as_tested, was_no, was_yes, all_turn, all_fails, all_end}
 use Rattle.floats.specs.Fold.{all_to}
 use Rattle.book.specs.Book.{pair_finite, alphas_equal}
 use Rattle.book.specs.Places.{words}
@@ -11,11 +11,11 @@ loop-d-init c = (omega arith, refl)
 
 pub returns-then-not-pair_sound : goal.returns-then-not-pair_sound
 returns-then-not-pair_sound c = let seen = rw c.whole_block.ensures.0 at c.pair_sound.ensures in
-    sym (all_fails _ _ _ c.loop-d-test.true (was_no c.if-not-pair_sound.true seen))
+    sym (all_fails _ _ _ c.loop-d-test.true (as_tested c.if-not-pair_sound.true seen))
 
 pub loop-d-preserved : goal.loop-d-preserved
 loop-d-preserved c = let seen = rw c.whole_block.ensures.0 at c.pair_sound.ensures in
-    (omega arith, all_turn _ _ c.loop-d.invariant.1 (was_yes c.if-not-pair_sound.false seen))
+    (omega arith, all_turn _ _ c.loop-d.invariant.1 (as_tested c.if-not-pair_sound.false seen))
 
 pub returns : goal.returns
 returns c = all_end _ _ _ c.loop-d.invariant.0 c.loop-d-test.false c.loop-d.invariant.1

@@ -5,8 +5,8 @@ use Rattle.book.proofs.parameters_finite.Goals as goal
 
 pub returns-in-Nrtl : goal.returns-in-Nrtl
 unfolding parameters_finite
-returns-in-Nrtl c = rw c.enum_told-1.given.1 c.floats_finite.ensures
+returns-in-Nrtl c = rw c.in-Nrtl.is c.floats_finite.ensures
 
 pub returns-in-Wilson : goal.returns-in-Wilson
 unfolding parameters_finite
-returns-in-Wilson c = rw c.enum_told-in-Wilson-1.given.1 c.floats_finite-in-Wilson.ensures
+returns-in-Wilson c = rw c.in-Wilson.is c.floats_finite-in-Wilson.ensures

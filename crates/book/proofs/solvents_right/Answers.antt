@@ -1,5 +1,5 @@
 use Rattle.std.proofs.Common.{◌≡◌, ◌+◌, ◌-◌, ◌≤◌, true, sym, refl, arith, rules}
-use Rattle.floats.proofs.Folds.{was_no, was_yes, all_turn, all_fails, all_end}
+use Rattle.floats.proofs.Folds.{as_tested, was_no, was_yes, all_turn, all_fails, all_end}
 use Rattle.floats.specs.Fold.{all_to}
 use Rattle.book.specs.Book.{solvent_right}
 use Rattle.book.specs.Places.{words}
@@ -11,11 +11,11 @@ loop-i-init c = (omega arith, refl)
 
 pub returns-then-not-solvent_right : goal.returns-then-not-solvent_right
 returns-then-not-solvent_right c = let seen = rw c.whole_block.ensures.0 at c.solvent_right.ensures in
-    sym (all_fails _ _ _ c.loop-i-test.true (was_no c.if-not-solvent_right.true seen))
+    sym (all_fails _ _ _ c.loop-i-test.true (as_tested c.if-not-solvent_right.true seen))
 
 pub loop-i-preserved : goal.loop-i-preserved
 loop-i-preserved c = let seen = rw c.whole_block.ensures.0 at c.solvent_right.ensures in
-    (omega arith, all_turn _ _ c.loop-i.invariant.1 (was_yes c.if-not-solvent_right.false seen))
+    (omega arith, all_turn _ _ c.loop-i.invariant.1 (as_tested c.if-not-solvent_right.false seen))
 
 pub returns : goal.returns
 returns c = all_end _ _ _ c.loop-i.invariant.0 c.loop-i-test.false c.loop-i.invariant.1

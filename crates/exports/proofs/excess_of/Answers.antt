@@ -8,8 +8,8 @@ use Rattle.exports.proofs.excess_of.Goals as goal
 
 pub returns-in-Valid : goal.returns-in-Valid
 unfolding excess_from
-returns-in-Valid c = excess_as (bind_yes _ (kelvin-ok _ c.new-made.ensures c.made-1.given.1)) (rw c.eight-a.ensures at c.excess_in.ensures)
+returns-in-Valid c = excess_as (bind_yes _ (kelvin-ok _ c.new-made.ensures c.in-Valid.is)) (rw c.eight-a.ensures at c.excess_in.ensures)
 
 pub returns-in-No : goal.returns-in-No
 unfolding excess_from
-returns-in-No c = excess-none (bind-no _ (kelvin-no _ c.new-made.ensures c.made-in-No-1.given.1))
+returns-in-No c = excess-none (bind-no _ (kelvin-no _ c.new-made.ensures c.in-No.is))

@@ -4,8 +4,8 @@ use Rattle.exports.proofs.refusal.Goals as goal
 
 pub returns-in-Passed : goal.returns-in-Passed
 unfolding verdict_number
-returns-in-Passed c = rw c.enum_told-1.given.1
+returns-in-Passed c = rw c.in-Passed.is
 
 pub returns-in-Refused : goal.returns-in-Refused
 unfolding verdict_number
-returns-in-Refused c = rw c.v-1.given.1
+returns-in-Refused c = rw c.in-Refused.is

@@ -5,7 +5,7 @@ use Rattle.exports.proofs.Ways.{vapor-refused, vapor-given}
 use Rattle.exports.proofs.vapor_in.Goals as goal
 
 pub returns-in-Refused : goal.returns-in-Refused
-returns-in-Refused c = vapor-refused _ (vapor-is _ c.vapor_pressure-v.ensures c.vapor_pressure_record.ensures) c.verdict-1.given.1
+returns-in-Refused c = vapor-refused _ (vapor-is _ c.vapor_pressure-v.ensures c.vapor_pressure_record.ensures) c.in-Refused.is
 
 pub returns : goal.returns
-returns c = vapor-given _ (vapor-is _ c.vapor_pressure-v.ensures c.vapor_pressure_record.ensures) c.enum_told-1.given.1 c.store_vapor.ensures
+returns c = vapor-given _ (vapor-is _ c.vapor_pressure-v.ensures c.vapor_pressure_record.ensures) c.in_default.is c.store_vapor.ensures

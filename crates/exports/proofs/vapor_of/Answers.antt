@@ -8,8 +8,8 @@ use Rattle.exports.proofs.vapor_of.Goals as goal
 
 pub returns-in-Valid : goal.returns-in-Valid
 unfolding vapor_from
-returns-in-Valid c = vapor_as (bind_yes _ (kelvin-ok _ c.new-made.ensures c.made-1.given.1)) c.vapor_in.ensures
+returns-in-Valid c = vapor_as (bind_yes _ (kelvin-ok _ c.new-made.ensures c.in-Valid.is)) c.vapor_in.ensures
 
 pub returns-in-No : goal.returns-in-No
 unfolding vapor_from
-returns-in-No c = vapor-none (bind-no _ (kelvin-no _ c.new-made.ensures c.made-in-No-1.given.1))
+returns-in-No c = vapor-none (bind-no _ (kelvin-no _ c.new-made.ensures c.in-No.is))

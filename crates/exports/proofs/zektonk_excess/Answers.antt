@@ -14,9 +14,9 @@ returns-then-out-lt23 c = excess-none (need-no 100 _ (lt-leb 23 _ c.if-out-lt23.
 
 pub returns-in-Book : goal.returns-in-Book
 unfolding excess_at
-returns-in-Book c = let b = opened-ok _ (sym c.opened-1.given.1 ∙ c.open_book-opened.ensures) in
+returns-in-Book c = let b = opened-ok _ (sym c.in-Book.is ∙ c.open_book-opened.ensures) in
     excess_as (need_yes 100 _ (le-leb 23 _ c.if-out-lt23.false) ∙ bind_yes _ b) (excess-few _ _ _ _ (accepted _ b).few c.excess_of.ensures)
 
 pub returns-in-No : goal.returns-in-No
 unfolding excess_at
-returns-in-No c = excess-none (need_yes 100 _ (le-leb 23 _ c.if-out-lt23.false) ∙ bind-no _ (opened-no _ (sym c.opened-in-No-1.given.1 ∙ c.open_book-opened.ensures)))
+returns-in-No c = excess-none (need_yes 100 _ (le-leb 23 _ c.if-out-lt23.false) ∙ bind-no _ (opened-no _ (sym c.in-No.is ∙ c.open_book-opened.ensures)))

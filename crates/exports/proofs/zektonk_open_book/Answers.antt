@@ -7,12 +7,12 @@ use borrow.Author.Rules.{rules}
 use Rattle.exports.proofs.zektonk_open_book.Goals as goal
 
 pub overflow_add-result : goal.overflow_add-result
-overflow_add-result c = omega (arith, (accepted _ (opened-ok _ (sym c.head-1.given.1 ∙ c.open_book.ensures))).few)
+overflow_add-result c = omega (arith, (accepted _ (opened-ok _ (sym c.in-Book.is ∙ c.open_book.ensures))).few)
 
 pub returns-in-Book : goal.returns-in-Book
 unfolding book_number
-returns-in-Book c = rw (opened-ok _ (sym c.head-1.given.1 ∙ c.open_book.ensures))
+returns-in-Book c = rw (opened-ok _ (sym c.in-Book.is ∙ c.open_book.ensures))
 
 pub returns-in-No : goal.returns-in-No
 unfolding book_number
-returns-in-No c = rw (opened-no _ (sym c.r-1.given.1 ∙ c.open_book.ensures))
+returns-in-No c = rw (opened-no _ (sym c.in-No.is ∙ c.open_book.ensures))

@@ -5,8 +5,8 @@ use Rattle.exports.proofs.zektonk_repeat_activity.Goals as goal
 
 pub returns-in-Valid : goal.returns-in-Valid
 unfolding repeated
-returns-in-Valid c = rw (kelvin-ok _ c.new-made.ensures c.made-1.given.1) c.repeat_from.ensures
+returns-in-Valid c = rw (kelvin-ok _ c.new-made.ensures c.in-Valid.is) c.repeat_from.ensures
 
 pub returns-in-No : goal.returns-in-No
 unfolding repeated
-returns-in-No c = rw (kelvin-no _ c.new-made.ensures c.made-in-No-1.given.1)
+returns-in-No c = rw (kelvin-no _ c.new-made.ensures c.in-No.is)

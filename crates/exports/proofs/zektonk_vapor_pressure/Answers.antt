@@ -13,8 +13,8 @@ returns-then-out-lt4 c = vapor-none (need-no 100 _ (lt-leb 4 _ c.if-out-lt4.true
 
 pub returns-in-Book : goal.returns-in-Book
 unfolding vapor_at
-returns-in-Book c = vapor_as (need_yes 100 _ (le-leb 4 _ c.if-out-lt4.false) ∙ bind_yes _ (opened-ok _ (sym c.opened-1.given.1 ∙ c.open_book-opened.ensures))) c.vapor_of.ensures
+returns-in-Book c = vapor_as (need_yes 100 _ (le-leb 4 _ c.if-out-lt4.false) ∙ bind_yes _ (opened-ok _ (sym c.in-Book.is ∙ c.open_book-opened.ensures))) c.vapor_of.ensures
 
 pub returns-in-No : goal.returns-in-No
 unfolding vapor_at
-returns-in-No c = vapor-none (need_yes 100 _ (le-leb 4 _ c.if-out-lt4.false) ∙ bind-no _ (opened-no _ (sym c.opened-in-No-1.given.1 ∙ c.open_book-opened.ensures)))
+returns-in-No c = vapor-none (need_yes 100 _ (le-leb 4 _ c.if-out-lt4.false) ∙ bind-no _ (opened-no _ (sym c.in-No.is ∙ c.open_book-opened.ensures)))

@@ -10,4 +10,4 @@ pub returns : goal.returns
 returns c = let m = c.measure-m.ensures in
     let g = c.ln_gamma-v.ensures in
     turn_judged _ _ _ c.requires _ _ _ c.amounts-big.ensures c.total-s.ensures c.composition-w.ensures g.0 g.1
-    c.enum_told-1.given.1 m.0 m.1 m.2 c.judge-judged.ensures c.next-ln_next.ensures
+    c.in_default.is m.0 m.1 m.2 c.judge-judged.ensures c.next-ln_next.ensures

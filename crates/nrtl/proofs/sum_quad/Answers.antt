@@ -5,7 +5,4 @@ use Rattle.nrtl.proofs.Lanes.{sums_quad, ratios_quad}
 use Rattle.nrtl.proofs.sum_quad.Goals as goal
 
 pub returns : goal.returns
-returns c = (
-  sums_quad _ 2 _ _ c.quad-sums.ensures c.keep-sums.ensures.0 c.keep_sums-2.ensures.0,
-  ratios_quad _ _ _ _ c.quad-sums2.ensures c.quad-sums.ensures c.keep-sums.ensures.1 c.keep_sums-2.ensures.1,
-)
+returns c = record { sums_after = sums_quad _ 2 _ _ c.quad_sums-s.ensures c.keep_sums.ensures.sums_after c.keep_sums-2.ensures.sums_after; ratios_after = ratios_quad _ _ _ _ c.quad_sums-c.ensures c.quad_sums-s.ensures c.keep_sums.ensures.ratios_after c.keep_sums-2.ensures.ratios_after }

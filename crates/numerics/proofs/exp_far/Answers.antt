@@ -1,5 +1,5 @@
 -- `numerics::exp_far` meets its contract. Each arm returns what `exp_of` picks where the tests are as the arm found them; what the two calls require is in `proofs/Limits.antt`.
-use Rattle.std.proofs.Common.{◌≡◌, ◌<◌, ℤ, sym, refl, ap, ◌∙◌, arith, lit<, w64, to_z, of_z, rules}
+use Rattle.std.proofs.Common.{◌≡◌, ◌<◌, ℤ, sym, refl, ap, ◌∙◌, arith, lit<, w64, to_z, of_z, false, rules}
 use lib.Signed.{mag}
 use lib.Ieee.{Float, of_bits, neg, nan_bits, to_signed, lt}
 use mir.ValLaws.{to_z-of_z}
@@ -11,26 +11,26 @@ use Rattle.numerics.proofs.Powers.{small}
 use Rattle.numerics.proofs.Limits.{v-within, shift_within}
 use Rattle.numerics.proofs.exp_far.Goals as goal
 
+-- the limit below, as the source has it: a negation
 below : (v : Float) → lt v (neg (# 0x40874910d52d3051)) ≡ lt v (# 0xc0874910d52d3051)
 unfolding neg of_bits
 below v = refl
 
-within : (c : tie.Else3) → Within 1493 (exp_shift c.before.before.before.args.v)
-within c =
-    let s = c.before.before.before in
-    shift_within s.args.v (v-within s.args.v (nan_if s.args.v c.before.before.if1.false) c.before.if2.false (sym (below s.args.v) ∙ c.if3.false))
+-- where none of the tests passed, the shifted argument is at most 1493 in size
+within :
+    (v : Float) → is_nan v ≡ false → lt (# 0x40862e42fefa39ef) v ≡ false → lt v (neg (# 0x40874910d52d3051)) ≡ false
+    → Within 1493 (exp_shift v)
+within v n above under = shift_within v (v-within v n above (sym (below v) ∙ under))
 
-k-small : (c : tie.Else3) → mag (to_signed 63 (exp_shift c.before.before.before.args.v)) < 1494
-k-small c = cut-within 1493 (exp_shift c.before.before.before.args.v) (within c)
+module _ (v s : Float) (k : ℤ) (is : s ≡ exp_shift v) (cut : k ≡ to_signed 63 s) (w : Within 1493 (exp_shift v)) where
+  k-is : k ≡ to_signed 63 (exp_shift v)
+  k-is = cut ∙ ap (λ (x : Float). to_signed 63 x) is
 
-k-is : (c : tie.After-truncating-f64-to-i64) → c.truncating-f64-to-i64.result ≡ to_signed 63 (exp_shift c.before.before.before.before.before.args.v)
-k-is c = c.truncating-f64-to-i64.ensures ∙ ap (λ (x : Float). to_signed 63 x) c.before.exp-shift.ensures
+  k-small : mag k < 1494
+  k-small = rw k-is (cut-within 1493 (exp_shift v) w)
 
-r_small : (c : tie.After-truncating-f64-to-i64) → mag c.truncating-f64-to-i64.result < 1494
-r_small c = rw (k-is c) (k-small c.before.before)
-
-r-is : (c : tie.After-truncating-f64-to-i64) → to_z w64 (of_z w64 c.truncating-f64-to-i64.result) ≡ c.truncating-f64-to-i64.result
-r-is c = let h = r_small c in to_z-of_z w64 c.truncating-f64-to-i64.result (small c.truncating-f64-to-i64.result (omega arith))
+  k-back : to_z w64 (of_z w64 k) ≡ k
+  k-back = let h = k-small in to_z-of_z w64 k (small k (omega arith))
 
 pub returns-then-v : goal.returns-then-v
 unfolding exp_of
@@ -49,14 +49,25 @@ unfolding exp_of
 returns-then-v-3 c = rw (nan_if c.args.v c.if-v.false, c.if-v-2.false, sym (below c.args.v), c.if-v-3.true)
 
 pub truncating_f64_to_i64-requires : goal.truncating_f64_to_i64-requires
-truncating_f64_to_i64-requires c = let x = exp_shift c.args.v in
-    rw c.exp_shift.ensures (above-min 1493 x (lit< tt) (within c), below-max 1493 x (lit< tt) (within c))
+truncating_f64_to_i64-requires c =
+    let x = exp_shift c.args.v in
+    let w = within c.args.v (nan_if c.args.v c.if-v.false) c.if-v-2.false c.if-v-3.false in
+    rw c.exp_shift.ensures (above-min 1493 x (lit< tt) w, below-max 1493 x (lit< tt) w)
 
 pub exp_from-requires : goal.exp_from-requires
-exp_from-requires c = let h = r_small c in rw (r-is c) (omega arith)
+exp_from-requires c =
+    let w = within c.args.v (nan_if c.args.v c.if-v.false) c.if-v-2.false c.if-v-3.false in
+    let k = c.truncating_f64_to_i64 in
+    let h = k-small c.args.v c.exp_shift.result k.result c.exp_shift.ensures k.ensures w in
+    rw (k-back c.args.v c.exp_shift.result k.result c.exp_shift.ensures k.ensures w) (omega arith)
 
 pub returns : goal.returns
 unfolding exp_of
-returns c = let v = c.args.v in
+returns c =
+    let v = c.args.v in
+    let w = within v (nan_if v c.if-v.false) c.if-v-2.false c.if-v-3.false in
+    let k = c.truncating_f64_to_i64 in
     rw (nan_if v c.if-v.false, c.if-v-2.false, sym (below v), c.if-v-3.false)
-    (c.exp_from.ensures ∙ ap (λ (k : ℤ). exp_from v k) (r-is c ∙ k-is c))
+    (c.exp_from.ensures
+    ∙ ap (λ (k : ℤ). exp_from v k)
+    (k-back v c.exp_shift.result k.result c.exp_shift.ensures k.ensures w ∙ k-is v c.exp_shift.result k.result c.exp_shift.ensures k.ensures w))

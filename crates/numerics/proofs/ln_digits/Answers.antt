@@ -32,20 +32,22 @@ module _ (field digits j q : ℕ) (f : field < 2046) (d : 0 < digits) (is : q �
   mantissa-at : digits < 2 ^ 53 → mantissa (odd 53 false digits field 1074) ≡ of_bits binary64 (q + 4602678819172646912)
   mantissa-at u = mantissa-is digits field j d u (subst (λ (z : ℕ). 2 ^ 52 ≤ z) is lo) (subst (λ (z : ℕ). z < 2 ^ 53) is hi) ∙ ap (λ (z : ℕ). odd 53 false z 1022 1074) (sym is) ∙ sym (unit-is q lo hi)
 
-j-small : (c : tie.After-normal) → c.normal.result.j < 53
-j-small c =
-    let s = c.before in
-    let n = c.normal in
-    j-lt s.args.field s.args.digits n.result.j n.result.q s.requires.0 s.requires.1 n.ensures.0 n.ensures.1 n.ensures.2
-
+-- ---- the function's goals
 pub overflow_add-n : goal.overflow_add-n
-overflow_add-n c = let l = j-small c in omega arith
+overflow_add-n c =
+    let n = c.normal-n in
+    let l = j-lt c.args.field c.args.digits n.result.j n.result.q c.requires.0 c.requires.1 n.ensures.0 n.ensures.1 n.ensures.2 in
+    omega arith
 
 pub overflow_cast-n : goal.overflow_cast-n
-overflow_cast-n c = let l = j-small c in record { sfits = omega arith }
+overflow_cast-n c =
+    let n = c.normal-n in
+    let l = j-lt c.args.field c.args.digits n.result.j n.result.q c.requires.0 c.requires.1 n.ensures.0 n.ensures.1 n.ensures.2 in
+    record { sfits = omega arith }
 
 pub overflow_sub-field : goal.overflow_sub-field
-overflow_sub-field c = let n = c.normal-n in
+overflow_sub-field c =
+    let n = c.normal-n in
     rw (k-is c.args.field c.args.digits n.result.j n.result.q c.requires.0 c.requires.1 n.ensures.0 n.ensures.1 n.ensures.2)
     (k-fits c.args.field c.args.digits n.result.j n.result.q c.requires.0 c.requires.1 n.ensures.0 n.ensures.1 n.ensures.2)
 
@@ -53,12 +55,14 @@ pub float_from_bits-n : goal.float_from_bits-n
 float_from_bits-n c = let n = c.normal-n in no_nan (nan_bits binary64 (n.result.q + 4602678819172646912)) (unit-no_nan n.result.q n.ensures.2)
 
 pub ln_split-requires : goal.ln_split-requires
-ln_split-requires c = let n = c.normal-n in
+ln_split-requires c =
+    let n = c.normal-n in
     rw (k-back c.args.field c.args.digits n.result.j n.result.q c.requires.0 c.requires.1 n.ensures.0 n.ensures.1 n.ensures.2)
     (k-mag c.args.field c.args.digits n.result.j n.result.q c.requires.0 c.requires.1 n.ensures.0 n.ensures.1 n.ensures.2)
 
 pub returns : goal.returns
-returns c = let n = c.normal-n in
+returns c =
+    let n = c.normal-n in
     let f = c.args.field in
     let d = c.args.digits in
     let back = k-back f d n.result.j n.result.q c.requires.0 c.requires.1 n.ensures.0 n.ensures.1 n.ensures.2 in

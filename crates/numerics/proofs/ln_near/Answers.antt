@@ -5,9 +5,6 @@ use lib.Ieee.Positive.{positive}
 use Rattle.numerics.proofs.Fields.{kept-positive, no_nan_of, near_field, near-ln}
 use Rattle.numerics.proofs.ln_near.Goals as goal
 
-held : (c : tie.Start) → T (fits binary64 c.args.v)
-held c = subst T (sym c.well-formed.0.1) tt
-
 pub float_from_bits-above : goal.float_from_bits-above
 unfolding nan_bits
 float_from_bits-above c = tt
@@ -16,7 +13,7 @@ pub float_to_bits-bits : goal.float_to_bits-bits
 float_to_bits-bits c = no_nan_of c.kept_above-bits.result (subst (λ (z : Float). T (positive z)) (sym c.kept_above-bits.ensures) (kept-positive c.args.v))
 
 pub ln_fields-requires : goal.ln_fields-requires
-ln_fields-requires c = (near_field c.args.v c.kept_above-bits.result (held c) c.kept_above-bits.ensures, omega arith)
+ln_fields-requires c = (near_field c.args.v c.kept_above-bits.result c.type_inv.v c.kept_above-bits.ensures, omega arith)
 
 pub returns : goal.returns
-returns c = near-ln c.args.v c.kept_above-bits.result c.ln_fields.result (held c) c.kept_above-bits.ensures c.ln_fields.ensures
+returns c = near-ln c.args.v c.kept_above-bits.result c.ln_fields.result c.type_inv.v c.kept_above-bits.ensures c.ln_fields.ensures

@@ -1,32 +1,37 @@
 -- `numerics::ln_split` meets its contract: each arm is what `cond` picks.
-use Rattle.std.proofs.Common.{◌≡◌, pos, ◌+ℤ◌, arith, w64, SFits, to_z, of_z, rules}
+use Rattle.std.proofs.Common.{◌≡◌, ◌<◌, ℤ, pos, ◌+ℤ◌, arith, w64, SFits, to_z, of_z, rules}
+use lib.Signed.{mag}
 use mir.ValLaws.{to_z-of_z}
 use Rattle.numerics.specs.Numerics.{ln_split}
 use Rattle.numerics.proofs.Powers.{small, in_float_lem, suc_mag}
 use Rattle.numerics.proofs.ln_split.Goals as goal
 
-k-is : (c : tie.Start) → to_z w64 (of_z w64 c.args.k) ≡ c.args.k
-k-is c = to_z-of_z w64 c.args.k c.ranges.k
+-- k and k + 1 as the machine reads them back
+module _ (k : ℤ) (range : SFits w64 k) (few : mag k < 1999) where
+  k-is : to_z w64 (of_z w64 k) ≡ k
+  k-is = to_z-of_z w64 k range
 
-more-fits : (c : tie.Start) → SFits w64 (c.args.k +ℤ pos 1)
-more-fits c = let h = suc_mag c.args.k c.requires in small (c.args.k +ℤ pos 1) (omega arith)
+  more-fits : SFits w64 (k +ℤ pos 1)
+  more-fits = let h = suc_mag k few in small (k +ℤ pos 1) (omega arith)
 
-more-is : (c : tie.Start) → to_z w64 (of_z w64 (c.args.k +ℤ pos 1)) ≡ c.args.k +ℤ pos 1
-more-is c = to_z-of_z w64 (c.args.k +ℤ pos 1) (more-fits c)
+  more-is : to_z w64 (of_z w64 (k +ℤ pos 1)) ≡ k +ℤ pos 1
+  more-is = to_z-of_z w64 (k +ℤ pos 1) more-fits
 
 pub overflow_add-k : goal.overflow_add-k
-overflow_add-k c = rw (k-is c) (more-fits c)
+overflow_add-k c = rw (k-is c.args.k c.ranges.k c.requires) (more-fits c.args.k c.ranges.k c.requires)
 
 pub int_to_float-k : goal.int_to_float-k
-int_to_float-k c = rw (k-is c, more-is c) (in_float_lem (c.args.k +ℤ pos 1) (suc_mag c.args.k c.requires))
+int_to_float-k c =
+    rw (k-is c.args.k c.ranges.k c.requires, more-is c.args.k c.ranges.k c.requires)
+    (in_float_lem (c.args.k +ℤ pos 1) (suc_mag c.args.k c.requires))
 
 pub int_to_float-k-else-m : goal.int_to_float-k-else-m
-int_to_float-k-else-m c = let h = c.requires in rw (k-is c) (in_float_lem c.args.k (omega arith))
+int_to_float-k-else-m c = let h = c.requires in rw (k-is c.args.k c.ranges.k c.requires) (in_float_lem c.args.k (omega arith))
 
 pub returns-then-m : goal.returns-then-m
 unfolding ln_split
-returns-then-m c = rw (c.if-m.true, c.ln_from.ensures, k-is c, more-is c)
+returns-then-m c = rw (c.if-m.true, c.ln_from.ensures, k-is c.args.k c.ranges.k c.requires, more-is c.args.k c.ranges.k c.requires)
 
 pub returns-else-m : goal.returns-else-m
 unfolding ln_split
-returns-else-m c = rw (c.if-m.false, c.ln_from-else-m.ensures, k-is c)
+returns-else-m c = rw (c.if-m.false, c.ln_from-else-m.ensures, k-is c.args.k c.ranges.k c.requires)

@@ -17,10 +17,10 @@ loop-i-init c = (omega arith, refl, refl)
 
 pub int_to_float-x : goal.int_to_float-x
 unfolding in_float
-int_to_float-x c = le→leb _ 9007199254740992 (c.requires _ (omega (arith, c.places.ensures)))
+int_to_float-x c = le→leb _ 9007199254740992 (c.requires _ (omega (arith, c.places-m.ensures)))
 
 pub loop-i-preserved : goal.loop-i-preserved
-loop-i-preserved c = let loop = c.loop in (omega arith, fill-turn _ _ _ refl loop.invariant.1, simp length-set loop.invariant.2)
+loop-i-preserved c = let loop = c.loop-i in (omega arith, fill-turn _ _ _ refl loop.invariant.1, simp length-set loop.invariant.2)
 
 pub returns : goal.returns
 returns c = let e : c.loop-i.i ≡ c.places-m.result = omega arith in

@@ -13,7 +13,7 @@ unfolding fold_to
 loop-i-init c = (omega arith, refl)
 
 pub loop-i-preserved : goal.loop-i-preserved
-loop-i-preserved c = (omega arith, kept-turn _ _ _ c.loop.invariant.1 refl c.added-sum.ensures)
+loop-i-preserved c = (omega arith, kept-turn _ _ _ c.loop-i.invariant.1 refl c.added-sum.ensures)
 
 pub returns : goal.returns
 returns c = let e : c.loop-i.i ≡ c.places-m.result = omega arith in

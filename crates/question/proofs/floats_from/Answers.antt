@@ -14,7 +14,7 @@ unfolding fill
 loop-i-init c = (omega arith, refl, refl)
 
 pub loop-i-preserved : goal.loop-i-preserved
-loop-i-preserved c = (omega arith, fill-turn _ _ _ c.Float-at.ensures c.loop-i.invariant.1, simp length-set c.loop-i.invariant.2)
+loop-i-preserved c = (omega arith, fill-turn _ _ _ c.float_at.ensures c.loop-i.invariant.1, simp length-set c.loop-i.invariant.2)
 
 pub returns : goal.returns
 returns c = let e : c.loop-i.i ≡ c.places-m.result = omega arith in

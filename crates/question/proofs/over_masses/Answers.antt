@@ -15,7 +15,7 @@ unfolding fill
 loop-i-init c = (omega arith, refl, refl)
 
 pub loop-i-preserved : goal.loop-i-preserved
-loop-i-preserved c = let m = rw c.block.ensures at c.Float-at.ensures in
+loop-i-preserved c = let m = rw c.block.ensures at c.float_at.ensures in
     let loop = c.loop-i in
     (omega arith, fill-turn _ _ _ (rw m) loop.invariant.1, simp length-set loop.invariant.2)
 

@@ -7,9 +7,9 @@ use Rattle.question.proofs.read_rest.Goals as goal
 pub returns-in-Refused : goal.returns-in-Refused
 unfolding rest_of
 returns-in-Refused c = rw (← c.floats_from-k.ensures)
-    (inputs_no _ _ _ _ _ c.check_inputs-verdict.ensures c.verdict-1.given.1 c.refused.ensures)
+    (inputs_no _ _ _ _ _ c.check_inputs-verdict.ensures c.in-Refused.is c.refused.ensures)
 
 pub returns-in-Passed : goal.returns-in-Passed
 unfolding rest_of
 returns-in-Passed c = rw (← c.floats_from-k.ensures)
-    (inputs_yes _ _ _ _ _ c.check_inputs-verdict.ensures c.enum_told-1.given.1 c.read_moles.ensures)
+    (inputs_yes _ _ _ _ _ c.check_inputs-verdict.ensures c.in-Passed.is c.read_moles.ensures)

@@ -1,7 +1,7 @@
 -- `question::read_task` meets its contract. Assumes nothing.
 use borrow.Author.Rules.{rules}
 use borrow.Author.Tests.{eq-eqb, ne_eqb}
-use Rattle.floats.proofs.Folds.{was_no, was_yes}
+use Rattle.floats.proofs.Folds.{as_tested, was_no, was_yes}
 use Rattle.question.specs.Asked.{task_in}
 use Rattle.question.proofs.Laws.{reads-no, reads_yes, kind-no, kind_yes, task-test, task-is}
 use Rattle.question.proofs.read_task.Goals as goal
@@ -21,9 +21,9 @@ returns-then-word-ne8 c = search (reads_yes, reads-no, was_yes, eq-eqb, kind-no)
 pub returns-then-not-is_task : goal.returns-then-not-is_task
 unfolding task_in
 returns-then-not-is_task c = let e = c.word-task.ensures in
-    search (reads_yes, reads-no, was_yes, eq-eqb, kind_yes, was_no c.if-not-is_task.true (task-test e c.is_task.ensures))
+    search (reads_yes, reads-no, was_yes, eq-eqb, kind_yes, as_tested c.if-not-is_task.true (task-test e c.is_task.ensures))
 
 pub returns : goal.returns
 unfolding task_in
 returns c = let e = c.word-task.ensures in
-    search (reads_yes, was_yes, eq-eqb, kind_yes, was_yes c.if-not-is_task.false (task-test e c.is_task.ensures), task-is e)
+    search (reads_yes, was_yes, eq-eqb, kind_yes, as_tested c.if-not-is_task.false (task-test e c.is_task.ensures), task-is e)

@@ -17,11 +17,11 @@ pub loop-i-preserved : goal.loop-i-preserved
 unfolding residual_of
 loop-i-preserved c = (
   omega arith,
-  fold_turn _ _ _ c.add_terms-s.ensures.0 c.loop-i.invariant.1,
+  fold_turn _ _ _ c.add_terms-s.ensures.residual_value c.loop-i.invariant.1,
   slope-turn _ _ _ _
-      c.add_terms-s.ensures.1 c.loop-i.invariant.2,
+      c.add_terms-s.ensures.slope_value c.loop-i.invariant.2,
 )
 
 pub returns : goal.returns
 unfolding residual_of
-returns c = (fold_done _ _ _ _ (omega arith) c.loop-i.invariant.1, slope_done _ _ _ _ _ (omega arith) c.loop-i.invariant.2)
+returns c = record { residual_value = fold_done _ _ _ _ (omega arith) c.loop-i.invariant.1; slope_value = slope_done _ _ _ _ _ (omega arith) c.loop-i.invariant.2 }

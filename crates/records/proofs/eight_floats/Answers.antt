@@ -13,7 +13,7 @@ unfolding fill
 loop-k-init c = (omega arith, refl)
 
 pub loop-k-preserved : goal.loop-k-preserved
-loop-k-preserved c = (omega arith, fill-turn _ _ _ c.Float-at.ensures c.loop-k.invariant.1)
+loop-k-preserved c = (omega arith, fill-turn _ _ _ c.float_at.ensures c.loop-k.invariant.1)
 
 pub returns : goal.returns
 returns c = fill_done _ _ _ _ (omega arith) c.loop-k.invariant.1

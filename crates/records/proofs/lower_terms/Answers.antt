@@ -5,8 +5,8 @@ use Rattle.records.proofs.lower_terms.Goals as goal
 
 pub returns-in-Nrtl : goal.returns-in-Nrtl
 unfolding pair_term lower_from
-returns-in-Nrtl c = rw c.enum_told-1.given.1 c.nrtl_terms.ensures
+returns-in-Nrtl c = rw c.in-Nrtl.is c.nrtl_terms.ensures
 
 pub returns-in-Wilson : goal.returns-in-Wilson
 unfolding pair_term lower_from
-returns-in-Wilson c = rw c.enum_told-in-Wilson-1.given.1 c.wilson_terms.ensures
+returns-in-Wilson c = rw c.in-Wilson.is c.wilson_terms.ensures

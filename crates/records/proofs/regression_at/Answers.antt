@@ -13,7 +13,7 @@ unfolding regression_of
 returns c = rw (
   ← c.word.ensures,
   ne_eqb _ _ c.if-word-eq0.false,
-  ← c.Float-at.ensures,
+  ← c.float_at.ensures,
   ← c.float_at-2.ensures,
   ← c.word-2.ensures,
 )

@@ -6,12 +6,12 @@ use Rattle.replies.proofs.rice_block.Goals as goal
 
 pub returns-in-LiquidOnly : goal.returns-in-LiquidOnly
 unfolding rice_block
-returns-in-LiquidOnly c = c.plain_block.ensures ∙ rw (c.enum_told-1.given.1, c.no_state-state.ensures)
+returns-in-LiquidOnly c = c.plain_block.ensures ∙ rw (c.in-LiquidOnly.is, c.no_state-state.ensures)
 
 pub returns-in-VaporOnly : goal.returns-in-VaporOnly
 unfolding rice_block
-returns-in-VaporOnly c = c.plain_block-in-VaporOnly.ensures ∙ rw (c.enum_told-in-VaporOnly-1.given.1, c.no_state-state.ensures)
+returns-in-VaporOnly c = c.plain_block-in-VaporOnly.ensures ∙ rw (c.in-VaporOnly.is, c.no_state-state.ensures)
 
 pub returns-in-TwoPhase : goal.returns-in-TwoPhase
 unfolding rice_block
-returns-in-TwoPhase c = c.plain_block-in-TwoPhase.ensures ∙ rw (c.outcome-1.given.1, c.no_state-state.ensures)
+returns-in-TwoPhase c = c.plain_block-in-TwoPhase.ensures ∙ rw (c.in-TwoPhase.is, c.no_state-state.ensures)

@@ -18,4 +18,4 @@ put_answer-requires c = ((sizes _ _ _ c.if-not-are_sized.false c.are_sized.ensur
 
 pub returns : goal.returns
 returns c = answered _ _ _ _ c.are_sized.ensures c.if-not-are_sized.false (rw (← c.eight-feed.ensures, ← c.eight-ratios.ensures) c.rachford_rice_negative.ensures)
-    c.put_answer.ensures.0 c.put_answer.ensures.1
+    c.put_answer.ensures.value c.put_answer.ensures.out_after

@@ -5,10 +5,10 @@ use Rattle.rice_exports.proofs.Laws.{as_refused, as_passed}
 use Rattle.rice_exports.proofs.put_answer.Goals as goal
 
 pub overflow_add-result : goal.overflow_add-result
-overflow_add-result c = omega (arith, c.requires.1 _ c.verdict-1.given.1)
+overflow_add-result c = omega (arith, c.requires.1 _ c.in-Refused.is)
 
 pub returns-in-Refused : goal.returns-in-Refused
-returns-in-Refused c = as_refused _ _ c.verdict-1.given.1
+returns-in-Refused c = as_refused _ _ c.in-Refused.is
 
 pub returns-in-Passed : goal.returns-in-Passed
-returns-in-Passed c = as_passed _ _ c.enum_told-1.given.1 c.put_phases.ensures.0 c.put_phases.ensures.1
+returns-in-Passed c = as_passed _ _ c.in-Passed.is c.put_phases.ensures.value c.put_phases.ensures.out_after

@@ -12,12 +12,12 @@ returns-in-Refused-pure c = search (bubble-no_pures, c.no_point-in-Refused-pure.
 pub returns-then-abs-o : goal.returns-then-abs-o
 returns-then-abs-o c = let table : _ = c.tables-s.ensures in
     let activity : _ = c.activity-verdict.ensures in
-    let passed : _ = c.enum_told-1.given.1 in
-    bubble_root _ _ _ _ _ _ _ _ _ table activity passed c.pure_liquids-pure.ensures c.enum_told-in-Passed-pure-1.given.1 c.places.ensures
+    let passed : _ = c.in-Passed.is in
+    bubble_root _ _ _ _ _ _ _ _ _ table activity passed c.pure_liquids-pure.ensures c.in-Passed-pure.is c.places.ensures
     c.weigh-w.ensures c.ln.ensures c.ln-2.ensures c.abs.ensures c.if-abs-o.true
     (c.bubble_with-root.ensures _ _ (feed-is _ _ _ _ _ table activity passed)) refl
 
 pub returns : goal.returns
-returns c = bubble-off _ _ _ _ _ _ _ _ _ c.tables-s.ensures c.activity-verdict.ensures c.enum_told-1.given.1 c.pure_liquids-pure.ensures
-    c.enum_told-in-Passed-pure-1.given.1 c.places.ensures c.weigh-w.ensures c.ln.ensures c.ln-2.ensures c.abs.ensures
+returns c = bubble-off _ _ _ _ _ _ _ _ _ c.tables-s.ensures c.activity-verdict.ensures c.in-Passed.is c.pure_liquids-pure.ensures
+    c.in-Passed-pure.is c.places.ensures c.weigh-w.ensures c.ln.ensures c.ln-2.ensures c.abs.ensures
     c.if-abs-o.false c.no_saturation-none.ensures refl

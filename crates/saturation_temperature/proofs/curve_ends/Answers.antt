@@ -16,9 +16,9 @@ pub returns-then-abs-o-2 : goal.returns-then-abs-o-2
 returns-then-abs-o-2 c = search high-found
 
 pub returns-then-a-b : goal.returns-then-a-b
-returns-then-a-b c = unbracketed _ _ _ c.curve_point-a.ensures c.enum_told-1.given.1 c.curve_point-b.ensures c.enum_told-in-Passed-high-1.given.1
+returns-then-a-b c = unbracketed _ _ _ c.curve_point-a.ensures c.in-Passed.is c.curve_point-b.ensures c.in-Passed-high.is
     c.abs.ensures c.if-abs-o.false c.abs-2.ensures c.if-abs-o-2.false c.if-a-b.true c.refused-then-a-b.ensures
 
 pub returns : goal.returns
-returns c = bracketed _ _ _ c.curve_point-a.ensures c.enum_told-1.given.1 c.curve_point-b.ensures c.enum_told-in-Passed-high-1.given.1
+returns c = bracketed _ _ _ c.curve_point-a.ensures c.in-Passed.is c.curve_point-b.ensures c.in-Passed-high.is
     c.abs.ensures c.if-abs-o.false c.abs-2.ensures c.if-abs-o-2.false c.if-a-b.false c.middle-next.ensures c.inside.ensures

@@ -13,11 +13,11 @@ pub returns-then-abs-o : goal.returns-then-abs-o
 returns-then-abs-o c = let pure : _ = c.pure_liquids-pure.ensures in
     let table : _ = c.tables-s.ensures in
     let d : _ = c.dew_at-d.ensures in
-    let passed : _ = c.enum_told-in-Passed-verdict-1.given.1 in
-    dew_root _ _ _ _ _ _ _ _ _ _ pure c.enum_told-1.given.1 table d passed c.places.ensures c.dew_slope-slope.ensures
+    let passed : _ = c.in-Passed-verdict.is in
+    dew_root _ _ _ _ _ _ _ _ _ _ pure c.in-Passed.is table d passed c.places.ensures c.dew_slope-slope.ensures
     c.ln.ensures c.ln-2.ensures c.abs.ensures c.if-abs-o.true (c.dew_with-root.ensures _ _ (dew_on _ _ _ _ _ table _ _ d) passed) refl
 
 pub returns : goal.returns
-returns c = dew-off _ _ _ _ _ _ _ _ _ _ c.pure_liquids-pure.ensures c.enum_told-1.given.1 c.tables-s.ensures c.dew_at-d.ensures
-    c.enum_told-in-Passed-verdict-1.given.1 c.places.ensures c.dew_slope-slope.ensures c.ln.ensures c.ln-2.ensures c.abs.ensures
+returns c = dew-off _ _ _ _ _ _ _ _ _ _ c.pure_liquids-pure.ensures c.in-Passed.is c.tables-s.ensures c.dew_at-d.ensures
+    c.in-Passed-verdict.is c.places.ensures c.dew_slope-slope.ensures c.ln.ensures c.ln-2.ensures c.abs.ensures
     c.if-abs-o.false c.no_saturation-none.ensures refl

@@ -7,8 +7,8 @@ use Rattle.sheet.proofs.Dispatch.{short, asked, solved_at}
 use Rattle.sheet.proofs.answer_ready.Goals as goal
 
 pub returns-then-out-lt-ANSWER_ROOM : goal.returns-then-out-lt-ANSWER_ROOM
-returns-then-out-lt-ANSWER_ROOM c = search short
+returns-then-out-lt-ANSWER_ROOM c e h = search short
 
 pub returns : goal.returns
-returns c = let answered = rw copy-nothing at c.answer_at.ensures in
-    asked _ _ _ c.rule-of.ensures (omega arith) (solved_at _ _ _ refl e (answered h))
+returns c e h = let answered = rw copy-nothing at c.answer_at.ensures in
+    asked _ _ _ c.rule_of.ensures (omega arith) (solved_at _ _ _ refl e (answered h))

@@ -4,10 +4,10 @@ use Rattle.sheet.proofs.Shared.{flash_cold, flash_hard, flash_pressed}
 use Rattle.sheet.proofs.flash_pressures.Goals as goal
 
 pub returns-then-not-check_temperature : goal.returns-then-not-check_temperature
-returns-then-not-check_temperature c = search flash_cold
+returns-then-not-check_temperature c P copy = search flash_cold
 
 pub returns-then-not-check_pressure : goal.returns-then-not-check_pressure
-returns-then-not-check_pressure c = search flash_hard
+returns-then-not-check_pressure c P copy = search flash_hard
 
 pub returns : goal.returns
-returns c = search flash_pressed
+returns c P copy = search flash_pressed

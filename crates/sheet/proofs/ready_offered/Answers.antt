@@ -4,10 +4,10 @@ use Rattle.sheet.proofs.Shared.{pressures-copied, ready_cold, ready_refused, rea
 use Rattle.sheet.proofs.ready_offered.Goals as goal
 
 pub returns-in-No : goal.returns-in-No
-returns-in-No c = search ready_cold
+returns-in-No c l = search ready_cold
 
 pub returns-in-Refused : goal.returns-in-Refused
-returns-in-Refused c = ready_refused _ _ _ _ c.new-made.ensures c.made-in-Valid-1.given.1 (pressures-copied _ _ _ _ _ _ c.pressures_for-verdict.ensures) c.verdict-1.given.1
+returns-in-Refused c l = ready_refused _ _ _ _ c.new-made.ensures c.in-Valid.is (pressures-copied _ _ _ _ _ _ c.pressures_for-verdict.ensures) c.in-Refused.is
 
 pub returns-in-Passed : goal.returns-in-Passed
-returns-in-Passed c = ready_made _ _ _ _ c.new-made.ensures c.made-in-Valid-1.given.1 (pressures-copied _ _ _ _ _ _ c.pressures_for-verdict.ensures) c.enum_told-1.given.1 (c.tables_at.ensures l)
+returns-in-Passed c l = ready_made _ _ _ _ c.new-made.ensures c.in-Valid.is (pressures-copied _ _ _ _ _ _ c.pressures_for-verdict.ensures) c.in-Passed.is (c.tables_at.ensures l)

@@ -4,4 +4,4 @@ use Rattle.sheet.proofs.Shared.{tabled}
 use Rattle.sheet.proofs.tables_at.Goals as goal
 
 pub returns : goal.returns
-returns c = tabled _ _ _ c.parameters.ensures c.tables.ensures l
+returns c l = tabled _ _ _ c.parameters.ensures c.tables.ensures l

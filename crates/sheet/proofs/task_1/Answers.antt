@@ -6,4 +6,4 @@ use Rattle.sheet.proofs.task_1.Goals as goal
 
 pub returns : goal.returns
 unfolding task1
-returns c = search (excess-asked, h)
+returns c h = search (excess-asked, h)

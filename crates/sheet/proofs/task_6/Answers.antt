@@ -8,4 +8,4 @@ pub write_answer-requires : goal.write_answer-requires
 write_answer-requires c = let z = stability_fits _ _ _ _ c.liquid_stability-found.ensures c.stability_block-b.ensures in (z.0, z.1, omega arith)
 
 pub returns : goal.returns
-returns c = search (stability_says, h)
+returns c m h = search (stability_says, h)

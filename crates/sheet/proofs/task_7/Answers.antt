@@ -8,4 +8,4 @@ pub write_answer-requires : goal.write_answer-requires
 write_answer-requires c = let z = flash_fits _ _ _ _ _ _ c.activity_tp_flash-f.ensures c.flash_block-b.ensures in (z.0, z.1, omega arith)
 
 pub returns : goal.returns
-returns c = search (flash_says, h, w)
+returns c m h w = search (flash_says, h, w)

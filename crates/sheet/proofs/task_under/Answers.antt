@@ -4,7 +4,7 @@ use Rattle.sheet.proofs.Dispatch.{under_4, under_5}
 use Rattle.sheet.proofs.task_under.Goals as goal
 
 pub returns-then-q-eq4 : goal.returns-then-q-eq4
-returns-then-q-eq4 c = search under_4
+returns-then-q-eq4 c copy = search under_4
 
 pub returns : goal.returns
-returns c = search under_5
+returns c copy = search under_5

@@ -3,7 +3,7 @@ use mathlib.Core.Path.{◌≡◌, refl, sym}
 use Prim.Native.Nat.{◌≤◌, ◌-◌}
 use native.Mathlib.Omega.{arith}
 use borrow.Author.Rules.{rules}
-use Rattle.floats.proofs.Folds.{all_turn, all_fails, all_end, was_no, was_yes}
+use Rattle.floats.proofs.Folds.{as_tested, all_turn, all_fails, all_end, was_no, was_yes}
 use Rattle.floats.specs.Fold.{all_to}
 use Rattle.thermo_models.specs.Domain.{solvent_covers}
 use Rattle.thermo_models.proofs.all_cover.Goals as goal
@@ -13,10 +13,10 @@ unfolding all_to
 loop-i-init c = (omega arith, refl)
 
 pub returns-then-not-solvent_covers : goal.returns-then-not-solvent_covers
-returns-then-not-solvent_covers c = sym (all_fails _ _ _ c.loop-i-test.true (was_no c.if-not-solvent_covers.true c.solvent_covers.ensures))
+returns-then-not-solvent_covers c = sym (all_fails _ _ _ c.loop-i-test.true (as_tested c.if-not-solvent_covers.true c.solvent_covers.ensures))
 
 pub loop-i-preserved : goal.loop-i-preserved
-loop-i-preserved c = (omega arith, all_turn _ _ c.loop-i.invariant.1 (was_yes c.if-not-solvent_covers.false c.solvent_covers.ensures))
+loop-i-preserved c = (omega arith, all_turn _ _ c.loop-i.invariant.1 (as_tested c.if-not-solvent_covers.false c.solvent_covers.ensures))
 
 pub returns : goal.returns
 returns c = all_end _ _ _ c.loop-i.invariant.0 c.loop-i-test.false c.loop-i.invariant.1

@@ -5,8 +5,8 @@ use Rattle.thermo_models.proofs.note.Goals as goal
 
 pub returns-in-None : goal.returns-in-None
 unfolding noted
-returns-in-None c = rw c.enum_told-1.given.1
+returns-in-None c = rw c.in-None.is
 
 pub returns-in-Interval : goal.returns-in-Interval
 unfolding noted
-returns-in-Interval c = rw (c.r-1.given.1, ← c.in_range.ensures)
+returns-in-Interval c = rw (c.in-Interval.is, ← c.in_range.ensures)

@@ -1,4 +1,4 @@
-use Rattle.floats.proofs.Folds.{was_no, was_yes, all_turn, all_fails, all_end}
+use Rattle.floats.proofs.Folds.{as_tested, was_no, was_yes, all_turn, all_fails, all_end}
 use Rattle.floats.specs.Vector.{at, places}
 use Rattle.floats.specs.Small.{is_finite}
 use Rattle.floats.specs.Fold.{all_to}
@@ -14,10 +14,10 @@ unfolding all_to
 loop-i-init c = (c.places-m.ensures, omega arith, refl)
 
 pub returns-then-not-is_finite : goal.returns-then-not-is_finite
-returns-then-not-is_finite c = rw (← c.loop-i.invariant.0) (sym (all_fails _ _ _ c.loop-i-test.true (was_no c.if-not-is_finite.true c.is_finite.ensures)))
+returns-then-not-is_finite c = rw (← c.loop-i.invariant.0) (sym (all_fails _ _ _ c.loop-i-test.true (as_tested c.if-not-is_finite.true c.is_finite.ensures)))
 
 pub loop-i-preserved : goal.loop-i-preserved
-loop-i-preserved c = (c.loop-i.invariant.0, omega arith, all_turn _ _ c.loop-i.invariant.2 (was_yes c.if-not-is_finite.false c.is_finite.ensures))
+loop-i-preserved c = (c.loop-i.invariant.0, omega arith, all_turn _ _ c.loop-i.invariant.2 (as_tested c.if-not-is_finite.false c.is_finite.ensures))
 
 pub returns : goal.returns
 returns c = rw (← c.loop-i.invariant.0) (all_end _ _ _ c.loop-i.invariant.1 c.loop-i-test.false c.loop-i.invariant.2)

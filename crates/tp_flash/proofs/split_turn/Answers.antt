@@ -13,5 +13,5 @@ pub returns-in-Refused-vapor_verdict : goal.returns-in-Refused-vapor_verdict
 returns-in-Refused-vapor_verdict c = search vapor_vanished
 
 pub returns : goal.returns
-returns c = rice-two _ _ _ _ _ _ _ c.k_values-k.ensures c.rachford_rice_negative-rr.ensures c.enum_told-1.given.1 c.phase_of-x.ensures
-    c.enum_told-in_default-liquid_verdict-1.given.1 c.phase_of-y.ensures c.enum_told-in_default-vapor_verdict-1.given.1 c.vapor_fraction-beta.ensures c.turn_at.ensures
+returns c = rice-two _ _ _ _ _ _ _ c.k_values-k.ensures c.rachford_rice_negative-rr.ensures c.in_default.is c.phase_of-x.ensures
+    c.in_default-liquid_verdict.is c.phase_of-y.ensures c.in_default-vapor_verdict.is c.vapor_fraction-beta.ensures c.turn_at.ensures

@@ -5,8 +5,8 @@ use Rattle.tp_flash.proofs.stops_at.Goals as goal
 
 pub returns-in-Passed : goal.returns-in-Passed
 unfolding stops_at
-returns-in-Passed c = rw c.enum_told-1.given.1
+returns-in-Passed c = rw c.in-Passed.is
 
 pub returns-in-Refused : goal.returns-in-Refused
 unfolding stops_at
-returns-in-Refused c = rw c.enum_told-in-Refused-1.given.1
+returns-in-Refused c = rw c.in-Refused.is

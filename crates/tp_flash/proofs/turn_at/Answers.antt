@@ -10,5 +10,5 @@ pub returns-then-not-is_finite : goal.returns-then-not-is_finite
 returns-then-not-is_finite c = search turn_gap
 
 pub returns : goal.returns
-returns c = turn_good _ _ _ _ _ _ _ _ _ c.activity-verdict.ensures c.enum_told-1.given.1 c.split_gap-residual.ensures c.is_finite.ensures
+returns c = turn_good _ _ _ _ _ _ _ _ _ c.activity-verdict.ensures c.in_default.is c.split_gap-residual.ensures c.is_finite.ensures
     c.if-not-is_finite.false

@@ -1,17 +1,17 @@
 use Rattle.thermo_types.specs.Quantities.{positive_of, new_pressure}
 use Rattle.floats.specs.Outcome.{need}
-use Rattle.floats.proofs.Folds.{was_no, was_yes}
+use Rattle.floats.proofs.Folds.{as_tested, was_no, was_yes}
 use borrow.Author.Rules.{rules}
 use Rattle.thermo_types.proofs.Pressure.new.Goals as goal
 
 pub returns-then-not-is_finite : goal.returns-then-not-is_finite
 unfolding positive_of need new_pressure
-returns-then-not-is_finite c = rw (was_no c.if-not-is_finite.true c.is_finite.ensures)
+returns-then-not-is_finite c = rw (as_tested c.if-not-is_finite.true c.is_finite.ensures)
 
 pub returns-then-v : goal.returns-then-v
 unfolding positive_of need new_pressure
-returns-then-v c = rw (was_yes c.if-not-is_finite.false c.is_finite.ensures, c.if-v.true)
+returns-then-v c = rw (as_tested c.if-not-is_finite.false c.is_finite.ensures, c.if-v.true)
 
 pub returns-else-v : goal.returns-else-v
 unfolding positive_of need new_pressure
-returns-else-v c = rw (was_yes c.if-not-is_finite.false c.is_finite.ensures, c.if-v.false)
+returns-else-v c = rw (as_tested c.if-not-is_finite.false c.is_finite.ensures, c.if-v.false)
