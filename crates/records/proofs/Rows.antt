@@ -1,5 +1,5 @@
 -- The places of pairs as the code works them out: at n up to 8 antt computes both sides. Assumes nothing.
-use mathlib.Core.Path.{◌≡◌, refl, sym, ◌∙◌}
+use mathlib.Core.Path.{◌≡◌, refl, sym, ap, ◌∙◌}
 use mathlib.Core.Bool.{Bool, true}
 use mathlib.Core.Logic.{⊎_elim}
 use Prim.Native.Nat.{ℕ, zero, suc, ◌+◌, ◌-◌, ◌*◌, ◌/◌, ◌≤◌, ◌<◌}
@@ -38,7 +38,7 @@ unfolding row_from
 row-past n zero h = let e : n ≡ 0 = omega arith in rw e
 row-past n (suc i) h =
     ⊎_elim
-    (λ (e : n ≡ suc i). rw e)
+    (λ (e : n ≡ suc i). ap (λ (k : ℕ). row_from n k) e)
     (λ (l : n < suc i). let z : n - i - 1 ≡ 0 = omega arith in row-past n i (omega arith) ∙ rw z (sym (add-zero (row_from n i))))
     (eq-or-lt_of_le h)
 
