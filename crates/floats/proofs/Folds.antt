@@ -88,6 +88,14 @@ all_cong {p} {q} (suc n) e =
 pub as_tested : {b t r : Bool} → b ≡ r → b ≡ t → t ≡ r
 as_tested h e = sym e ∙ h
 
+pub not_of_false : {b : Bool} → b ≡ false → not b ≡ true
+unfolding not
+not_of_false e = rw e
+
+pub not_of_true : {b : Bool} → b ≡ true → not b ≡ false
+unfolding not
+not_of_true e = rw e
+
 -- a test `if !f(..)`: what f ensures of its result says what the test found
 pub was_no : {b t : Bool} → not b ≡ true → b ≡ t → t ≡ false
 was_no {b} n e = sym e ∙ not-true b n

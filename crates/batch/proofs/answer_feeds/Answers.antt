@@ -25,7 +25,7 @@ pub loop-k-preserved : goal.loop-k-preserved
 loop-k-preserved c = let l = c.loop-k in
     let p = c.requires in
     let e = c.answer_feed-kept.ensures in
-    (omega arith, feeds_turn _ _ _ _ _ _ _ _ p.2 c.feed_at-x.ensures e.1 l.invariant.1, e.0, omega arith)
+    (omega arith, feeds_turn _ _ _ _ _ _ _ _ p.2 c.feed_at-x.ensures e.out_after l.invariant.1, e.keeps, omega arith)
 
 pub returns : goal.returns
 unfolding parts_to

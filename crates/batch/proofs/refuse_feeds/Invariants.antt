@@ -14,7 +14,7 @@ use Rattle.batch.proofs.refuse_feeds.Given as goal
 
 abbrev pub invariant-loop-k : goal.invariant-loop-k
 invariant-loop-k l =
-    (l.k ≤ l.count) × (l.out ≡ fold_to (λ j (l : List ℕ). put l (answer_room * j) (refusal_bytes l.rule l.question l.number)) l.initial.out l.k) × (length l.out ≡ length l.initial.out)
+    (l.k ≤ l.count) × (l.out ≡ fold_to (λ j (s : List ℕ). put s (answer_room * j) (refusal_bytes l.rule l.question l.number)) l.initial.out l.k) × (length l.out ≡ length l.initial.out)
 
 abbrev pub decreases-loop-k : goal.decreases-loop-k
 decreases-loop-k l = l.count - l.k

@@ -8,7 +8,7 @@ unfolding row_to
 loop-k-init c = (omega arith, refl, refl)
 
 pub loop-k-preserved : goal.loop-k-preserved
-loop-k-preserved c = (omega arith, word-turn _ _ _ c.loop-k.invariant.1 c.Store-word.ensures, omega arith)
+loop-k-preserved c = (omega arith, word-turn _ _ _ c.loop-k.invariant.1 c.store_word.ensures, omega arith)
 
 pub returns : goal.returns
 returns c = words-end _ _ _ c.loop-k.invariant.0 c.loop-k-test.false c.loop-k.invariant.1 c.store_word-2.ensures

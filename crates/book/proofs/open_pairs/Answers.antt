@@ -16,8 +16,8 @@ returns-then-pairs_sound c = pairs_pass _ _ c.pair_count-count.ensures.0 (as_tes
 
 pub returns-then-not-pairs_finite : goal.returns-then-not-pairs_finite
 returns-then-not-pairs_finite c = pairs_infinite _ _ c.pair_count-count.ensures.0 (as_tested c.if-not-pairs_right.false c.pairs_right.ensures) c.pairs_sound.ensures
-    c.pairs_finite.ensures (not-true _ c.if-not-pairs_finite.true)
+    c.pairs_finite.ensures c.if-not-pairs_finite.true
 
 pub returns : goal.returns
 returns c = pairs-unequal _ _ c.pair_count-count.ensures.0 (as_tested c.if-not-pairs_right.false c.pairs_right.ensures) c.pairs_sound.ensures
-    c.pairs_finite.ensures (not-false _ c.if-not-pairs_finite.false) c.if-pairs_sound.false
+    c.pairs_finite.ensures c.if-not-pairs_finite.false c.if-pairs_sound.false

@@ -7,6 +7,7 @@ use Rattle.floats.specs.Fold.{fold_to}
 use Rattle.liquid_stability.specs.Stability.{present_count}
 use Rattle.liquid_stability.proofs.Laws.{count-present, count-absent}
 use Rattle.liquid_stability.proofs.present.Goals as goal
+use Rattle.liquid_stability.proofs.present.Goals.{then-x-i, else-x-i}
 
 pub loop-i-init : goal.loop-i-init
 unfolding present_count fold_to
@@ -15,8 +16,8 @@ loop-i-init c = (omega arith, omega arith, refl)
 pub loop-i-preserved : goal.loop-i-preserved
 loop-i-preserved c = let l = c.loop-i in (
   omega arith,
-  ⊎_elim (λ w. omega arith) (λ w. omega arith) c.if-x-i.branch,
-  ⊎_elim (λ w. count-present _ _ l.invariant.2 w.0.taken w.1) (λ w. count-absent _ _ l.invariant.2 w.0.left w.1) c.if-x-i.branch,
+  elim c.if-x-i.branch [ then-x-i w ↦ omega arith | else-x-i w ↦ omega arith ],
+  elim c.if-x-i.branch [ then-x-i w ↦ count-present _ _ l.invariant.2 w.if-x-i.true w.count-is | else-x-i w ↦ count-absent _ _ l.invariant.2 w.if-x-i.false w.count-is ],
 )
 
 pub returns : goal.returns

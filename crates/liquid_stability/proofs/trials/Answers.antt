@@ -7,6 +7,7 @@ use Rattle.liquid_stability.specs.Stability.{trials_to}
 use Rattle.thermo_models.specs.Activity.{activity_on}
 use Rattle.liquid_stability.proofs.Laws.{so_far, trials-none, trials-refused, trials_done, trials_skip, trials-more}
 use Rattle.liquid_stability.proofs.trials.Goals as goal
+use Rattle.liquid_stability.proofs.trials.Goals.{then-x-j+in_default, else-x-j}
 
 pub loop-j-init : goal.loop-j-init
 loop-j-init c = (omega arith, omega arith, trials-none _ _ _ _ _ c.no_trial-none.ensures)
@@ -17,12 +18,12 @@ returns-in-Refused c = search trials-refused
 pub loop-j-preserved : goal.loop-j-preserved
 loop-j-preserved c = (
   omega arith,
-  ⊎_elim (λ w. omega arith) (λ w. omega arith) c.if-x-j.branch,
-  ⊎_elim
-      (λ w. trials-more _ _ _ _ _ _ c.loop-j.invariant.2 w.0.taken c.requires.1 w.1.ensures w.3.given.1 w.5.ensures w.6
-      w.7 w.8)
-      (λ w. trials_skip _ _ _ _ _ _ c.loop-j.invariant.2 w.0.left w.1 w.2 w.3)
-      c.if-x-j.branch,
+  elim c.if-x-j.branch [ then-x-j+in_default w ↦ omega arith | else-x-j w ↦ omega arith ],
+  elim c.if-x-j.branch [
+    | then-x-j+in_default w ↦ trials-more _ _ _ _ _ _ c.loop-j.invariant.2 w.if-x-j.true c.requires.1 w.trial-s.ensures w.in_default.is w.is_unstable.ensures w.trials-is
+        w.count-is w.stable-is
+    | else-x-j w ↦ trials_skip _ _ _ _ _ _ c.loop-j.invariant.2 w.if-x-j.false w.trials-is w.count-is w.stable-is
+  ],
 )
 
 pub returns : goal.returns

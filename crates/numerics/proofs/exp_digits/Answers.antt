@@ -4,9 +4,9 @@ use lib.Ieee.{binary64, of_bits, neg, fits}
 use Rattle.numerics.proofs.Guess.{two_products, one_product}
 use Rattle.numerics.proofs.exp_digits.Goals as goal
 
-held : (c : tie.Start) → T (fits binary64 c.args.v)
-held c = subst T (sym c.well-formed.0.1) tt
-
 pub returns : goal.returns
 unfolding of_bits neg
-returns c = (λ k e. two_products c.args.v refl k e, λ a b e. one_product c.args.v refl (held c) a b e)
+returns c = record {
+  pos_value = λ k e. two_products c.args.v refl k e;
+  v_value = λ a b e. one_product c.args.v refl (subst T (sym c.well_formed.0.1) tt) a b e;
+}

@@ -1,7 +1,7 @@
 -- `numerics::exp_far` meets its contract. Each arm returns what `exp_of` picks where the tests are as the arm found them; what the two calls require is in `proofs/Limits.antt`.
 use Rattle.std.proofs.Common.{◌≡◌, ◌<◌, ℤ, sym, refl, ap, ◌∙◌, arith, lit<, w64, to_z, of_z, false, rules}
 use lib.Signed.{mag}
-use lib.Ieee.{Float, of_bits, neg, nan_bits, to_signed, lt}
+use lib.Ieee.{Float, is_nan, of_bits, neg, nan_bits, to_signed, lt}
 use mir.ValLaws.{to_z-of_z}
 use Rattle.floats.specs.Arithmetic.{#}
 use Rattle.numerics.specs.Numerics.{exp_of, exp_from, exp_shift}
@@ -52,7 +52,7 @@ pub truncating_f64_to_i64-requires : goal.truncating_f64_to_i64-requires
 truncating_f64_to_i64-requires c =
     let x = exp_shift c.args.v in
     let w = within c.args.v (nan_if c.args.v c.if-v.false) c.if-v-2.false c.if-v-3.false in
-    rw c.exp_shift.ensures (above-min 1493 x (lit< tt) w, below-max 1493 x (lit< tt) w)
+    rw c.exp_shift.ensures (record { lower_bound = above-min 1493 x (lit< tt) w; upper_bound = below-max 1493 x (lit< tt) w })
 
 pub exp_from-requires : goal.exp_from-requires
 exp_from-requires c =

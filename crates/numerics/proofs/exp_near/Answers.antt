@@ -22,4 +22,4 @@ pub returns : goal.returns
 returns c =
     let w = c.kept-w.result in
     let u = to_bits binary64 (C ⊗ w ⊕ # 0x43380000000003ff) % 2048 in
-    near-is c.args.v w c.count-f.result c.exp_digits.result u (omega arith) (c.type_inv.v) c.kept-w.ensures c.count-f.ensures c.exp_digits.ensures.v_value
+    near-is c.args.v w c.count-f.result c.exp_digits.result u (omega arith) (subst T (sym c.well_formed.0.1) tt) c.kept-w.ensures c.count-f.ensures c.exp_digits.ensures.v_value

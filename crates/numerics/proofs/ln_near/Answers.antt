@@ -13,7 +13,7 @@ pub float_to_bits-bits : goal.float_to_bits-bits
 float_to_bits-bits c = no_nan_of c.kept_above-bits.result (subst (λ (z : Float). T (positive z)) (sym c.kept_above-bits.ensures) (kept-positive c.args.v))
 
 pub ln_fields-requires : goal.ln_fields-requires
-ln_fields-requires c = (near_field c.args.v c.kept_above-bits.result c.type_inv.v c.kept_above-bits.ensures, omega arith)
+ln_fields-requires c = (near_field c.args.v c.kept_above-bits.result (subst T (sym c.well_formed.0.1) tt) c.kept_above-bits.ensures, omega arith)
 
 pub returns : goal.returns
-returns c = near-ln c.args.v c.kept_above-bits.result c.ln_fields.result c.type_inv.v c.kept_above-bits.ensures c.ln_fields.ensures
+returns c = near-ln c.args.v c.kept_above-bits.result c.ln_fields.result (subst T (sym c.well_formed.0.1) tt) c.kept_above-bits.ensures c.ln_fields.ensures

@@ -16,14 +16,14 @@ float_to_bits-bits c = no_nan_of c.args.v c.requires
 pub ln_digits-requires : goal.ln_digits-requires
 ln_digits-requires c =
     let v = c.args.v in
-    let r = subnormal (to_bits binary64 v) (read-positive v c.type_inv.v c.requires) c.if-field-eq0.true in
-    (lit< tt, r.0, omega arith, sym (of_bits-to_bits binary64 v c.type_inv.v) ∙ r.1)
+    let r = subnormal (to_bits binary64 v) (read-positive v (subst T (sym c.well_formed.0.1) tt) c.requires) c.if-field-eq0.true in
+    (lit< tt, r.0, omega arith, sym (of_bits-to_bits binary64 v (subst T (sym c.well_formed.0.1) tt)) ∙ r.1)
 
 pub ln_fields-requires : goal.ln_fields-requires
-ln_fields-requires c = (field_lt (to_bits binary64 c.args.v) (read-positive c.args.v c.type_inv.v c.requires), omega arith)
+ln_fields-requires c = (field_lt (to_bits binary64 c.args.v) (read-positive c.args.v (subst T (sym c.well_formed.0.1) tt) c.requires), omega arith)
 
 pub returns-else-field-eq0 : goal.returns-else-field-eq0
 returns-else-field-eq0 c =
     let v = c.args.v in
     let n = c.if-field-eq0.false in
-    normal-split v (to_bits binary64 v) (of_bits-to_bits binary64 v c.type_inv.v) c.requires (omega arith) c.ln_fields.ensures
+    normal-split v (to_bits binary64 v) (of_bits-to_bits binary64 v (subst T (sym c.well_formed.0.1) tt)) c.requires (omega arith) c.ln_fields.ensures

@@ -1,28 +1,33 @@
 -- `numerics::power` meets its contract: the pattern's field is a + 1023 (`proofs/Powers.antt`).
-use Rattle.std.proofs.Common.{◌≡◌, ◌*◌, ◌<◌, pos, ◌+ℤ◌, arith, w64, to_z, of_z}
+use Rattle.std.proofs.Common.{◌≡◌, ◌*◌, ◌<◌, ℤ, SFits, pos, ◌+ℤ◌, arith, w64, to_z, of_z}
+use lib.Signed.{mag}
 use lib.Ieee.{nan_bits, binary64}
 use mir.ValLaws.{to_z-of_z}
 use Rattle.floats.proofs.Nan.{no_nan}
 use Rattle.numerics.proofs.Powers.{bias, bias_in, plus-fits, field_back, power-is, no_nan_field}
 use Rattle.numerics.proofs.power.Goals as goal
 
-is : (c : tie.Start) → to_z w64 (of_z w64 (to_z w64 (of_z w64 c.args.a) +ℤ pos 1023)) ≡ pos (bias c.args.a)
-is c = field_back c.args.a c.ranges.a c.requires
+-- what the machine adds up, read back
+module _ (a : ℤ) (range : SFits w64 a) (few : mag a < 1022) where
+  is : to_z w64 (of_z w64 (to_z w64 (of_z w64 a) +ℤ pos 1023)) ≡ pos (bias a)
+  is = field_back a range few
 
-in-range : (c : tie.Start) → (0 < bias c.args.a) × (bias c.args.a < 2046)
-in-range c = bias_in c.args.a c.requires
+  in-range : (0 < bias a) × (bias a < 2046)
+  in-range = bias_in a few
 
 pub overflow_add-result : goal.overflow_add-result
 overflow_add-result c = rw (to_z-of_z w64 c.args.a c.ranges.a) (plus-fits c.args.a c.requires)
 
 pub overflow_cast-result : goal.overflow_cast-result
-overflow_cast-result c = let b = in-range c in rw (is c) (tt, omega arith)
+overflow_cast-result c = let b = in-range c.args.a c.ranges.a c.requires in rw (is c.args.a c.ranges.a c.requires) (tt, omega arith)
 
 pub overflow_mul-result : goal.overflow_mul-result
-overflow_mul-result c = let b = in-range c in rw (is c) (omega arith)
+overflow_mul-result c = let b = in-range c.args.a c.ranges.a c.requires in rw (is c.args.a c.ranges.a c.requires) (omega arith)
 
 pub float_from_bits-result : goal.float_from_bits-result
-float_from_bits-result c = let b = in-range c in rw (is c) (no_nan (nan_bits binary64 (bias c.args.a * 4503599627370496)) (no_nan_field (bias c.args.a) (omega arith)))
+float_from_bits-result c =
+    let b = in-range c.args.a c.ranges.a c.requires in
+    rw (is c.args.a c.ranges.a c.requires) (no_nan (nan_bits binary64 (bias c.args.a * 4503599627370496)) (no_nan_field (bias c.args.a) (omega arith)))
 
 pub returns : goal.returns
-returns c = rw (is c) (power-is c.args.a c.requires)
+returns c = rw (is c.args.a c.ranges.a c.requires) (power-is c.args.a c.requires)

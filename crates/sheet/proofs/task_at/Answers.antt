@@ -18,5 +18,5 @@ pub returns-in-6 : goal.returns-in-6
 returns-in-6 c h w = at_6 _ _ _ _ c.in-6.is (c.task_6.ensures _ h)
 
 pub returns-in_default : goal.returns-in_default
-returns-in_default c h w = let n = c.in_default.rest in
+returns-in_default c h w = let n = c.in_default.in_default-own.rest in
     at_rest _ _ _ _ n.0.0.0.1 n.0.0.1 n.0.1 n.1 (c.task_at_pressure.ensures _ h (sym (pressures-rest _ _ _ n.0.0.0.1 n.1 n.0.0.1 n.0.1) ∙ w))

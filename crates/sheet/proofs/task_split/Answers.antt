@@ -10,4 +10,4 @@ pub returns-in-9 : goal.returns-in-9
 returns-in-9 c = search split_9
 
 pub returns-in_default : goal.returns-in_default
-returns-in_default c = split-none _ _ _ c.in_default.rest.0.1 c.in_default.rest.1
+returns-in_default c = split-none _ _ _ c.in_default.in_default-own.rest.0.1 c.in_default.in_default-own.rest.1

@@ -18,5 +18,8 @@ loop-i-preserved c = let a = c.loop-i in
     (omega arith, fill-turn _ _ _ h.0 a.invariant.1, fill-turn _ _ _ h.1 a.invariant.2, fill-turn _ _ _ h.2 a.invariant.3)
 
 pub returns : goal.returns
-returns c = let a = c.loop-i in
-    (fill_done _ _ _ _ (omega arith) a.invariant.1, (fill_done _ _ _ _ (omega arith) a.invariant.2, fill_done _ _ _ _ (omega arith) a.invariant.3))
+returns c = let a = c.loop-i.invariant in record {
+  ls_after = fill_done _ _ _ _ (omega arith) a.1;
+  dps_after = fill_done _ _ _ _ (omega arith) a.2;
+  cs_after = fill_done _ _ _ _ (omega arith) a.3;
+}
