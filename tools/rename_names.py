@@ -1,9 +1,11 @@
 #!/usr/bin/env python3
-"""Brings the repository's own definitions and lemmas to today's spelling: words in snake case, types and modules in upper camel case; in a lemma's name a dash
-joins two names, and a plain word is added with `_`. Run once, at the top of a tree that port.py has turned: tools/rename_names.py [--list] ROOT
+"""Brings the repository's own definitions and lemmas to today's spelling: words in snake case, types and modules in
+upper camel case; in a lemma's name a dash joins two names, and a plain word is added with `_`.
+Run once, on a tree that port.py has turned: tools/rename_names.py [--list] ROOT
 
-It rewrites the tokens of .antt and .rt files, the texts of must-fail/*.edit, and names in backticks of the pages. Functions of src/, exported C names and strings keep theirs:
-no name of a Rust item is ever a key, since those are in snake case or begin with a capital. A lemma that would get its definition's name gets `_lem`.
+It rewrites the tokens of .antt and .rt files, the texts of must-fail/*.edit, and names in backticks of the pages.
+Functions of src/, exported C names and strings keep theirs: no name of a Rust item is ever a key, since those are in
+snake case or begin with a capital. A lemma that would get its definition's name gets `_lem`.
 """
 import collections
 import os
@@ -12,7 +14,12 @@ import sys
 
 WORD = r"[^\s(){}\[\].,;:=`\"«»⌜⌝λ|@\\]"
 TOKEN = re.compile(r"[^\s(){}\[\].,;:=`\"«»⌜⌝λ|@\\]+")
-HEAD = re.compile(r"^(?: *(?:(?:abbrev|unfoldable|pub) +)+|(?=\S))(?:(data|record|ruleset|infix[lr]?|use|mod) +)?(?:pub +)?([^\s(){}.,;«»]+)(?= +[:({]| *$)")
+HEAD = re.compile(
+    r"^(?: *(?:(?:abbrev|unfoldable|pub) +)+|(?=\S))(?:(data|record|ruleset|infix[lr]?|use|mod) +)?(?:pub +)?"
+    r"([^\s(){}.,;«»]+)(?= +[:({]| *$)"
+)
+# the old form's goals, invariants and theorems in a function's own file
+OF_A_GOAL = re.compile(r":\s*tie\.|:\s*goal\.|: \{M : Type 1\}")
 MEMBER = re.compile(r"^  +(?:pub +)?([a-z][^\s(){}.,;«»]*)(?: +[({].*[)}])? +:\s")
 RUST = re.compile(r"\bfn\s+([a-z_0-9]+)")
 # tokens of generated names are not ours: goals, steps and their fields
@@ -56,7 +63,8 @@ def main(argv):
         for line in t.splitlines():
             m = HEAD.match(line)
             if m and m[1] not in ("ruleset", "use", "mod") and not (m[1] or "").startswith("infix"):
-                if not in_function or not re.search(r":\s*tie\.|:\s*goal\.|: \{M : Type 1\}", line) and not line.startswith("abbrev invariant") and not line.startswith("abbrev decreases"):
+                chosen = line.startswith(("abbrev invariant", "abbrev decreases"))
+                if not in_function or not OF_A_GOAL.search(line) and not chosen:
                     own[m[2]] = below[0]
             elif (m := MEMBER.match(line)) and not in_function:
                 own.setdefault(m[1], below[0])
@@ -97,7 +105,8 @@ def main(argv):
     def turned(t, code=False):
         def word(m):
             it = m[0]
-            if it not in plan or it in LEMMAS and code or ("-" in it or it in LEMMAS) and t[m.start() - 1 : m.start()] == ".":
+            behind_a_dot = t[m.start() - 1 : m.start()] == "."
+            if it not in plan or it in LEMMAS and code or ("-" in it or it in LEMMAS) and behind_a_dot:
                 return it
             return plan[it]
 
@@ -109,7 +118,8 @@ def main(argv):
         if new != old:
             with open(p, "w", encoding="utf-8") as f:
                 f.write(new)
-    pages = [os.path.join(root, "README.md")] + [os.path.join(root, "docs", f) for f in sorted(os.listdir(os.path.join(root, "docs"))) if f.endswith(".md") and f != "PORT.md"]
+    docs = [f for f in sorted(os.listdir(os.path.join(root, "docs"))) if f.endswith(".md") and f != "PORT.md"]
+    pages = [os.path.join(root, "README.md")] + [os.path.join(root, "docs", f) for f in docs]
     for p in pages:
         old = read(p)
         new = re.sub(r"`[^`\n]+`", lambda m: turned(m[0]), old)

@@ -50,7 +50,7 @@ def cases(name: str) -> Dict[str, int]:
 
 
 def listed(name: str) -> List[str]:
-    """The names in a row of words, without what makes a word of each: `bitsOf (s .pressure)` is `pressure`."""
+    """The names in a row of words, without what makes a word of each: `bits_of s.pressure` is `pressure`."""
     return [re.sub(r"^.*[ .(]|[«»)]", "", entry.replace("«", "")) for entry in body(name).split(" ∷ ")[:-1]]
 
 
@@ -63,8 +63,8 @@ def fields(name: str) -> Dict[str, str]:
 def tests() -> Iterator[Tuple[str, int]]:
     """Each test that a refusal stands behind, with its number: `need TEST n`, `cond TEST Passed (Refused n)`."""
     for text in every():
-        for start in re.finditer(r"\b(?:need|cond) (?=\()", text):
-            end = closing(text, start.end())
+        for start in re.finditer(r"\b(?:need|cond) (?=(\()|[a-z]\w*\.\w)", text):
+            end = closing(text, start.end()) if start[1] else text.index(" ", start.end())
             number = re.match(r" (?:Passed \(Refused )?(\d+)\b", text[end:])
             if number:
                 yield text[start.end() : end], int(number.group(1))

@@ -54,16 +54,17 @@ class Definitions(unittest.TestCase):
 
     def test_blocks(self):
         check = ANY["CHECK"]
-        self.assertIn(f"rowTo (λ k. bytes (w k)) {check} ++ bytes (", body("blockBytes"))
-        self.assertRegex(body("checkRight"), rf"^eqb \(.*\) \(w {check}\)$")
-        self.assertIn(f"sumBy Plain w = checkSum w {check} sumBy Running w = runningSum w {check}", stated("sumBy"))
-        self.assertIn(f"length s % {macros()['ZEKTONK_BLOCK']}", body("bookOf"))
+        self.assertIn(f"row_to (λ k. bytes (w k)) {check} ++ bytes (", body("block_bytes"))
+        self.assertRegex(body("check_right"), rf"^sum_by rule w == w {check}$")
+        plain, running = f"sum_by Plain w = check_sum w {check}", f"sum_by Running w = running_sum w {check}"
+        self.assertIn(f"{plain} {running}", stated("sum_by"))
+        self.assertIn(f"length s % {macros()['ZEKTONK_BLOCK']}", body("book_of"))
         self.assertEqual(int(macros()["ZEKTONK_BLOCK"]), 8 * int(macros()["ZEKTONK_WORDS"]))
         self.assertEqual(ANY, {"KIND": 0, "CHECK": WORDS - 1})
 
     def test_sizes(self):
-        self.assertRegex(first("answerRoom", "sheetOf"), rf"\b{macros()['ZEKTONK_ANSWER_ROOM']}\b")
-        self.assertIn(f"eqb (length q) {macros()['ZEKTONK_QUESTION']}", first("taskIn", "questionOf"))
+        self.assertRegex(first("answer_room", "sheet_of"), rf"\b{macros()['ZEKTONK_ANSWER_ROOM']}\b")
+        self.assertIn(f"eqb (length q) {macros()['ZEKTONK_QUESTION']}", first("task_in", "question_of"))
         largest = 1 + MOST + MOST * (MOST - 1) // 2
         self.assertEqual(int(macros()["ZEKTONK_BOOK_LARGEST"]), BLOCK * largest)
         self.assertEqual(int(macros()["ZEKTONK_BOOK_MOST"]), BLOCK * (largest + 1))
@@ -72,109 +73,110 @@ class Definitions(unittest.TestCase):
         n, version = BOOK["SOLVENTS"], BOOK["VERSION"]
         first, mass, last = (macros()[f"ZEKTONK_FORMAT_VERSION{name}"] for name in ("", "_MASS", "_RUNNING"))
         self.assertEqual((first, mass, last), ("1", "2", "3"))
-        kind = f"eqb (w {ANY['KIND']}) {KIND['BOOK']}"
-        self.assertEqual(body("versionRight"), f"not ({kind}) || (ltb 0 (w {version}) && leb (w {version}) {last})")
-        self.assertEqual(body("headRight"), f"{kind} && ltb 0 (w {n}) && leb (w {n}) {MOST}")
-        self.assertEqual(body("hasMasses"), f"leb {mass} version")
-        nrtl, wilson = (f"eqb (w {BOOK['MODEL']}) {number}" for number in MODELS.values())
-        self.assertEqual(body("modelRight"), f"{nrtl} || ({wilson} && leb {mass} (w {version}))")
-        self.assertEqual(body("modelIn"), f"cond ({wilson}) Wilson Nrtl")
-        self.assertEqual(body("ruleIn"), f"cond ({kind} && eqb (w {version}) {last}) Running Plain")
+        kind = f"w {ANY['KIND']} == {KIND['BOOK']}"
+        known = f"nat_lt 0 (w {version}) && nat_le (w {version}) {last}"
+        self.assertEqual(body("version_right"), f"not ({kind}) || ({known})")
+        self.assertEqual(body("head_right"), f"{kind} && nat_lt 0 (w {n}) && nat_le (w {n}) {MOST}")
+        self.assertEqual(body("has_masses"), f"nat_le {mass} version")
+        nrtl, wilson = (f"w {BOOK['MODEL']} == {number}" for number in MODELS.values())
+        self.assertEqual(body("model_right"), f"{nrtl} || ({wilson} && nat_le {mass} (w {version}))")
+        self.assertEqual(body("model_in"), f"cond ({wilson}) Wilson Nrtl")
+        self.assertEqual(body("rule_in"), f"cond ({kind} && w {version} == {last}) Running Plain")
 
     def test_solvents(self):
         counts = [SOLVENT["VAPOR_TERMS"], SOLVENT["DENSITY_TERMS"]]
-        kind = f"eqb (w {ANY['KIND']}) {KIND['SOLVENT']} && eqb (w {SOLVENT['INDEX']}) i"
-        counted = " && ".join(f"ltb 0 (w {count}) && leb (w {count}) {TERMS}" for count in counts)
-        self.assertEqual(body("solventRight"), f"{kind} && not (eqb (w {SOLVENT['CAS']}) 0) && {counted}")
-        self.assertEqual(body("molarMass"), f"float (w (i + 1)) {SOLVENT['MOLAR_MASS']}")
+        kind = f"w {ANY['KIND']} == {KIND['SOLVENT']} && w {SOLVENT['INDEX']} == i"
+        counted = " && ".join(f"nat_lt 0 (w {count}) && nat_le (w {count}) {TERMS}" for count in counts)
+        self.assertEqual(body("solvent_right"), f"{kind} && not (w {SOLVENT['CAS']} == 0) && {counted}")
+        self.assertEqual(body("molar_mass"), f"float (w (i + 1)) {SOLVENT['MOLAR_MASS']}")
         records = [SOLVENT["VAPOR_T_R"], SOLVENT["DENSITY_T_R"]]
-        self.assertEqual(body("recordsRight"), " && ".join(f"recordRight w {start}" for start in records))
+        self.assertEqual(body("records_right"), " && ".join(f"record_right w {start}" for start in records))
         for record in ("VAPOR", "DENSITY"):
             start = SOLVENT[f"{record}_T_R"]
             names = ("REDUCING", "LOW", "HIGH", "TERMS", "N", "EXPONENT")
             at = {name: SOLVENT[f"{record}_{name}"] - start for name in names}
             self.assertEqual(
-                fields("ancillaryOf"),
+                fields("ancillary_of"),
                 {
                     "t_r": "float w f",
                     "reducing_value": f"float w (f + {at['REDUCING']})",
                     "low": f"float w (f + {at['LOW']})",
                     "high": f"float w (f + {at['HIGH']})",
-                    "count": "termCount w f",
+                    "count": "term_count w f",
                     "n": f"vec (λ k. float w (f + {at['N']} + k)) {TERMS}",
                     "t": f"vec (λ k. float w (f + {at['EXPONENT']} + k)) {TERMS}",
                 },
             )
-            self.assertEqual(body("termCount"), f"places (w (f + {at['TERMS']}))")
+            self.assertEqual(body("term_count"), f"places (w (f + {at['TERMS']}))")
 
     def test_pairs(self):
-        kind = f"eqb (w {ANY['KIND']}) {KIND['PAIR']} && eqb (w {PAIR['I']}) i && eqb (w {PAIR['J']}) j"
+        kind = f"w {ANY['KIND']} == {KIND['PAIR']} && w {PAIR['I']} == i && w {PAIR['J']} == j"
         interval, inferred = PAIR["INTERVAL"], PAIR["INFERRED"]
-        self.assertEqual(body("pairRight"), f"{kind} && leb (w {interval}) 1 && leb (w {inferred}) 1")
-        there, back = (f"(pairTerm m (w (pairPlace n {pair})) {{}} k)" for pair in ("i j", "j i"))
-        taken = f"cond (ltb i j) {there.format(PAIR['TAU_IJ'])} (cond (ltb j i) {back.format('(lowerFrom m)')} 0f)"
+        self.assertEqual(body("pair_right"), f"{kind} && nat_le (w {interval}) 1 && nat_le (w {inferred}) 1")
+        there, back = (f"(pair_term m (w (pair_place n {pair})) {{}} k)" for pair in ("i j", "j i"))
+        taken = f"cond (ltb i j) {there.format(PAIR['TAU_IJ'])} (cond (ltb j i) {back.format('(lower_from m)')} 0f)"
         self.assertEqual(body("parameter"), taken)
-        self.assertEqual(cases("lowerFrom"), {"Nrtl": PAIR["TAU_JI"], "Wilson": WILSON["A_JI"]})
+        self.assertEqual(cases("lower_from"), {"Nrtl": PAIR["TAU_JI"], "Wilson": WILSON["A_JI"]})
         self.assertEqual(PAIR["TAU_IJ"], WILSON["A_IJ"])
-        nrtl = f"parametersFinite Nrtl w = floatsFinite w {PAIR['TAU_IJ']} {PAIR['INTERVAL'] - PAIR['TAU_IJ']}"
-        wilson = f"parametersFinite Wilson w = floatsFinite w {WILSON['A_IJ']} {len(WILSON)}"
-        self.assertIn(f"{nrtl} {wilson}", stated("parametersFinite"))
+        nrtl = f"parameters_finite Nrtl w = floats_finite w {PAIR['TAU_IJ']} {PAIR['INTERVAL'] - PAIR['TAU_IJ']}"
+        wilson = f"parameters_finite Wilson w = floats_finite w {WILSON['A_IJ']} {len(WILSON)}"
+        self.assertIn(f"{nrtl} {wilson}", stated("parameters_finite"))
         a, b = PAIR["ALPHA_IJ"], PAIR["ALPHA_JI"]
         both = f"eq (float w {a}) (float w {b}) && eq (float w {a + 1}) (float w {b + 1})"
-        self.assertIn(f"alphasEqual Nrtl w = {both} alphasEqual Wilson w = true", stated("alphasEqual"))
+        self.assertIn(f"alphas_equal Nrtl w = {both} alphas_equal Wilson w = true", stated("alphas_equal"))
         bounds = f"(float w {PAIR['LOW']}) (float w {PAIR['HIGH']})"
         stated_interval = f"Interval {bounds} (not (eqb (w {inferred}) 0))"
-        self.assertEqual(body("regressionOf"), f"cond (eqb (w {interval}) 0) None ({stated_interval})")
+        self.assertEqual(body("regression_of"), f"cond (eqb (w {interval}) 0) None ({stated_interval})")
 
     def test_question(self):
-        asked = first("taskIn", "questionOf")
+        asked = first("task_in", "question_of")
         self.assertIn(f"eqb (word q {ANY['KIND']}) {KIND['QUESTION']}", asked)
-        self.assertIn(f"isTask (word q {QUESTION['TASK']})", asked)
-        question = fields("questionFrom")
+        self.assertIn(f"is_task (word q {QUESTION['TASK']})", asked)
+        question = fields("question_from")
         if "options" in question:
-            question.update(fields("optionsIn"))
+            question.update(fields("options_in"))
         called = {"LOW": "minimum_temperature_k", "HIGH": "maximum_temperature_k"}
         for name, word in QUESTION.items():
             if name not in ("FRACTIONS", "K_VALUES", "ENERGY_TOLERANCE", "FEED"):
                 value = question.get(called.get(name), question.get(name.lower()))
                 self.assertIn(value, (f"w {word}", f"float w {word}"), name)
-        self.assertEqual(body("question::byMass"), f"eqb (w {QUESTION['FEED']}) {FEED['MASS']}")
-        self.assertIn(f"eqb (w {QUESTION['FEED']}) {FEED['MOLES']}", body("kindRight"))
+        self.assertEqual(body("question::by_mass"), f"eqb (w {QUESTION['FEED']}) {FEED['MASS']}")
+        self.assertIn(f"eqb (w {QUESTION['FEED']}) {FEED['MOLES']}", body("kind_right"))
         self.assertEqual(body("question::fraction"), f"float w ({QUESTION['FRACTIONS']} + i)")
         self.assertEqual(body("question::ratio"), f"float w ({QUESTION['K_VALUES']} + i)")
         for name in ("TOLERANCE", "ENERGY_TOLERANCE"):
-            self.assertIn(f"toleranceRight (float w {QUESTION[name]})", body("optionsRight"))
+            self.assertIn(f"tolerance_right (float w {QUESTION[name]})", body("options_right"))
 
     def test_answer(self):
-        for name, words in (("stateWords", STATE), ("modelWords", MODEL)):
+        for name, words in (("state_words", STATE), ("model_words", MODEL)):
             self.assertEqual([CALLED.get(entry, entry.upper()) for entry in listed(name)], words)
             start = ANSWER[words[0]]
             self.assertEqual([ANSWER[word] for word in words], list(range(start, start + len(words))))
         rows = [
-            rf"fillFrom \(.*model\)?\)* {ANSWER['REDUCED_GIBBS']} {len(MODEL)}",
-            rf"\(fillFrom \(λ i\. .*vapor.* {ANSWER['VAPOR']} {MOST}",
-            rf"\(fillFrom \(λ i\. .*liquid.* {ANSWER['LIQUID']} {MOST}",
-            rf"\(fillFrom \(.*state\)?\)* {ANSWER['TEMPERATURE']} {len(STATE)}",
-            rf"\({KIND['ANSWER']} ∷ task ∷ 0 ∷ (?:b \.)?outcome ∷ replicate 60 0\)\)\)\)",
+            rf"fill_from \(.*model\)* {ANSWER['REDUCED_GIBBS']} {len(MODEL)}",
+            rf"\(fill_from \(λ i\. .*vapor.* {ANSWER['VAPOR']} {MOST}",
+            rf"\(fill_from \(λ i\. .*liquid.* {ANSWER['LIQUID']} {MOST}",
+            rf"\(fill_from \(.*state\)* {ANSWER['TEMPERATURE']} {len(STATE)}",
+            rf"\({KIND['ANSWER']} ∷ task ∷ 0 ∷ (?:b\.)?outcome ∷ replicate 60 0\)\)\)\)",
         ]
-        self.assertRegex(body("answerWords"), f"^{' '.join(rows)}$")
+        self.assertRegex(body("answer_words"), f"^{' '.join(rows)}$")
         self.assertEqual([ANSWER[word] for word in ("TASK", "REFUSAL", "OUTCOME")], [1, 2, 3])
         # in the places of liquid and vapor
-        self.assertRegex(first("excessBlock", "excessAnswer"), r"\(?e \.lnGamma\)?(?:; vapor =)? \(?e \.slopes\b")
+        self.assertRegex(first("excess_block", "excessAnswer"), r"e\.ln_gamma(?:; vapor =)? e\.slopes\b")
         self.assertEqual((ANSWER["LN_GAMMA"], ANSWER["SLOPES"]), (ANSWER["LIQUID"], ANSWER["VAPOR"]))
 
     def test_trial(self):
         self.assertEqual(
-            body("trialWords"),
-            f"fillFrom (λ i. bitsOf (at (t .composition) i)) {TRIAL['FRACTIONS']} {MOST}"
-            f" ({KIND['TRIAL']} ∷ t .component ∷ bitsOf (t .distance) ∷ t .iterations ∷ bit (t .trivial)"
+            body("trial_words"),
+            f"fill_from (λ i. bits_of (at t.composition i)) {TRIAL['FRACTIONS']} {MOST}"
+            f" ({KIND['TRIAL']} ∷ t.component ∷ bits_of t.distance ∷ t.iterations ∷ bit t.trivial"
             " ∷ replicate 59 0)",
         )
         self.assertEqual([TRIAL[word] for word in ("COMPONENT", "DISTANCE", "ITERATIONS", "TRIVIAL")], [1, 2, 3, 4])
 
     def test_tasks(self):
         """`task1` to `task9` are chosen by their numbers; each has the solver that the header's name says."""
-        chosen = [pair for text in every() for pair in re.findall(r"\(eqb \(q \.task\) (\d+)\) \(?task(\d+)", text)]
+        chosen = [pair for text in every() for pair in re.findall(r"\(eqb q\.task (\d+)\) \(?task(\d+)", text)]
         self.assertGreaterEqual(len(chosen), 7)
         self.assertEqual([number for number, _ in chosen], [number for _, number in chosen])
         self.assertEqual(set(TASK), set(SOLVERS))
@@ -185,17 +187,17 @@ class Definitions(unittest.TestCase):
     def test_numbers_of_enums(self):
         outcome, validity = short("zektonk_outcome", "ZEKTONK_"), short("zektonk_validity", "ZEKTONK_")
         phases = {"Liquid": outcome["LIQUID"], "Vapor": outcome["VAPOR"], "Both": outcome["LIQUID_AND_VAPOR"]}
-        self.assertEqual(cases("phaseNumber"), phases)
-        number = r"\brice\w+ \(?(\w+)[^=]*? = (?:record \{ outcome = |plainBlock )?(\d)"
-        split = re.findall(number, first("riceBlock", "riceNumber"))
+        self.assertEqual(cases("phase_number"), phases)
+        number = r"\brice\w+ \(?(\w+)[^=]*? = (?:record \{ outcome = |plain_block )?(\d)"
+        split = re.findall(number, first("rice_block", "riceNumber"))
         names = {"LiquidOnly": "LIQUID", "VaporOnly": "VAPOR", "TwoPhase": "LIQUID_AND_VAPOR"}
         self.assertEqual(dict(split), {case: str(outcome[name]) for case, name in names.items()})
         names = {"Unassessed": "UNASSESSED", "WithinDeclaredDomain": "WITHIN", "Extrapolated": "EXTRAPOLATED"}
-        self.assertEqual(cases("statusNumber"), {case: validity[name] for case, name in names.items()})
+        self.assertEqual(cases("status_number"), {case: validity[name] for case, name in names.items()})
         notes = short("zektonk_note", "ZEKTONK_NOTE_")
-        self.assertEqual(summed("gammaPhi"), notes["GAMMA_PHI"])
-        self.assertEqual(summed("atBoundary"), notes["GAMMA_PHI"] | notes["SPLIT_AT_SATURATION_BOUNDARY"])
-        self.assertEqual(summed("finiteTrials"), notes["GAMMA_PHI"] | notes["LIQUID_TPD_FINITE_TRIALS"])
+        self.assertEqual(summed("gamma_phi"), notes["GAMMA_PHI"])
+        self.assertEqual(summed("at_boundary"), notes["GAMMA_PHI"] | notes["SPLIT_AT_SATURATION_BOUNDARY"])
+        self.assertEqual(summed("finite_trials"), notes["GAMMA_PHI"] | notes["LIQUID_TPD_FINITE_TRIALS"])
 
     def test_refusals(self):
         for name, question in QUESTIONS.items():
@@ -203,56 +205,56 @@ class Definitions(unittest.TestCase):
         self.assertEqual({number for _, number in spent()}, {REFUSAL["NOT_CONVERGED"]})
         self.assertEqual(set(REFUSAL) - set(QUESTIONS), {"ANSWERED", "NOT_CONVERGED"})
         self.assertEqual(sorted(REFUSAL.values()), list(range(39)))
-        self.assertIn(f"numberOf (ok bs) = {REFUSAL['ANSWERED']}", stated("sheet::numberOf"))
+        self.assertIn(f"number_of (ok bs) = {REFUSAL['ANSWERED']}", stated("sheet::number_of"))
 
     def test_drums(self):
         """64 bytes of eight counts; 31, 32 and 36 in this order, ahead of what the feed is asked."""
         size, most, total = (macros()[f"ZEKTONK_{name}"] for name in ("DRUM_BYTES", "DRUMS_MOST", "POOL_MOST"))
         self.assertEqual((int(size), int(total)), (8 * MOST, 2**53))
-        self.assertEqual(body("drumCount"), f"length drums / {size}")
-        self.assertEqual(body("countIn"), f"word drums ({MOST} * d + i)")
-        self.assertEqual(body("drumsRight"), f"eqb (length drums % {size}) 0 && within 1 {most} (drumCount drums)")
-        self.assertEqual(body("totalRight"), "within 1 (2 ^ 53) (poolTotal drums n)")
+        self.assertEqual(body("drum_count"), f"length drums / {size}")
+        self.assertEqual(body("count_in"), f"word drums ({MOST} * d + i)")
+        self.assertEqual(body("drums_right"), f"eqb (length drums % {size}) 0 && within 1 {most} (drum_count drums)")
+        self.assertEqual(body("total_right"), "within 1 (2 ^ 53) (pool_total drums n)")
         moles = f"eqb (word question {QUESTION['FEED']}) {FEED['MOLES']}"
-        tests = {"DRUMS_LENGTH": "drumsRight drums", "DRUMS_TOTAL": "totalRight drums n", "FEED_KIND": moles}
+        tests = {"DRUMS_LENGTH": "drums_right drums", "DRUMS_TOTAL": "total_right drums n", "FEED_KIND": moles}
         asked = " (".join(f"need ({test}) {REFUSAL[name]}" for name, test in tests.items())
-        self.assertTrue(body("drumsTo").startswith(f"{asked} (bind (poolFeed drums n)"), body("drumsTo"))
-        self.assertRegex(body("pooledFrom"), r"^roomy room \(bind \(taskIn .*\) \(λ task\. drumsTo ")
+        self.assertTrue(body("drums_to").startswith(f"{asked} (bind (pool_feed drums n)"), body("drums_to"))
+        self.assertRegex(body("pooled_from"), r"^roomy room \(bind \(task_in .*\) \(λ task\. drums_to ")
 
     def test_feeds(self):
         """64 bytes of eight floats; 33 and 10 behind the book, then feed by feed 11, 12 for the tasks at a temperature
         alone, and 36."""
         size, most = (macros()[f"ZEKTONK_{name}"] for name in ("FEED_BYTES", "FEEDS_MOST"))
         self.assertEqual(int(size), 8 * MOST)
-        self.assertEqual(body("feedCount"), f"length feeds / {size}")
-        self.assertEqual(body("feedsRight"), f"eqb (length feeds % {size}) 0 && within 1 {most} (feedCount feeds)")
-        self.assertEqual(body("feedAt"), f"vec (λ i. float (word feeds) ({MOST} * k + i)) n")
+        self.assertEqual(body("feed_count"), f"length feeds / {size}")
+        self.assertEqual(body("feeds_right"), f"eqb (length feeds % {size}) 0 && within 1 {most} (feed_count feeds)")
+        self.assertEqual(body("feed_at"), f"vec (λ i. float (word feeds) ({MOST} * k + i)) n")
         short, many = REFUSAL["ANSWER_SHORT"], REFUSAL["FEEDS_LENGTH"]
-        room = f"need (leb (answerRoom * feedCount feeds) (length old)) {short}"
-        self.assertIn(f"bind (bookOf book) (λ h. need (feedsRight feeds) {many} ({room} (ok ", body("feedsOf"))
-        kind = f"need (kindRight version (word question)) {REFUSAL['FEED_KIND']}"
-        asked = f"need (needsTemperature task) {REFUSAL['TASK']} ({kind} "
-        self.assertIn(f"bind (taskIn (ruleOf book) question) (λ task. {asked}", body("taskAmong"))
-        self.assertIn("put l (answerRoom * j) (feedReply ", body("partsTo"))
-        self.assertEqual(body("needsTemperature"), "within 1 3 k || within 6 7 k")
+        room = f"need (leb (answer_room * feed_count feeds) (length old)) {short}"
+        self.assertIn(f"bind (book_of book) (λ h. need (feeds_right feeds) {many} ({room} (ok ", body("feeds_of"))
+        kind = f"need (kind_right version (word question)) {REFUSAL['FEED_KIND']}"
+        asked = f"need (needs_temperature task) {REFUSAL['TASK']} ({kind} "
+        self.assertIn(f"bind (task_in (rule_of book) question) (λ task. {asked}", body("task_among"))
+        self.assertIn("put l (answer_room * j) (feed_reply ", body("parts_to"))
+        self.assertEqual(body("needs_temperature"), "within 1 3 k || within 6 7 k")
 
     def test_offered(self):
         """Behind the book: 1, 2, 7, 8 and 9 of one block, a pair of any i < j below n; then as on the copy."""
         numbers = [REFUSAL[name] for name in ("BOOK_LENGTH", "BOOK_CHECK", "PAIR_BLOCK", "PAIR_NUMBER", "PAIR_ALPHAS")]
         tests = (
-            f"eqb (length offered) {macros()['ZEKTONK_BLOCK']}",
-            "checkRight rule (word offered)",
-            "offeredRight (h .n) (word offered)",
-            "pairFinite (h .model) (word offered)",
-            "alphasEqual (h .model) (word offered)",
+            f"length offered == {macros()['ZEKTONK_BLOCK']}",
+            "check_right rule (word offered)",
+            "offered_right h.n (word offered)",
+            "pair_finite h.model (word offered)",
+            "alphas_equal h.model (word offered)",
         )
         asked = " (".join(f"need ({test}) {number}" for test, number in zip(tests, numbers))
-        self.assertTrue(body("offeredOf").startswith(f"{asked} (ok h)"), body("offeredOf"))
+        self.assertTrue(body("offered_of").startswith(f"{asked} (ok h)"), body("offered_of"))
         i, j = PAIR["I"], PAIR["J"]
-        places = f"ltb (w {i}) (w {j}) && ltb (w {j}) n && pairRight w (w {i}) (w {j})"
-        self.assertEqual(body("offeredRight"), places)
-        first = "bind (bookOf book) (λ h. bind (offeredOf (ruleOf book) h offered)"
-        self.assertTrue(body("previewOf").startswith(first), body("previewOf"))
+        places = f"nat_lt (w {i}) (w {j}) && nat_lt (w {j}) n && pair_right w (w {i}) (w {j})"
+        self.assertEqual(body("offered_right"), places)
+        first = "bind (book_of book) (λ h. bind (offered_of (rule_of book) h offered)"
+        self.assertTrue(body("preview_of").startswith(first), body("preview_of"))
         self.assertEqual((desk.preview.I, desk.preview.J), (i, j))
         found = [getattr(desk.preview, name) for name in ("LENGTH", "CHECK", "PLACES", "NUMBERS", "ALPHAS")]
         self.assertEqual((found, desk.preview.QUESTION), (numbers, REFUSAL["QUESTION_BLOCK"]))
@@ -265,56 +267,56 @@ def summed(name: str) -> int:
 
 
 SOLVERS = {
-    "EXCESS_AT": r"(?:excessOf|m \.excess)",
-    "BUBBLE_PRESSURE": "bubblePressure",
-    "DEW_PRESSURE": "dewPressurePoint",
-    "BUBBLE_TEMPERATURE": "bubbleTemperature",
-    "DEW_TEMPERATURE": "dewTemperature",
-    "LIQUID_STABILITY": "stabilityOf",
-    "TP_FLASH": "tpFlash",
+    "EXCESS_AT": r"(?:excess_of|m\.excess)",
+    "BUBBLE_PRESSURE": "bubble_pressure",
+    "DEW_PRESSURE": "dew_pressure_point",
+    "BUBBLE_TEMPERATURE": "bubble_temperature",
+    "DEW_TEMPERATURE": "dew_temperature",
+    "LIQUID_STABILITY": "stability_of",
+    "TP_FLASH": "tp_flash",
     "RACHFORD_RICE": "constrained",
     "RACHFORD_RICE_NEGATIVE": "negative",
 }
 
 # of each refusal a text that stands in the test behind it, and in no other
 QUESTIONS = {
-    "BOOK_LENGTH": r"ltb 0 \(length s\)",
-    "BOOK_CHECK": r"checkRight (?:\(ruleOf s\) )?\(words s k\)",
-    "BOOK_HEAD": r"headRight",
-    "SOLVENT_BLOCK": r"solventRight",
-    "SOLVENT_NUMBER": r"recordsRight",
-    "SOLVENT_TWICE": r"casNew",
-    "PAIR_BLOCK": r"rowRight",
-    "PAIR_NUMBER": r"pairFinite",
-    "PAIR_ALPHAS": r"alphasEqual",
+    "BOOK_LENGTH": r"nat_lt 0 \(length s\)",
+    "BOOK_CHECK": r"check_right (?:\(rule_of s\) )?\(words s k\)",
+    "BOOK_HEAD": r"head_right",
+    "SOLVENT_BLOCK": r"solvent_right",
+    "SOLVENT_NUMBER": r"records_right",
+    "SOLVENT_TWICE": r"cas_new",
+    "PAIR_BLOCK": r"row_right",
+    "PAIR_NUMBER": r"pair_finite",
+    "PAIR_ALPHAS": r"alphas_equal",
     "ANSWER_SHORT": r"leb \w+ room",
-    "QUESTION_BLOCK": r"checkRight (?:rule )?\(word q\)",
-    "TASK": r"isTask",
-    "TEMPERATURE": r"temperatureRight",
-    "PRESSURE": r"(?:needsPressure|pressureRight)",
-    "NOT_FINITE": r"(?:isFinite \(fraction|inputsFinite)",
-    "FRACTION_NEGATIVE": r"(?:lt \(fraction w i\) 0f|noneNegative \(at x\))",
-    "K_NOT_POSITIVE": r"(?:lt 0f \(ratio w i\)|ratiosPositive)",
-    "FRACTION_SUM": r"sumsToOne",
-    "OPTIONS": r"optionsRight",
-    "LIMIT_ZERO": r"(?:eqb \(w 12\) 0|limitsSome)",
-    "LIMIT_HIGH": r"(?:limited \(w 14\)|limitsFew)",
-    "TEMPERATURE_OUTSIDE": r"temperatureInDomain",
-    "PRESSURE_OUTSIDE": r"pressureInDomain",
-    "ALPHA_NOT_POSITIVE": r"alphasRight",
-    "RESULT_NOT_FINITE": r"isFinite \(e \.reduced\)",
-    "NOT_BRACKETED": r"lt 0f \(a \.value\)",
-    "K_ONE_SIDED": r"le kMax 1f",
-    "LIQUID_UNSTABLE": r"s \.stable",
-    "VAPOR_FRACTION_OUTSIDE": r"inside \(s \.vaporFraction\)",
-    "DRUMS_LENGTH": r"drumsRight",
-    "DRUMS_TOTAL": r"totalRight",
-    "FEEDS_LENGTH": r"feedsRight",
-    "NOT_NORMALIZABLE": r"(?:lt 0f|positive) \(sumTo x n\)",
-    "MOLAR_MASS": r"massesRight",
-    "FEED_KIND": r"kindRight",
-    "BOOK_MODEL": r"modelRight",
-    "BOOK_VERSION": r"versionRight",
+    "QUESTION_BLOCK": r"check_right (?:rule )?\(word q\)",
+    "TASK": r"is_task",
+    "TEMPERATURE": r"temperature_right",
+    "PRESSURE": r"(?:needs_pressure|pressure_right)",
+    "NOT_FINITE": r"(?:is_finite \(fraction|inputs_finite)",
+    "FRACTION_NEGATIVE": r"(?:lt \(fraction w i\) 0f|none_negative \(at x\))",
+    "K_NOT_POSITIVE": r"(?:lt 0f \(ratio w i\)|ratios_positive)",
+    "FRACTION_SUM": r"sums_to_one",
+    "OPTIONS": r"options_right",
+    "LIMIT_ZERO": r"(?:eqb \(w 12\) 0|limits_some)",
+    "LIMIT_HIGH": r"(?:limited \(w 14\)|limits_few)",
+    "TEMPERATURE_OUTSIDE": r"temperature_in_domain",
+    "PRESSURE_OUTSIDE": r"pressure_in_domain",
+    "ALPHA_NOT_POSITIVE": r"alphas_right",
+    "RESULT_NOT_FINITE": r"is_finite e\.reduced",
+    "NOT_BRACKETED": r"lt 0f a\.value",
+    "K_ONE_SIDED": r"le k_max 1f",
+    "LIQUID_UNSTABLE": r"s\.stable",
+    "VAPOR_FRACTION_OUTSIDE": r"inside s\.vapor_fraction",
+    "DRUMS_LENGTH": r"drums_right",
+    "DRUMS_TOTAL": r"total_right",
+    "FEEDS_LENGTH": r"feeds_right",
+    "NOT_NORMALIZABLE": r"(?:lt 0f|positive) \(sum_to x n\)",
+    "MOLAR_MASS": r"masses_right",
+    "FEED_KIND": r"kind_right",
+    "BOOK_MODEL": r"model_right",
+    "BOOK_VERSION": r"version_right",
 }
 
 
