@@ -5,7 +5,7 @@ use native.Mathlib.Nat.{min-le_right}
 use lib.Dec.{eqb_refl}
 use Rattle.blocks.specs.Words.{word, block}
 use lib.Ieee.{Float, nan, inf, fin, up, down, eq}
-use Rattle.floats.specs.Small.{is_finite, float_of, float}
+use Rattle.floats.specs.Small.{is_finite, float}
 use Rattle.floats.specs.Fold.{all_to}
 use Rattle.floats.proofs.Folds.{all_at, all_done, was_yes}
 use Rattle.book.proofs.Laws.{says_yes, says-no}

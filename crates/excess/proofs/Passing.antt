@@ -10,7 +10,6 @@ use Rattle.floats.specs.Small.{is_finite}
 use Rattle.floats.specs.Outcome.{Out, ok, no, need}
 use Rattle.thermo_types.specs.declared.Verdict.TheVariants.{Passed, Refused}
 use Rattle.thermo_types.specs.Verdicts.{verdict_of}
-use Rattle.thermo_types.specs.Composition.{with_fractions}
 use Rattle.thermo_types.proofs.Passing.{fractions-passed, fractions-refused}
 use Rattle.excess.specs.declared.Energies.{Energies}
 use Rattle.excess.specs.State.{Excess, with_state}

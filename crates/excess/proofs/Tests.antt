@@ -7,7 +7,6 @@ use borrow.Author.Tests.{not-true, not-false}
 use lib.Ieee.{Float, lt}
 use Rattle.floats.specs.Arithmetic.{0f}
 use Rattle.floats.specs.Small.{is_finite}
-use Rattle.floats.specs.Vector.{places}
 use Rattle.floats.specs.Outcome.{Out, ok, no, need}
 use Rattle.floats.proofs.Folds.{was_no, was_yes}
 use Rattle.floats.proofs.Outcomes.{need_yes, need-no}

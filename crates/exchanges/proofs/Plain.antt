@@ -5,18 +5,17 @@ use native.Mathlib.Omega.{arith}
 use lib.Ieee.{of_bits, lt, le, eq, size}
 use Rattle.floats.specs.Small.{is_finite, positive}
 use Rattle.floats.specs.Fold.{all_to}
-use Rattle.floats.specs.Outcome.{ok, no, need}
+use Rattle.floats.specs.Outcome.{ok, need}
 use Rattle.floats.proofs.Outcomes.{refused}
 use Rattle.blocks.specs.declared.Rule.TheVariants.{Plain}
 use Rattle.blocks.specs.Words.{word, block, check_sum, sum_by, check_right}
 use Rattle.blocks.specs.Bytes.{bytes, row_to, block_bytes}
 use Rattle.book.specs.declared.Model.TheVariants.{Nrtl}
-use Rattle.book.specs.declared.Head.{Head}
 use Rattle.book.specs.Places.{row_from}
 use Rattle.book.specs.Book.{floats_finite, version_right, head_right, model_right, model_in, solvent_right, range_right, record_right, records_right, masses_right}
 use Rattle.book.specs.Book.{cas_new, pair_right, row_right, parameters_finite, bounds_finite, pair_finite, alphas_equal, head_in, pairs_of, solvents_of, head_of}
 use Rattle.book.specs.Book.{rule_in, rule_of, book_of}
-use Rattle.exchanges.specs.Exchanges.{exchange, Passes, Exchanges}
+use Rattle.exchanges.specs.Exchanges.{exchange, Exchanges}
 use Rattle.exchanges.proofs.Smallest.{smallest, smallest-bytes, solvent-there, Evaluated, two-unequal}
 
 record Missed (version : ℕ) : Type 0 where

@@ -1,5 +1,4 @@
 -- With running sums, in version 3, the same exchange in the smallest book is refused, so that the law of exchanged words isn't empty. Assumes nothing.
-use Prim.Native.Nat.{ℕ}
 use mathlib.Core.Path.{◌≡◌, refl}
 use native.Mathlib.Omega.{arith}
 use lib.Ieee.{of_bits, lt, le, eq, size}
@@ -10,12 +9,11 @@ use Rattle.blocks.specs.declared.Rule.TheVariants.{Running}
 use Rattle.blocks.specs.Words.{word, block, check_sum, running_sum, sum_by, check_right}
 use Rattle.blocks.specs.Bytes.{bytes, row_to, block_bytes}
 use Rattle.book.specs.declared.Model.TheVariants.{Nrtl}
-use Rattle.book.specs.declared.Head.{Head}
 use Rattle.book.specs.Places.{row_from}
 use Rattle.book.specs.Book.{floats_finite, version_right, head_right, model_right, model_in, solvent_right, range_right, record_right, records_right, masses_right}
 use Rattle.book.specs.Book.{cas_new, pair_right, row_right, parameters_finite, bounds_finite, pair_finite, alphas_equal, head_in, pairs_of, solvents_of, head_of}
 use Rattle.book.specs.Book.{rule_in, rule_of, book_of}
-use Rattle.exchanges.specs.Exchanges.{exchange, Passes, Catches}
+use Rattle.exchanges.specs.Exchanges.{exchange, Catches}
 use Rattle.exchanges.proofs.Smallest.{smallest, smallest-bytes, solvent-there, Evaluated, two-unequal}
 
 record Caught : Type 0 where

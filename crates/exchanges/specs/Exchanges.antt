@@ -1,7 +1,7 @@
 -- Two neighbouring words of a block are exchanged: the book is then refused, as a law for each version. Assumes nothing.
 use Rattle.std.specs.Prelude.{ℕ, ◌+◌, ◌*◌, ◌/◌, ◌<◌, ◌≡◌, ◌≢◌, true, List, ◌++◌, length, take, drop}
 use Rattle.floats.specs.Fold.{all_to}
-use Rattle.floats.specs.Outcome.{Out, ok, no}
+use Rattle.floats.specs.Outcome.{ok, no}
 use Rattle.blocks.specs.Words.{Bytes, check_right}
 use Rattle.blocks.specs.Bytes.{put}
 use Rattle.book.specs.declared.Head.{Head}

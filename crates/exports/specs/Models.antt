@@ -4,7 +4,6 @@ use Rattle.floats.specs.Arithmetic.{0f, 1f, 2f}
 use Rattle.floats.specs.Vector.{at, fill_from}
 use Rattle.floats.specs.Outcome.{Out, ok, no, bind}
 use Rattle.thermo_types.specs.Quantities.{positive_of}
-use Rattle.book.specs.declared.Head.{Head}
 use Rattle.book.specs.Book.{book_of}
 use Rattle.liquid.specs.Vapor.{Vapor, vapor_pressure_of}
 use Rattle.excess.specs.declared.Energies.{Energies}

@@ -1,5 +1,5 @@
 -- ln of a normal float from the fields of its bit pattern. Assumes nothing.
-use Rattle.std.proofs.Common.{◌≡◌, ℕ, zero, suc, ◌+◌, ◌-◌, ◌*◌, ◌/◌, ◌%◌, ◌^◌, ◌<◌, ◌≤◌, Bool, true, false, cond, not, ◌&&◌, T, ltb, pos, ◌+ℤ◌, sym, refl, ap, ◌∙◌, subst, ap₂, true≢false, zero-lt-suc, mul-pos, zero-mul, arith, lit<, ltb→lt, ltb-true, le-ltb, lt-ltb, ne_eqb}
+use Rattle.std.proofs.Common.{◌≡◌, ℕ, zero, suc, ◌+◌, ◌-◌, ◌*◌, ◌/◌, ◌%◌, ◌^◌, ◌<◌, Bool, true, false, cond, not, ◌&&◌, T, ltb, pos, ◌+ℤ◌, sym, refl, ap, ◌∙◌, subst, ap₂, true≢false, mul-pos, zero-mul, arith, ltb→lt, ltb-true, le-ltb, lt-ltb, ne_eqb}
 use lib.Ieee.{Float, nan, inf, fin, binary64, fits, up, down, of_bits, to_bits, lt, eq, is_nan, nan_bits, minus, odd}
 use lib.Ieee.Bits.{of_bits-to_bits}
 use lib.Ieee.Fits.{up_pos}

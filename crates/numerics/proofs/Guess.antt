@@ -2,12 +2,12 @@
 use Rattle.std.proofs.Common.{◌≡◌, ℕ, zero, suc, ◌+◌, ◌-◌, ◌*◌, ◌/◌, ◌%◌, ◌^◌, ◌<◌, ◌≤◌, Bool, true, false, cond, not, ◌&&◌, ◌||◌, T, eqb, ltb, leb, ℤ, pos, negsuc, ◌-ℤ◌, neg_ℤ, sym, refl, ap, ◌∙◌, subst, true≢false, le_trans, le_of_eq, mul-le-mul_right, add-mul, mul-pos, lt_of_not-le, mul-one, mul_right_comm, le_of_mul-le-mul_right, arith, lit<, lit≤, eqb→eq, ltb→lt, pow_pos, ltb-true, le-ltb, lt-ltb, leb-false, leb-true}
 use native.Mathlib.Nat.{eq_of_mul-eq-mul_right}
 use lib.Signed.{mag, quot_z}
-use lib.Ieee.{Float, nan, inf, fin, binary64, up, down, minus, odd, round, sum, neg, lt, le, eq, add, sub, mul, of_bits, of_int, to_signed, fits, is_nan, nan_bits}
+use lib.Ieee.{Float, nan, inf, fin, binary64, up, down, minus, odd, sum, neg, lt, le, eq, add, sub, mul, of_bits, of_int, to_signed, fits, is_nan, nan_bits}
 use lib.Ieee.Fits.{down_pos, add-fits, and_l, and_r}
 use lib.Ieee.Bits.{nan_bits_above}
 use lib.Ieee.Exact.{HasValue, odd_sign}
 use lib.Ieee.Scale.{round_same}
-use Rattle.floats.specs.Arithmetic.{#, ◌⊕◌, ◌⊖◌, ◌⊗◌, ½, 0f}
+use Rattle.floats.specs.Arithmetic.{#, ◌⊕◌, ◌⊖◌, ◌⊗◌, 0f}
 use Rattle.numerics.specs.Numerics.{A, B, C, whole, pow2, exp_shift, exp_from, exp_of}
 use Rattle.numerics.proofs.Bounds.{Within, mag_neg, le_or, add-within, mul-within}
 use Rattle.numerics.proofs.Limits.{C-within}

@@ -21,7 +21,6 @@ use Rattle.book.proofs.Laws.{opened-ok, opened-no}
 use Rattle.book.proofs.Accepted.{accepted}
 use Rattle.records.specs.Offered.{with_pair}
 use Rattle.records.proofs.Offered.{copy-rule, copy-mass}
-use Rattle.question.specs.declared.Question.{Question}
 use Rattle.question.specs.Asked.{task_in, question_of}
 use Rattle.question.proofs.Unread.{SameMasses, question-unread}
 use Rattle.replies.specs.Blocks.{answer_room}

@@ -14,11 +14,11 @@ use Rattle.floats.specs.Vector.{places}
 use Rattle.blocks.specs.Words.{word, block}
 use Rattle.blocks.specs.Bytes.{put}
 use Rattle.book.specs.Places.{words, pair_place}
-use Rattle.book.specs.Book.{model_in, model_of, molar_mass, rule_in, rule_of}
+use Rattle.book.specs.Book.{model_in, model_of, molar_mass, rule_of}
 use Rattle.book.proofs.Laws.{place-above}
 use Rattle.records.specs.declared.Pair.{Pair}
 use Rattle.records.specs.Records.{regression_of, pair_of}
-use Rattle.records.specs.Parameters.{pair_term, lower_from, parameter, parameter_rows, parameters_of}
+use Rattle.records.specs.Parameters.{parameter, parameter_rows, parameters_of}
 use Rattle.records.specs.Offered.{place_named, names_pair, offers, offered_place, with_pair, pair_at}
 
 -- ---- a block put in the place of block p

@@ -1,5 +1,5 @@
 -- The records that the models read from a book: the words w of a solvent's or a pair's block as floats. Assumes nothing.
-use Rattle.std.specs.Prelude.{not, cond, ℕ, ◌+◌, eqb, Float}
+use Rattle.std.specs.Prelude.{not, cond, ℕ, ◌+◌, eqb}
 use Rattle.floats.specs.Vector.{vec}
 use Rattle.floats.specs.Small.{float}
 use Rattle.book.specs.Book.{term_count}

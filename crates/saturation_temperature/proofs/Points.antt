@@ -16,19 +16,19 @@ use Rattle.thermo_types.specs.declared.NewTemperature.{NewTemperature}
 use Rattle.thermo_types.specs.declared.NewTemperature.TheVariants.{Valid, No}
 use Rattle.thermo_types.specs.Quantities.{positive_of, new_temperature}
 use Rattle.thermo_models.specs.declared.Tabled.{Tabled}
-use Rattle.thermo_models.specs.Model.{Activity, Activities, Pures, Liquids, ActivityIs, PuresAre, pressure_in_domain}
+use Rattle.thermo_models.specs.Model.{Activity, Activities, Liquids, ActivityIs, PuresAre, pressure_in_domain}
 use Rattle.thermo_models.specs.Activity.{activity_on, activity_of, Stands}
 use Rattle.thermo_models.proofs.Answers.{activity-passed, activity-refused, pures_passed, pures_refused, stands_fresh}
 use Rattle.saturation.specs.Saturation.{Saturation, bubble_from, bubble_at, residual, residual_with, dew_at}
 use Rattle.saturation.specs.Answers.{bubble_answer, residual_answer, dew_answer, saturation_answer}
-use Rattle.saturation.proofs.Answers.{bubble-passed, bubble-refused, residual-passed, residual-refused, dew-passed, dew-refused, stands-places, stands-kelvin}
+use Rattle.saturation.proofs.Answers.{bubble-passed, bubble-refused, residual-passed, residual-refused, dew-passed, dew-refused, stands-places}
 use Rattle.saturation.specs.declared.BubblePoint.{BubblePoint}
 use Rattle.saturation.specs.declared.ResidualAnswer.{ResidualAnswer}
 use Rattle.saturation.specs.declared.DewPoint.{DewPoint}
 use Rattle.saturation.specs.declared.ActivitySaturation.{ActivitySaturation}
 use Rattle.saturation_temperature.specs.Search.{Point, solve_temperature}
 use Rattle.saturation_temperature.specs.Boiling.{weight_sum, weight_slope, dew_slope, bubble_point_from, dew_point_from, bubble_saturation, dew_saturation, saturation_temperature, bubble_point_at, bubble_point, bubble_found, dew_point_at, dew_point, dew_found}
-use Rattle.saturation_temperature.specs.Answers.{activity_from, pures_from, Weighed, point_answer, answer_at}
+use Rattle.saturation_temperature.specs.Answers.{activity_from, Weighed, point_answer, answer_at}
 use Rattle.saturation_temperature.specs.Curves.{point_of, found_of}
 use Rattle.saturation_temperature.specs.declared.Weights.{Weights}
 use Rattle.saturation_temperature.specs.declared.PointAnswer.{PointAnswer}

@@ -10,7 +10,7 @@ use Rattle.thermo_types.specs.declared.Verdict.TheVariants.{Passed, Refused}
 use Rattle.saturation.specs.Saturation.{Saturation}
 use Rattle.saturation.specs.Answers.{saturation_answer}
 use Rattle.saturation.specs.declared.ActivitySaturation.{ActivitySaturation}
-use Rattle.saturation_temperature.specs.Search.{Point, Root, middle, step_of, collapsed, search_from, solve_temperature}
+use Rattle.saturation_temperature.specs.Search.{Point, middle, step_of, collapsed, search_from, solve_temperature}
 use Rattle.saturation_temperature.specs.Answers.{point_answer, over, inside, answer_at, remaining}
 use Rattle.saturation_temperature.specs.declared.PointAnswer.{PointAnswer}
 use Rattle.saturation_temperature.specs.declared.Bracket.{Bracket}

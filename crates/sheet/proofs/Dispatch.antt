@@ -50,7 +50,7 @@ use Rattle.sheet.specs.Ready.{pressures_in, pressures_for, TableOf, Readied}
 use Rattle.sheet.specs.Sheet.{Answers, Says, replied, on_passed, answer_to, roomy, question_to, sheet_from, sheet_of}
 use Rattle.sheet.proofs.Laws.{says-no, says_yes, refuses, goes_on, same_as, by_yes, by-no, is-task, not_task}
 use Rattle.sheet.proofs.Shared.{table-activity, bubble_from_lem, dew_from, pressures_2, pressures_3, task-refused}
-use Rattle.sheet.proofs.Replies.{refused, given, pressure-ok, constrained-says, split-says}
+use Rattle.sheet.proofs.Replies.{given, pressure-ok, constrained-says, split-says}
 
 -- ---- the tasks, with the book's parameters and a pair offered
 module _ (rule : Rule) (n : ℕ) (book offered : List ℕ) (q : Question) {P : List Float} {r : ℕ} {old new : List ℕ} where

@@ -5,7 +5,7 @@ use Prim.Native.Nat.{ℕ, ◌≤◌}
 use native.Mathlib.Omega.{arith}
 use lib.ListN.{length}
 use lib.Ieee.{Float}
-use Rattle.floats.specs.Outcome.{Out, ok, bind}
+use Rattle.floats.specs.Outcome.{Out, ok}
 use Rattle.floats.proofs.Outcomes.{need_inv, bind_inv, Each, each-ok, each-no, each-need, each-choose, each-bind}
 use Rattle.book.specs.Book.{rule_of, book_of}
 use Rattle.book.proofs.Accepted.{accepted}

@@ -1,8 +1,5 @@
 -- Calls that agree on the named words are answered alike. Assumes nothing.
 use mathlib.Core.Path.{◌≡◌, refl, sym, ap, ◌∙◌}
-use mathlib.Core.List.{List}
-use Prim.Native.Nat.{ℕ}
-use native.Mathlib.Omega.{arith}
 use Rattle.floats.specs.Outcome.{Out, ok, no, bind}
 use Rattle.blocks.specs.declared.Rule.{Rule}
 use Rattle.book.specs.declared.Head.{Head}
@@ -18,7 +15,7 @@ use Rattle.question.specs.Named.{AgreeAsked}
 use Rattle.question.proofs.Unread.{SameMasses, question-unread}
 use Rattle.sheet.specs.Tasks.{task_of}
 use Rattle.sheet.specs.Sheet.{replied, answer_to, roomy, question_to, sheet_from, sheet_of}
-use Rattle.sheet.specs.Unread.{SameCall, Unread}
+use Rattle.sheet.specs.Unread.{Unread}
 
 pub unread : Unread
 unfolding answer_to roomy sheet_from sheet_of bind head_in

@@ -4,7 +4,6 @@ use Rattle.floats.specs.Outcome.{Out, ok, no, bind, need}
 use Rattle.thermo_types.specs.declared.Verdict.{Verdict}
 use Rattle.thermo_types.specs.declared.Verdict.TheVariants.{Passed, Refused}
 use Rattle.blocks.specs.declared.Rule.{Rule}
-use Rattle.book.specs.declared.Head.{Head}
 use Rattle.book.specs.Places.{words}
 use Rattle.book.specs.Book.{molar_mass, book_of, rule_of}
 use Rattle.thermo_models.specs.Mixture.{mixture_of}

@@ -1,5 +1,5 @@
 -- Tasks 1 to 9 of a mixture: which definition answers each. Assumes nothing.
-use Rattle.std.specs.Prelude.{ℕ, List, [], eqb, Float}
+use Rattle.std.specs.Prelude.{[], eqb, Float}
 use Rattle.floats.specs.Small.{is_finite}
 use Rattle.floats.specs.Vector.{at}
 use Rattle.floats.specs.Outcome.{Out, ok, no, bind, need, choose}

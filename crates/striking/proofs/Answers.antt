@@ -25,9 +25,8 @@ use Rattle.tp_flash.specs.Tp.{Flash, tp_flash}
 use Rattle.question.specs.declared.Question.{Question}
 use Rattle.replies.specs.declared.State.{State}
 use Rattle.replies.specs.declared.ModelState.{ModelState}
-use Rattle.replies.specs.declared.AnswerBlock.{AnswerBlock}
 use Rattle.replies.specs.Blocks.{bit, status_number, state_words, model_words, Answer}
-use Rattle.replies.specs.Answers.{no_model, excess_block, saturation_block, stability_block, phase_number, flash_block, rice_block}
+use Rattle.replies.specs.Answers.{excess_block, saturation_block, stability_block, phase_number, flash_block, rice_block}
 use Rattle.sheet.specs.Tasks.{alone, excess_found, saturated, task1, task2, task3, task4, task5, task6, task7, task8, task9, task_at, task_under, task_split, task_of}
 use Rattle.liquid_stability.proofs.Counts.{stability_few}
 use Rattle.tp_flash.proofs.Counts.{flash_few}

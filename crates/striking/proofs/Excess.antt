@@ -11,7 +11,7 @@ use lib.Ieee.{Float, nan, inf, fin, binary64, neg, lt, of_bits}
 use lib.Ieee.Scale.{finite}
 use Rattle.floats.specs.Arithmetic.{◌⊖◌, ◌⊗◌, 0f, 1f, 2f}
 use Rattle.floats.specs.Small.{is_finite, abs_of}
-use Rattle.floats.specs.Fold.{sum_to, all_to}
+use Rattle.floats.specs.Fold.{sum_to}
 use Rattle.floats.specs.Vector.{at, vec}
 use Rattle.floats.specs.Outcome.{Out}
 use Rattle.floats.proofs.Fills.{vec-at}

@@ -1,31 +1,24 @@
 -- NRTL is struck: an accepted call with absent solvents is accepted without them, with equal results for the solvents kept. Assumes nothing.
-use mathlib.Core.Path.{◌≡◌, refl, sym, ap, ◌∙◌, subst}
+use mathlib.Core.Path.{◌≡◌, refl, ap, ◌∙◌, subst}
 use Prim.Native.Nat.{ℕ, ◌+◌, ◌*◌, ◌≤◌, ◌<◌}
-use native.Mathlib.Nat.{le_trans}
 use native.Mathlib.Omega.{arith}
-use mathlib.Core.Bool.{Bool, true, false, not, cond}
+use mathlib.Core.Bool.{Bool, false, not, cond}
 use mathlib.Core.List.{List}
-use lib.Dec.{T, eqb, ltb, ltb→lt}
-use lib.Ieee.{Float, nan, le, is_nan}
+use lib.Dec.{T, eqb}
+use lib.Ieee.{Float, le, is_nan}
 use Rattle.floats.specs.Arithmetic.{0f}
-use Rattle.floats.specs.Small.{float_of}
 use Rattle.floats.specs.Vector.{at}
-use Rattle.book.specs.Places.{words, pair_place}
-use Rattle.records.specs.Parameters.{term_in, parameter, parameters_of}
-use Rattle.records.proofs.Entries.{parameters-at}
 use Rattle.jet.specs.declared.Jet.{Jet}
 use Rattle.jet.specs.Jets.{mul_j, neg_j, exp_j}
 use Rattle.nrtl_tables.specs.Pair.{basis_of, tau_j, alpha_j, exponent_j, tau_ij, g_ij, alpha_right, all_right, tau_at, g_at}
-use Rattle.nrtl.specs.Columns.{ln_gamma_j, reduced_j}
 use Rattle.nrtl.specs.State.{nrtl_of}
 use Rattle.striking.specs.Accepted.{Acc}
 use Rattle.striking.specs.Places.{cnt}
 use Rattle.striking.specs.Related.{Fractions, SameExcess}
-use Rattle.striking.specs.Books.{KeptPairs}
-use Rattle.striking.proofs.Strike.{cnt_lt, cnt_ltb, cnt_eqb}
+use Rattle.striking.proofs.Strike.{cnt_eqb}
 use Rattle.striking.proofs.Acc.{acc_need, strike_all}
-use Rattle.striking.proofs.Active.{cond_when, cond_both}
-use Rattle.striking.proofs.Excess.{Params, first_entry, cnt_le, strike_with_state, strike_state}
+use Rattle.striking.proofs.Active.{cond_both}
+use Rattle.striking.proofs.Excess.{Params, first_entry, strike_with_state, strike_state}
 use Rattle.striking.proofs.Sums.{Struck, strike_ge, strike_ln}
 
 module _ (P P' : List Float) (t : Float) (e e' : ℕ) (h : (k : ℕ) → k < 6 → at P (e * 6 + k) ≡ at P' (e' * 6 + k)) where

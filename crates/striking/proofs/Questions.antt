@@ -22,7 +22,7 @@ use Rattle.blocks.specs.Words.{word, check_right}
 use Rattle.blocks.specs.declared.Rule.{Rule}
 use Rattle.question.specs.Inputs.{is_task, needs_temperature, needs_pressure, needs_options, needs_ratios, if_needed}
 use Rattle.book.specs.Book.{has_masses}
-use Rattle.question.specs.Asked.{task_in, by_mass, kind_right, moles_of, feed_of, fraction, ratio, ratios_of, temperature_right, pressure_right, inputs_finite, ratios_positive, inputs_right, options_right, limited, limits_some, limits_few, limits_right, options_in, question_from, rest_of, question_of}
+use Rattle.question.specs.Asked.{task_in, by_mass, kind_right, moles_of, feed_of, fraction, ratios_of, temperature_right, pressure_right, inputs_finite, ratios_positive, inputs_right, options_right, limits_some, limits_few, limits_right, options_in, question_from, rest_of, question_of}
 use Rattle.question.specs.declared.Question.{Question}
 use Rattle.zeros.proofs.Congruence.{same}
 use Rattle.zeros.proofs.Zero.{Zero, zero_over_lem}

@@ -2,10 +2,10 @@
 -- tried is the same. Assumes nothing.
 use mathlib.Core.Path.{◌≡◌, refl, sym, ap, ◌∙◌, subst}
 use Prim.Native.Nat.{ℕ, zero, suc}
-use mathlib.Core.Bool.{Bool, true, false, not, ◌&&◌, ◌||◌, cond, true≢false}
+use mathlib.Core.Bool.{Bool, true, false, not, ◌||◌, true≢false}
 use lib.Dec.{T}
 use lib.Ieee.{Float, lt, le, of_bits}
-use Rattle.floats.specs.Arithmetic.{◌⊖◌, ◌⊘◌, 0f}
+use Rattle.floats.specs.Arithmetic.{0f}
 use Rattle.floats.specs.Small.{abs_of}
 use Rattle.floats.specs.Outcome.{Out, need}
 use Rattle.thermo_types.specs.declared.ActivityOptions.{ActivityOptions}

@@ -9,7 +9,6 @@ use mathlib.Core.Bool.{Bool}
 use mathlib.Core.List.{List, [], ◌∷◌, ◌++◌, append-nil}
 use lib.ListN.{length, get_or, set, replicate}
 use lib.Dec.{T}
-use lib.Ieee.{Float}
 use Rattle.floats.specs.Small.{bits_of}
 use Rattle.floats.specs.Vector.{at, fill_from}
 use Rattle.floats.proofs.Fills.{fill_from_length, fill_from-at, fill_from_before}

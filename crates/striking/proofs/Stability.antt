@@ -12,7 +12,7 @@ use lib.Seq.{get_or-set_same, get_or-set_other}
 use lib.Dec.{T, ltb}
 use lib.Ieee.{Float, binary64, lt, of_int, of_bits}
 use lib.Ieee.Fits.{div-fits}
-use Rattle.floats.specs.Arithmetic.{◌⊕◌, ◌⊘◌, #, 0f, 1f}
+use Rattle.floats.specs.Arithmetic.{◌⊕◌, ◌⊘◌, 0f, 1f}
 use Rattle.floats.specs.Vector.{at}
 use Rattle.floats.specs.Outcome.{Out, ok, bind, choose}
 use Rattle.numerics.specs.Numerics.{exp_of, ln_of}

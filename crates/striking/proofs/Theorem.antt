@@ -9,7 +9,7 @@ use mathlib.Core.Bool.{Bool}
 use mathlib.Core.List.{List, ◌++◌}
 use lib.ListN.{length, drop, replicate, length-replicate}
 use lib.Dec.{leb}
-use Rattle.floats.specs.Outcome.{Out, ok, no, bind, need}
+use Rattle.floats.specs.Outcome.{Out, ok, no, bind}
 use Rattle.floats.proofs.Outcomes.{need_yes, bind_yes}
 use Rattle.blocks.specs.declared.Rule.{Rule}
 use Rattle.book.specs.Places.{words}
@@ -19,7 +19,7 @@ use Rattle.book.proofs.Accepted as open-book
 use Rattle.question.specs.Asked.{question_of}
 use Rattle.question.specs.declared.Question.{Question}
 use Rattle.thermo_models.specs.Mixture.{mixture_of}
-use Rattle.replies.specs.Blocks.{answer_bytes, answer_room}
+use Rattle.replies.specs.Blocks.{answer_room}
 use Rattle.sheet.specs.Tasks.{task_of}
 use Rattle.sheet.specs.Sheet.{answer_to, roomy, question_to, sheet_from, sheet_of, number_of, written}
 use Rattle.refusals.proofs.Theorem.{zero_is-answer}

@@ -1,18 +1,17 @@
 -- Blocks written one behind the other, read again: each at its place, with its words and a right check. Assumes nothing.
 use mathlib.Core.Path.{◌≡◌, refl, sym, ◌∙◌}
 use mathlib.Core.Logic.{inl, inr}
-use mathlib.Core.Bool.{Bool, true, false, not}
-use mathlib.Core.List.{List, [], ◌∷◌, ◌++◌, append_assoc, append-nil}
-use Prim.Native.Nat.{ℕ, zero, suc, ◌+◌, ◌*◌, ◌^◌, ◌≤◌, ◌<◌}
+use mathlib.Core.List.{List, [], ◌++◌, append_assoc, append-nil}
+use Prim.Native.Nat.{ℕ, zero, suc, ◌+◌, ◌*◌, ◌<◌}
 use native.Mathlib.Nat.{eq-or-lt_of_le}
 use native.Mathlib.Omega.{arith}
 use borrow.Author.Tests.{eq-eqb}
-use lib.ListN.{length, take, drop, length-append, length-take, get_or-eq_default}
-use lib.Seq.{get_or-take, get_or-drop, take_at, drop_at}
-use lib.Dec.{T, ltb, ltb→lt, nltb→le}
-use Rattle.blocks.specs.Words.{byte, word_from, word, block, sum_by, check_right}
+use lib.ListN.{length, length-append}
+use lib.Seq.{take_at, drop_at}
+use lib.Dec.{T}
+use Rattle.blocks.specs.Words.{word, block, check_right}
 use Rattle.blocks.specs.declared.Rule.{Rule}
-use Rattle.blocks.specs.Bytes.{bytes, row_to, block_bytes}
+use Rattle.blocks.specs.Bytes.{row_to, block_bytes}
 use Rattle.blocks.proofs.Laws.{length_block-bytes, block-word, block-check, sum_same}
 use Rattle.book.specs.Places.{words}
 use Rattle.blocks.proofs.Small.{Small}

@@ -1,5 +1,5 @@
 -- The excess state of a table made by `tables` is that of the parameters, and what `excess` gives is what `activity` gives. Assumes nothing.
-use Prim.Native.Nat.{ℕ, ◌≤◌}
+use Prim.Native.Nat.{ℕ}
 use mathlib.Core.Path.{◌≡◌, sym, ◌∙◌}
 use mathlib.Core.List.{List}
 use native.Mathlib.Omega.{arith}

@@ -1,7 +1,6 @@
 -- `batch::answer` meets its contract. Assumes nothing.
 use Rattle.floats.proofs.Folds.{not_of_false, not_of_true}
 use native.Mathlib.Omega.{arith}
-use borrow.Author.Rules.{rules}
 use Rattle.batch.proofs.Calls.{book-no, feeds_no, room-no, all_answered, few_feeds}
 use Rattle.batch.proofs.answer.Goals as goal
 

@@ -1,6 +1,5 @@
 -- `batch::answer_all` meets its contract. Assumes nothing.
 use mathlib.Core.Path.{sym, ◌∙◌}
-use borrow.Author.Rules.{rules}
 use Rattle.batch.proofs.Calls.{all_refused}
 use Rattle.batch.proofs.answer_all.Goals as goal
 

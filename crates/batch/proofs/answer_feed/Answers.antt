@@ -1,5 +1,4 @@
 -- `batch::answer_feed` meets its contract. Assumes nothing.
-use borrow.Author.Rules.{rules}
 use Rattle.batch.proofs.Calls.{feed-no, feed_yes, feed-warm, feed_ready, keeps_made}
 use Rattle.batch.proofs.answer_feed.Goals as goal
 

@@ -1,13 +1,10 @@
-use Prim.Native.Nat.{◌≤◌, ◌-◌}
-use mathlib.Core.Path.{◌≡◌, refl}
+use mathlib.Core.Path.{refl}
 use native.Mathlib.Omega.{arith}
-use lib.ListN.{length, length-replicate}
+use lib.ListN.{length-replicate}
 use Rattle.floats.specs.Arithmetic.{0f}
 use Rattle.floats.specs.Fold.{fold_to}
-use Rattle.floats.specs.Vector.{places}
 use Rattle.floats.proofs.Folds.{fold_done}
-use Rattle.thermo_models.specs.Mixture.{mixture_of}
-use Rattle.batch.specs.Feeds.{parts_to, Keeps}
+use Rattle.batch.specs.Feeds.{parts_to}
 use Rattle.batch.proofs.Parts.{part_room}
 use Rattle.batch.proofs.Calls.{keeps_nothing, feeds_turn}
 use Rattle.batch.proofs.answer_feeds.Goals as goal

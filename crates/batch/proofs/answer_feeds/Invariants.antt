@@ -1,16 +1,10 @@
 -- `batch::answer_feeds` meets its contract. The loop's invariant: the parts so far are written, and what was made is ready for the question. Assumes nothing.
 use Prim.Native.Nat.{◌≤◌, ◌-◌}
-use mathlib.Core.Path.{◌≡◌, refl}
-use native.Mathlib.Omega.{arith}
-use lib.ListN.{length, length-replicate}
-use Rattle.floats.specs.Arithmetic.{0f}
-use Rattle.floats.specs.Fold.{fold_to}
+use mathlib.Core.Path.{◌≡◌}
+use lib.ListN.{length}
 use Rattle.floats.specs.Vector.{places}
-use Rattle.floats.proofs.Folds.{fold_done}
 use Rattle.thermo_models.specs.Mixture.{mixture_of}
 use Rattle.batch.specs.Feeds.{parts_to, Keeps}
-use Rattle.batch.proofs.Parts.{part_room}
-use Rattle.batch.proofs.Calls.{keeps_nothing, feeds_turn}
 use Rattle.batch.proofs.answer_feeds.Given as goal
 
 abbrev pub invariant-loop-k : goal.invariant-loop-k

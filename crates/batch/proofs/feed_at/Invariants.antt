@@ -1,14 +1,10 @@
 -- `batch::feed_at` meets its contract. The loop's invariant: the entries passed are filled. Assumes nothing.
 use Prim.Native.Nat.{◌≤◌, ◌-◌, ◌+◌, ◌*◌}
-use mathlib.Core.Path.{◌≡◌, refl}
-use native.Mathlib.Omega.{arith}
-use borrow.Author.Rules.{rules}
-use lib.ListN.{length, length-set}
+use mathlib.Core.Path.{◌≡◌}
+use lib.ListN.{length}
 use Rattle.floats.specs.Small.{float}
-use Rattle.floats.specs.Vector.{fill, vec}
-use Rattle.floats.proofs.Fills.{fill-turn, fill_done}
+use Rattle.floats.specs.Vector.{vec}
 use Rattle.blocks.specs.Words.{word}
-use Rattle.batch.specs.Feeds.{feed_at}
 use Rattle.batch.proofs.feed_at.Given as goal
 
 abbrev pub invariant-loop-i : goal.invariant-loop-i

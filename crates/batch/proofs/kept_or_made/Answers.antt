@@ -1,5 +1,4 @@
 -- `batch::kept_or_made` meets its contract. Assumes nothing.
-use borrow.Author.Rules.{rules}
 use Rattle.batch.proofs.kept_or_made.Goals as goal
 
 pub returns-in-Made : goal.returns-in-Made

@@ -1,13 +1,7 @@
-use Prim.Native.Nat.{ℕ, ◌≤◌, ◌-◌, ◌*◌}
-use mathlib.Core.Path.{◌≡◌, refl}
-use mathlib.Core.List.{List}
+use mathlib.Core.Path.{refl}
 use native.Mathlib.Omega.{arith}
-use borrow.Author.Rules.{rules}
-use lib.ListN.{length}
 use Rattle.floats.specs.Fold.{fold_to}
 use Rattle.floats.proofs.Folds.{fold_done}
-use Rattle.blocks.specs.Bytes.{put}
-use Rattle.replies.specs.Blocks.{answer_room, refusal_bytes}
 use Rattle.batch.proofs.Parts.{refusal-turn}
 use Rattle.batch.proofs.refuse_feeds.Goals as goal
 

@@ -1,5 +1,4 @@
 -- `batch::reply` meets its contract. Assumes nothing.
-use borrow.Author.Rules.{rules}
 use native.Mathlib.Omega.{arith}
 use Rattle.batch.proofs.Calls.{reply-answer, reply-refusal}
 use Rattle.batch.proofs.reply.Goals as goal

@@ -1,6 +1,5 @@
 -- `batch::task_among` meets its contract. Assumes nothing.
 use Rattle.floats.proofs.Folds.{not_of_false, not_of_true}
-use borrow.Author.Rules.{rules}
 use Rattle.batch.proofs.Calls.{among-no, among_cold, among-kind, among_yes}
 use Rattle.batch.proofs.task_among.Goals as goal
 

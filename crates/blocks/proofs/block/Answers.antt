@@ -1,5 +1,4 @@
 -- `blocks::block` meets its contract. Three cases: none, what there is of it, a whole block. Assumes nothing.
-use Rattle.std.proofs.Common.{rules}
 use Rattle.blocks.proofs.Laws.{part-block, block-past, block-end-part}
 use Rattle.blocks.proofs.block.Goals as goal
 

@@ -1,5 +1,4 @@
 -- `blocks::byte_at` meets its contract. Past the end a byte is 0. Assumes nothing.
-use Rattle.std.proofs.Common.{rules}
 use Rattle.blocks.proofs.Laws.{byte_past}
 use Rattle.blocks.proofs.byte_at.Goals as goal
 

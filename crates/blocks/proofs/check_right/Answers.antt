@@ -1,5 +1,4 @@
 -- `blocks::check_right` meets its contract. From what the two callees ensure. Assumes nothing.
-use Rattle.std.proofs.Common.{rules}
 use Rattle.blocks.specs.Words.{check_right}
 use Rattle.blocks.proofs.check_right.Goals as goal
 

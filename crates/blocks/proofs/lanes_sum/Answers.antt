@@ -1,5 +1,4 @@
 -- `blocks::lanes_sum` meets its contract. Assumes nothing.
-use Rattle.std.proofs.Common.{rules}
 use Rattle.blocks.proofs.Running.{lanes_joined}
 use Rattle.blocks.proofs.lanes_sum.Goals as goal
 

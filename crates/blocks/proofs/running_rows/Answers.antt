@@ -1,6 +1,5 @@
-use Rattle.std.proofs.Common.{◌-◌, arith, rules}
-use Rattle.blocks.specs.Words.{word}
-use Rattle.blocks.proofs.Running.{Lanes, lanes_start, lane-turn, late-turn, row_word, lanes-sum}
+use Rattle.std.proofs.Common.{arith}
+use Rattle.blocks.proofs.Running.{lanes_start, lane-turn, late-turn, row_word, lanes-sum}
 use Rattle.blocks.proofs.running_rows.Goals as goal
 
 pub loop-r-init : goal.loop-r-init

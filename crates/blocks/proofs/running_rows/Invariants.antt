@@ -1,7 +1,7 @@
 -- `blocks::running_rows` meets its contract. The invariant: the eight sums after r rows. Assumes nothing.
-use Rattle.std.proofs.Common.{◌-◌, arith, rules}
+use Rattle.std.proofs.Common.{◌-◌}
 use Rattle.blocks.specs.Words.{word}
-use Rattle.blocks.proofs.Running.{Lanes, lanes_start, lane-turn, late-turn, row_word, lanes-sum}
+use Rattle.blocks.proofs.Running.{Lanes}
 use Rattle.blocks.proofs.running_rows.Given as goal
 
 abbrev pub invariant-loop-r : goal.invariant-loop-r

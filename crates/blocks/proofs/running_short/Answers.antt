@@ -1,5 +1,5 @@
-use Rattle.std.proofs.Common.{◌≡◌, ◌-◌, ◌≤◌, refl, arith, rules}
-use Rattle.blocks.specs.Words.{word, check_sum, running_sum}
+use Rattle.std.proofs.Common.{◌≡◌, refl, arith}
+use Rattle.blocks.specs.Words.{check_sum, running_sum}
 use Rattle.blocks.proofs.Laws.{sum-turn, runs-turn}
 use Rattle.blocks.proofs.running_short.Goals as goal
 

@@ -1,7 +1,6 @@
 -- `blocks::running_short` meets its contract. The invariant: the sum and the sum of running sums so far. Assumes nothing.
-use Rattle.std.proofs.Common.{◌≡◌, ◌-◌, ◌≤◌, refl, arith, rules}
+use Rattle.std.proofs.Common.{◌≡◌, ◌-◌, ◌≤◌}
 use Rattle.blocks.specs.Words.{word, check_sum, running_sum}
-use Rattle.blocks.proofs.Laws.{sum-turn, runs-turn}
 use Rattle.blocks.proofs.running_short.Given as goal
 
 abbrev pub invariant-loop-k : goal.invariant-loop-k

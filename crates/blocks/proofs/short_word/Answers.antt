@@ -1,5 +1,4 @@
 -- `blocks::short_word` meets its contract. Past the end, or cut short by it. Assumes nothing.
-use Rattle.std.proofs.Common.{rules}
 use Rattle.blocks.proofs.Laws.{word-past}
 use Rattle.blocks.specs.Words.{word}
 use Rattle.blocks.proofs.short_word.Goals as goal

@@ -1,5 +1,4 @@
 -- `blocks::store_at` meets its contract. A block at the front of the part from there on. Assumes nothing.
-use Rattle.std.proofs.Common.{rules}
 use Rattle.blocks.proofs.Laws.{block-put}
 use Rattle.blocks.proofs.store_at.Goals as goal
 

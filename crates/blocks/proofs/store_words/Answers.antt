@@ -1,6 +1,6 @@
-use Rattle.std.proofs.Common.{◌≡◌, ◌-◌, ◌*◌, ◌≤◌, ◌++◌, length, drop, refl, arith, rules}
+use Rattle.std.proofs.Common.{refl, arith}
 use Rattle.blocks.proofs.Laws.{word-turn, words-end}
-use Rattle.blocks.specs.Bytes.{word_at, bytes, row_to}
+use Rattle.blocks.specs.Bytes.{row_to}
 use Rattle.blocks.proofs.store_words.Goals as goal
 
 pub loop-k-init : goal.loop-k-init

@@ -1,6 +1,5 @@
 -- `blocks::store_words` meets its contract. The invariant: the words so far in front, the old bytes behind. Assumes nothing.
-use Rattle.std.proofs.Common.{◌≡◌, ◌-◌, ◌*◌, ◌≤◌, ◌++◌, length, drop, refl, arith, rules}
-use Rattle.blocks.proofs.Laws.{word-turn, words-end}
+use Rattle.std.proofs.Common.{◌≡◌, ◌-◌, ◌*◌, ◌≤◌, ◌++◌, length, drop}
 use Rattle.blocks.specs.Bytes.{word_at, bytes, row_to}
 use Rattle.blocks.proofs.store_words.Given as goal
 

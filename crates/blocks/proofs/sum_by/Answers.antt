@@ -1,5 +1,4 @@
 -- `blocks::sum_by` meets its contract. Assumes nothing.
-use Rattle.std.proofs.Common.{rules}
 use Rattle.blocks.specs.Words.{sum_by}
 use Rattle.blocks.proofs.sum_by.Goals as goal
 

@@ -1,6 +1,6 @@
-use Rattle.std.proofs.Common.{◌≡◌, ◌-◌, ◌≤◌, refl, arith, rules}
+use Rattle.std.proofs.Common.{◌≡◌, refl, arith}
 use Rattle.blocks.proofs.Laws.{sum-turn}
-use Rattle.blocks.specs.Words.{word, check_sum}
+use Rattle.blocks.specs.Words.{check_sum}
 use Rattle.blocks.proofs.sum_short.Goals as goal
 
 pub loop-k-init : goal.loop-k-init

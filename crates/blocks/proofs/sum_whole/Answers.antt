@@ -1,4 +1,4 @@
-use Rattle.std.proofs.Common.{◌≡◌, ◌-◌, ◌≤◌, refl, arith, rules}
+use Rattle.std.proofs.Common.{◌≡◌, refl, arith}
 use Rattle.blocks.proofs.Laws.{sum-turn}
 use Rattle.blocks.specs.Words.{word, check_sum}
 use Rattle.blocks.proofs.sum_whole.Goals as goal

@@ -1,6 +1,5 @@
 -- `blocks::sum_whole` meets its contract. The invariant: the sum so far. Assumes nothing.
-use Rattle.std.proofs.Common.{◌≡◌, ◌-◌, ◌≤◌, refl, arith, rules}
-use Rattle.blocks.proofs.Laws.{sum-turn}
+use Rattle.std.proofs.Common.{◌≡◌, ◌-◌, ◌≤◌}
 use Rattle.blocks.specs.Words.{word, check_sum}
 use Rattle.blocks.proofs.sum_whole.Given as goal
 

@@ -1,5 +1,4 @@
 -- `blocks::word` meets its contract. A whole word, or one that the end cuts short. Assumes nothing.
-use Rattle.std.proofs.Common.{rules}
 use Rattle.blocks.specs.Words.{word}
 use Rattle.blocks.proofs.word.Goals as goal
 

@@ -1,6 +1,5 @@
-use Rattle.std.proofs.Common.{◌≡◌, ◌-◌, ◌≤◌, refl, arith, rules}
+use Rattle.std.proofs.Common.{◌≡◌, refl, arith}
 use Rattle.blocks.specs.Words.{check_sum, running_sum}
-use Rattle.blocks.specs.Bytes.{word_at}
 use Rattle.blocks.proofs.Laws.{sum-turn, runs-turn}
 use Rattle.blocks.proofs.words_running.Goals as goal
 

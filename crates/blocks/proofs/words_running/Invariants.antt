@@ -1,8 +1,7 @@
 -- `blocks::words_running` meets its contract. The invariant: the sum and the sum of running sums so far. Assumes nothing.
-use Rattle.std.proofs.Common.{◌≡◌, ◌-◌, ◌≤◌, refl, arith, rules}
+use Rattle.std.proofs.Common.{◌≡◌, ◌-◌, ◌≤◌}
 use Rattle.blocks.specs.Words.{check_sum, running_sum}
 use Rattle.blocks.specs.Bytes.{word_at}
-use Rattle.blocks.proofs.Laws.{sum-turn, runs-turn}
 use Rattle.blocks.proofs.words_running.Given as goal
 
 abbrev pub invariant-loop-k : goal.invariant-loop-k

@@ -1,7 +1,6 @@
-use Rattle.std.proofs.Common.{◌≡◌, ◌-◌, ◌≤◌, refl, arith, rules}
+use Rattle.std.proofs.Common.{◌≡◌, refl, arith}
 use Rattle.blocks.proofs.Laws.{sum-turn}
 use Rattle.blocks.specs.Words.{check_sum}
-use Rattle.blocks.specs.Bytes.{word_at}
 use Rattle.blocks.proofs.words_sum.Goals as goal
 
 pub loop-k-init : goal.loop-k-init

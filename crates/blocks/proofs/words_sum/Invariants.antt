@@ -1,6 +1,5 @@
 -- `blocks::words_sum` meets its contract. The invariant: the sum so far. Assumes nothing.
-use Rattle.std.proofs.Common.{◌≡◌, ◌-◌, ◌≤◌, refl, arith, rules}
-use Rattle.blocks.proofs.Laws.{sum-turn}
+use Rattle.std.proofs.Common.{◌≡◌, ◌-◌, ◌≤◌}
 use Rattle.blocks.specs.Words.{check_sum}
 use Rattle.blocks.specs.Bytes.{word_at}
 use Rattle.blocks.proofs.words_sum.Given as goal

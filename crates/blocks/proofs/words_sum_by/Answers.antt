@@ -1,5 +1,4 @@
 -- `blocks::words_sum_by` meets its contract. Assumes nothing.
-use Rattle.std.proofs.Common.{rules}
 use Rattle.blocks.specs.Words.{sum_by}
 use Rattle.blocks.proofs.words_sum_by.Goals as goal
 

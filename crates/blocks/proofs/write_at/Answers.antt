@@ -1,5 +1,5 @@
 -- `blocks::write_at` meets its contract. The block fits, or nothing is written. Assumes nothing.
-use Rattle.std.proofs.Common.{sym, ◌∙◌, arith, rules}
+use Rattle.std.proofs.Common.{sym, ◌∙◌, arith}
 use Rattle.blocks.proofs.Laws.{stored-fits, stored_short, length_block-bytes}
 use Rattle.blocks.proofs.write_at.Goals as goal
 

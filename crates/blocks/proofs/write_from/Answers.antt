@@ -1,5 +1,5 @@
 -- `blocks::write_from` meets its contract. Eight stores are one put. Assumes nothing.
-use Rattle.std.proofs.Common.{arith, length-set, rules}
+use Rattle.std.proofs.Common.{arith, length-set}
 use Rattle.blocks.proofs.Laws.{put-bytes}
 use Rattle.blocks.proofs.write_from.Goals as goal
 

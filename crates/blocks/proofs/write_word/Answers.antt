@@ -1,5 +1,5 @@
 -- `blocks::write_word` meets its contract. The word fits, or nothing is written. Assumes nothing.
-use Rattle.std.proofs.Common.{sym, ◌∙◌, arith, rules}
+use Rattle.std.proofs.Common.{sym, ◌∙◌, arith}
 use Rattle.blocks.proofs.Laws.{stored-fits, stored_short, length_bytes}
 use Rattle.blocks.proofs.write_word.Goals as goal
 

@@ -1,5 +1,4 @@
 -- `book::alphas_equal` meets its contract. From what the callees ensure. Assumes nothing.
-use Rattle.std.proofs.Common.{rules}
 use Rattle.book.specs.Book.{alphas_equal}
 use Rattle.book.proofs.alphas_equal.Goals as goal
 

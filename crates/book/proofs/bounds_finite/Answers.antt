@@ -1,5 +1,5 @@
 -- `book::bounds_finite` meets its contract. The two ways of the test. Assumes nothing.
-use Rattle.std.proofs.Common.{rules, eq-eqb, ne_eqb}
+use Rattle.std.proofs.Common.{eq-eqb, ne_eqb}
 use Rattle.book.specs.Book.{bounds_finite}
 use Rattle.book.proofs.bounds_finite.Goals as goal
 

@@ -1,5 +1,5 @@
 -- `book::carry` meets its contract. Assumes nothing.
-use Rattle.std.proofs.Common.{arith, rules}
+use Rattle.std.proofs.Common.{arith}
 use Rattle.book.proofs.Bits.{carry_finite}
 use Rattle.book.proofs.carry.Goals as goal
 

@@ -1,5 +1,4 @@
 -- `book::cas` meets its contract. From what the callees ensure. Assumes nothing.
-use Rattle.std.proofs.Common.{rules}
 use Rattle.book.proofs.cas.Goals as goal
 
 pub returns : goal.returns

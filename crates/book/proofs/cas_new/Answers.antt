@@ -1,9 +1,8 @@
-use Rattle.std.proofs.Common.{◌≡◌, ◌+◌, ◌-◌, ◌≤◌, true, not, eqb, sym, refl, arith, rules}
+use Rattle.std.proofs.Common.{sym, refl, arith}
 use Rattle.floats.proofs.Folds.{all_turn, all_fails, all_end}
 use Rattle.floats.specs.Fold.{all_to}
 use Rattle.book.proofs.Laws.{same, other}
 use Rattle.book.specs.Book.{cas_new}
-use Rattle.book.specs.Places.{words}
 use Rattle.book.proofs.cas_new.Goals as goal
 
 pub loop-j-init : goal.loop-j-init

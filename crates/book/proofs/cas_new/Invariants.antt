@@ -1,9 +1,6 @@
 -- `book::cas_new` meets its contract. A scan: so far every index passed its test; one that fails makes the whole false. Assumes nothing.
-use Rattle.std.proofs.Common.{◌≡◌, ◌+◌, ◌-◌, ◌≤◌, true, not, eqb, sym, refl, arith, rules}
-use Rattle.floats.proofs.Folds.{all_turn, all_fails, all_end}
+use Rattle.std.proofs.Common.{◌≡◌, ◌+◌, ◌-◌, ◌≤◌, true, not, eqb}
 use Rattle.floats.specs.Fold.{all_to}
-use Rattle.book.proofs.Laws.{same, other}
-use Rattle.book.specs.Book.{cas_new}
 use Rattle.book.specs.Places.{words}
 use Rattle.book.proofs.cas_new.Given as goal
 

@@ -1,8 +1,6 @@
-use Rattle.std.proofs.Common.{◌≡◌, ◌-◌, ◌≤◌, true, sym, refl, arith, rules}
-use Rattle.floats.proofs.Folds.{as_tested, was_no, was_yes, all_end, all_turn, all_fails}
+use Rattle.std.proofs.Common.{sym, refl, arith}
+use Rattle.floats.proofs.Folds.{as_tested, all_end, all_turn, all_fails}
 use Rattle.floats.specs.Fold.{all_to}
-use Rattle.blocks.specs.Words.{check_right}
-use Rattle.book.specs.Places.{words}
 use Rattle.book.proofs.checks_right.Goals as goal
 
 pub loop-k-init : goal.loop-k-init

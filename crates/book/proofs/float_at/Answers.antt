@@ -1,5 +1,4 @@
 -- `book::float_at` meets its contract. From what the callees ensure. Assumes nothing.
-use Rattle.std.proofs.Common.{rules}
 use Rattle.book.proofs.float_at.Goals as goal
 
 pub returns : goal.returns

@@ -1,8 +1,5 @@
 -- `book::floats_finite` meets its contract. The invariant: the test of the words so far. Assumes nothing.
-use Rattle.std.proofs.Common.{◌≡◌, ◌-◌, ◌≤◌, ltb, refl, arith, rules}
-use Rattle.floats.proofs.Folds.{all_next, all_done}
-use Rattle.floats.specs.Fold.{all_to}
-use Rattle.book.proofs.Bits.{or_top}
+use Rattle.std.proofs.Common.{◌≡◌, ◌-◌, ◌≤◌, ltb}
 use Rattle.blocks.specs.Words.{word}
 use Rattle.book.specs.Book.{floats_finite}
 use Rattle.book.proofs.floats_finite.Given as goal

@@ -1,5 +1,4 @@
 -- `book::head_right` meets its contract. From what the callees ensure. Assumes nothing.
-use Rattle.std.proofs.Common.{rules}
 use Rattle.book.specs.Book.{head_right}
 use Rattle.book.proofs.head_right.Goals as goal
 

@@ -1,6 +1,5 @@
 -- `book::masses_right` meets its contract. The two ways of the test. Assumes nothing.
-use Rattle.std.proofs.Common.{rules}
-use Rattle.floats.proofs.Folds.{as_tested, was_no, was_yes}
+use Rattle.floats.proofs.Folds.{as_tested}
 use Rattle.book.specs.Book.{masses_right}
 use Rattle.book.proofs.masses_right.Goals as goal
 

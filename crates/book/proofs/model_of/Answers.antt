@@ -1,5 +1,5 @@
 -- `book::model_of` meets its contract. The two ways of the test. Assumes nothing.
-use Rattle.std.proofs.Common.{rules, eq-eqb, ne_eqb}
+use Rattle.std.proofs.Common.{eq-eqb, ne_eqb}
 use Rattle.book.specs.Book.{model_in}
 use Rattle.book.proofs.model_of.Goals as goal
 

@@ -1,5 +1,4 @@
 -- `book::model_right` meets its contract. From what the callees ensure. Assumes nothing.
-use Rattle.std.proofs.Common.{rules}
 use Rattle.book.specs.Book.{model_right}
 use Rattle.book.proofs.model_right.Goals as goal
 

@@ -1,5 +1,4 @@
 -- `book::molar_mass` meets its contract. From what the callees ensure. Assumes nothing.
-use Rattle.std.proofs.Common.{rules}
 use Rattle.book.proofs.molar_mass.Goals as goal
 
 pub returns : goal.returns

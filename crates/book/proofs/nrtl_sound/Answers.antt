@@ -1,5 +1,4 @@
 -- `book::nrtl_sound` meets its contract. The scan shows both; else from what the callees ensure. Assumes nothing.
-use Rattle.std.proofs.Common.{rules}
 use Rattle.book.proofs.Sound.{pair_scanned}
 use Rattle.book.proofs.nrtl_sound.Goals as goal
 

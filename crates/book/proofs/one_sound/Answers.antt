@@ -1,5 +1,4 @@
 -- `book::one_sound` meets its contract. The block is its own block 0. Assumes nothing.
-use Rattle.std.proofs.Common.{rules}
 use Rattle.book.proofs.Sound.{sound_one}
 use Rattle.book.proofs.one_sound.Goals as goal
 

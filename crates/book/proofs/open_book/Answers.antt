@@ -1,7 +1,7 @@
 -- `book::open_book` meets its contract. Each return rewrites by the tests that led there: one law for a no, one for a yes. Assumes nothing.
-use Rattle.std.proofs.Common.{rules, eq-eqb, ne_eqb}
+use Rattle.std.proofs.Common.{eq-eqb, ne_eqb}
 use Rattle.book.specs.Book.{book_of}
-use Rattle.floats.proofs.Folds.{as_tested, was_no, was_yes}
+use Rattle.floats.proofs.Folds.{as_tested}
 use Rattle.book.proofs.Laws.{says-no, says_yes, none, some}
 use Rattle.book.proofs.open_book.Goals as goal
 

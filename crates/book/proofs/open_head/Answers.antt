@@ -1,6 +1,6 @@
 -- `book::open_head` meets its contract. Each return rewrites by the tests that led there: one law for a no, one for a yes. Assumes nothing.
-use Rattle.std.proofs.Common.{arith, rules}
-use Rattle.floats.proofs.Folds.{as_tested, was_no, was_yes}
+use Rattle.std.proofs.Common.{arith}
+use Rattle.floats.proofs.Folds.{as_tested}
 use Rattle.book.proofs.Laws.{head_few, count_no, count_yes, says-no, says_yes}
 use Rattle.book.specs.Book.{head_in, head_of}
 use Rattle.book.proofs.open_head.Goals as goal

@@ -1,5 +1,5 @@
 -- `book::open_offered` meets its contract. Each return rewrites by the tests that led there: one law for a no, one for a yes. Assumes nothing.
-use Rattle.std.proofs.Common.{rules, eq-eqb, ne_eqb}
+use Rattle.std.proofs.Common.{eq-eqb, ne_eqb}
 use Rattle.book.specs.Book.{offered_of, opened_of}
 use Rattle.floats.proofs.Folds.{not_of_true, as_tested, was_no, was_yes}
 use Rattle.book.proofs.Laws.{says-no, says_yes}

@@ -1,7 +1,5 @@
 -- `book::open_pairs` meets its contract. Each return rewrites by the tests that led there: one law for a no, one for a yes. Assumes nothing.
-use Rattle.std.proofs.Common.{rules}
-use borrow.Author.Tests.{not-true, not-false}
-use Rattle.floats.proofs.Folds.{as_tested, was_no, was_yes}
+use Rattle.floats.proofs.Folds.{as_tested}
 use Rattle.book.proofs.Laws.{says-no}
 use Rattle.book.proofs.Sound.{pairs_pass, pairs_infinite, pairs-unequal}
 use Rattle.book.specs.Book.{pairs_of}

@@ -1,5 +1,4 @@
 -- `book::open_solvents` meets its contract. Each return rewrites by the tests that led there: one law for a no, one for a yes. Assumes nothing.
-use Rattle.std.proofs.Common.{rules}
 use Rattle.floats.proofs.Folds.{as_tested, was_no, was_yes}
 use Rattle.book.proofs.Laws.{says-no, says_yes}
 use Rattle.book.specs.Book.{solvents_of}

@@ -1,5 +1,4 @@
 -- `book::pair_finite` meets its contract. From what the callees ensure. Assumes nothing.
-use Rattle.std.proofs.Common.{rules}
 use Rattle.book.specs.Book.{pair_finite}
 use Rattle.book.proofs.pair_finite.Goals as goal
 

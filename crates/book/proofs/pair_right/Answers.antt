@@ -1,5 +1,4 @@
 -- `book::pair_right` meets its contract. From what the callees ensure. Assumes nothing.
-use Rattle.std.proofs.Common.{rules}
 use Rattle.book.specs.Book.{pair_right}
 use Rattle.book.proofs.pair_right.Goals as goal
 

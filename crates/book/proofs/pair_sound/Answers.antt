@@ -1,5 +1,4 @@
 -- `book::pair_sound` meets its contract. From what the callees ensure. Assumes nothing.
-use Rattle.std.proofs.Common.{rules}
 use Rattle.book.proofs.Sound.{wilson_sound}
 use Rattle.book.proofs.pair_sound.Goals as goal
 

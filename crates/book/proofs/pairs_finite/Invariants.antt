@@ -1,6 +1,5 @@
 -- `book::pairs_finite` meets its contract. A scan: so far every index passed its test; one that fails makes the whole false. Assumes nothing.
-use Rattle.std.proofs.Common.{◌≡◌, ◌+◌, ◌-◌, ◌≤◌, true, sym, refl, arith, rules}
-use Rattle.floats.proofs.Folds.{was_no, was_yes, all_turn, all_fails, all_end}
+use Rattle.std.proofs.Common.{◌≡◌, ◌+◌, ◌-◌, ◌≤◌, true}
 use Rattle.floats.specs.Fold.{all_to}
 use Rattle.book.specs.Book.{pair_finite}
 use Rattle.book.specs.Places.{words}

@@ -1,9 +1,8 @@
-use Rattle.std.proofs.Common.{◌≡◌, ◌+◌, ◌-◌, ◌≤◌, true, sym, refl, arith}
-use Rattle.floats.proofs.Folds.{as_tested, was_no, was_yes, all_turn, all_fails, all_end}
+use Rattle.std.proofs.Common.{◌+◌, sym, refl, arith}
+use Rattle.floats.proofs.Folds.{as_tested, all_turn, all_fails, all_end}
 use Rattle.floats.specs.Fold.{all_to}
 use Rattle.book.proofs.Laws.{row_fits, row_next}
-use Rattle.book.specs.Book.{row_right}
-use Rattle.book.specs.Places.{row_from, words}
+use Rattle.book.specs.Places.{row_from}
 use Rattle.book.proofs.pairs_right.Goals as goal
 
 pub loop-i-init : goal.loop-i-init

@@ -1,8 +1,6 @@
 -- `book::pairs_right` meets its contract. A scan: so far every index passed its test; one that fails makes the whole false. Assumes nothing.
-use Rattle.std.proofs.Common.{◌≡◌, ◌+◌, ◌-◌, ◌≤◌, true, sym, refl, arith}
-use Rattle.floats.proofs.Folds.{was_no, was_yes, all_turn, all_fails, all_end}
+use Rattle.std.proofs.Common.{◌≡◌, ◌-◌, ◌≤◌, true}
 use Rattle.floats.specs.Fold.{all_to}
-use Rattle.book.proofs.Laws.{row_fits, row_next}
 use Rattle.book.specs.Book.{row_right}
 use Rattle.book.specs.Places.{row_from, words}
 use Rattle.book.proofs.pairs_right.Given as goal

@@ -1,5 +1,4 @@
 -- `book::parameters_finite` meets its contract. From what the callees ensure. Assumes nothing.
-use Rattle.std.proofs.Common.{rules}
 use Rattle.book.specs.Book.{parameters_finite}
 use Rattle.book.proofs.parameters_finite.Goals as goal
 

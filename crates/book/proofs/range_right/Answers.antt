@@ -1,5 +1,4 @@
 -- `book::range_right` meets its contract. From what the callees ensure. Assumes nothing.
-use Rattle.std.proofs.Common.{rules}
 use Rattle.book.specs.Book.{range_right}
 use Rattle.book.proofs.range_right.Goals as goal
 

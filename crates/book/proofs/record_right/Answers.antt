@@ -1,5 +1,4 @@
 -- `book::record_right` meets its contract. From what the callees ensure. Assumes nothing.
-use Rattle.std.proofs.Common.{rules}
 use Rattle.book.specs.Book.{record_right}
 use Rattle.book.proofs.record_right.Goals as goal
 

@@ -1,5 +1,4 @@
 -- `book::records_right` meets its contract. From what the callees ensure. Assumes nothing.
-use Rattle.std.proofs.Common.{rules}
 use Rattle.book.proofs.Sound.{records_scanned}
 use Rattle.book.specs.Book.{records_right}
 use Rattle.book.proofs.records_right.Goals as goal

@@ -1,5 +1,4 @@
 -- `book::rule_of` meets its contract. One law for each return. Assumes nothing.
-use Rattle.std.proofs.Common.{rules}
 use Rattle.book.proofs.Laws.{rule-cut, rule-none, rule-read}
 use Rattle.book.proofs.rule_of.Goals as goal
 

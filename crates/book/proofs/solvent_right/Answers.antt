@@ -1,5 +1,4 @@
 -- `book::solvent_right` meets its contract. From what the callees ensure. Assumes nothing.
-use Rattle.std.proofs.Common.{rules}
 use Rattle.book.specs.Book.{solvent_right}
 use Rattle.book.proofs.solvent_right.Goals as goal
 

@@ -1,8 +1,6 @@
-use Rattle.std.proofs.Common.{◌≡◌, ◌+◌, ◌-◌, ◌≤◌, true, sym, refl, arith, rules}
-use Rattle.floats.proofs.Folds.{as_tested, was_no, was_yes, all_turn, all_fails, all_end}
+use Rattle.std.proofs.Common.{sym, refl, arith}
+use Rattle.floats.proofs.Folds.{as_tested, all_turn, all_fails, all_end}
 use Rattle.floats.specs.Fold.{all_to}
-use Rattle.book.specs.Book.{solvent_right}
-use Rattle.book.specs.Places.{words}
 use Rattle.book.proofs.solvents_right.Goals as goal
 
 pub loop-i-init : goal.loop-i-init

@@ -1,5 +1,4 @@
 -- `book::version_right` meets its contract. From what the callees ensure. Assumes nothing.
-use Rattle.std.proofs.Common.{rules}
 use Rattle.book.specs.Book.{version_right}
 use Rattle.book.proofs.version_right.Goals as goal
 

@@ -1,5 +1,5 @@
 -- `book::whole_block` meets its contract. A part from a start to an end is the block. Assumes nothing.
-use Rattle.std.proofs.Common.{length, ap, ◌∙◌, arith, rules}
+use Rattle.std.proofs.Common.{length, ap, ◌∙◌, arith}
 use Rattle.blocks.proofs.Laws.{part-block, length_block}
 use Rattle.book.proofs.whole_block.Goals as goal
 

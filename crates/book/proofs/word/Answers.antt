@@ -1,5 +1,4 @@
 -- `book::word` meets its contract. Assumes nothing.
-use Rattle.std.proofs.Common.{rules}
 use Rattle.blocks.specs.Words.{word}
 use Rattle.book.proofs.word.Goals as goal
 

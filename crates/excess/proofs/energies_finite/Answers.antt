@@ -1,5 +1,4 @@
 -- `excess::energies_finite` meets its contract. Assumes nothing.
-use borrow.Author.Rules.{rules}
 use Rattle.excess.specs.Answers.{energies_finite}
 use Rattle.excess.proofs.energies_finite.Goals as goal
 

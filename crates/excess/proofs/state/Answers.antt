@@ -1,5 +1,4 @@
 -- `excess::state` meets its contract. Assumes nothing.
-use borrow.Author.Rules.{rules}
 use Rattle.excess.proofs.Tests.{state_yes, state-no}
 use Rattle.excess.proofs.state.Goals as goal
 

@@ -1,5 +1,4 @@
 -- `excess::with_state` meets its contract. Assumes nothing.
-use borrow.Author.Rules.{rules}
 use Rattle.excess.proofs.Tests.{not_finite, not_positive, fractions-asked}
 use Rattle.excess.proofs.with_state.Goals as goal
 

@@ -1,9 +1,7 @@
 use Rattle.exports.specs.Slices.{eight_of}
 use Rattle.floats.proofs.Fills.{fill-turn, fill_done}
-use Rattle.floats.specs.Vector.{at, fill, vec}
-use mathlib.Core.Path.{◌≡◌, refl}
-use Prim.Native.Nat.{◌≤◌, ◌-◌}
-use borrow.Author.Rules.{rules}
+use Rattle.floats.specs.Vector.{fill}
+use mathlib.Core.Path.{refl}
 use native.Mathlib.Omega.{arith}
 use Rattle.exports.proofs.eight.Goals as goal
 

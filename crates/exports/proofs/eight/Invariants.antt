@@ -1,10 +1,6 @@
-use Rattle.exports.specs.Slices.{eight_of}
-use Rattle.floats.proofs.Fills.{fill-turn, fill_done}
-use Rattle.floats.specs.Vector.{at, fill, vec}
-use mathlib.Core.Path.{◌≡◌, refl}
+use Rattle.floats.specs.Vector.{at, vec}
+use mathlib.Core.Path.{◌≡◌}
 use Prim.Native.Nat.{◌≤◌, ◌-◌}
-use borrow.Author.Rules.{rules}
-use native.Mathlib.Omega.{arith}
 use Rattle.exports.proofs.eight.Given as goal
 
 abbrev pub invariant-loop-i : goal.invariant-loop-i

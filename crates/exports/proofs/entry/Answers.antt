@@ -1,7 +1,6 @@
 use lib.Ieee.{nan, of_bits, div}
 use lib.ListN.{get_or-eq_default}
 use mathlib.Core.Path.{refl, sym}
-use borrow.Author.Rules.{rules}
 use Rattle.exports.proofs.entry.Goals as goal
 
 pub returns-then-i-s : goal.returns-then-i-s

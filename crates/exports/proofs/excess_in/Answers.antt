@@ -1,6 +1,4 @@
 -- `exports::excess_in` meets its contract. Assumes nothing.
-use native.Mathlib.Omega.{arith}
-use borrow.Author.Rules.{rules}
 use Rattle.exports.proofs.Ways.{excess-no, excess-ok}
 use Rattle.exports.proofs.excess_in.Goals as goal
 

@@ -1,5 +1,4 @@
 use Rattle.exports.specs.Slices.{verdict_number}
-use borrow.Author.Rules.{rules}
 use Rattle.exports.proofs.refusal.Goals as goal
 
 pub returns-in-Passed : goal.returns-in-Passed

@@ -1,5 +1,4 @@
 -- `exports::status_float` meets its contract: by the variant. Assumes nothing.
-use borrow.Author.Rules.{rules}
 use Rattle.exports.specs.Models.{status_float}
 use Rattle.exports.proofs.status_float.Goals as goal
 

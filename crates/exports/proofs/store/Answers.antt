@@ -1,8 +1,7 @@
 use Rattle.floats.proofs.Fills.{fill-turn, fill_done, fill_length}
-use Rattle.floats.specs.Vector.{at, fill}
+use Rattle.floats.specs.Vector.{fill}
 use lib.ListN.{length}
-use mathlib.Core.Path.{◌≡◌, refl, ◌∙◌, ap}
-use Prim.Native.Nat.{◌≤◌, ◌-◌}
+use mathlib.Core.Path.{refl, ◌∙◌, ap}
 use borrow.Author.Rules.{rules}
 use native.Mathlib.Omega.{arith}
 use Rattle.exports.proofs.store.Goals as goal

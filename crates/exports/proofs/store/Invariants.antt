@@ -1,10 +1,7 @@
-use Rattle.floats.proofs.Fills.{fill-turn, fill_done, fill_length}
 use Rattle.floats.specs.Vector.{at, fill}
 use lib.ListN.{length}
-use mathlib.Core.Path.{◌≡◌, refl, ◌∙◌, ap}
+use mathlib.Core.Path.{◌≡◌}
 use Prim.Native.Nat.{◌≤◌, ◌-◌}
-use borrow.Author.Rules.{rules}
-use native.Mathlib.Omega.{arith}
 use Rattle.exports.proofs.store.Given as goal
 
 abbrev pub invariant-loop-i : goal.invariant-loop-i

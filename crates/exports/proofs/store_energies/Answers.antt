@@ -1,6 +1,5 @@
 -- `exports::store_energies` meets its contract: seven entries, one after the other. Assumes nothing.
 use native.Mathlib.Omega.{arith}
-use borrow.Author.Rules.{rules}
 use lib.ListN.{length-set}
 use Rattle.exports.specs.Models.{energies_stored}
 use Rattle.exports.proofs.store_energies.Goals as goal

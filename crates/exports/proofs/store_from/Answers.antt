@@ -1,10 +1,9 @@
-use mathlib.Core.Path.{◌≡◌, refl, ◌∙◌, ap}
-use Prim.Native.Nat.{◌≤◌, ◌+◌, ◌-◌}
+use mathlib.Core.Path.{refl, ◌∙◌, ap}
 use native.Mathlib.Omega.{arith}
 use borrow.Author.Rules.{rules}
 use lib.ListN.{length}
 use Rattle.floats.proofs.Fills.{fill_from-turn, fill_from_done, fill_from_length}
-use Rattle.floats.specs.Vector.{at, fill_from}
+use Rattle.floats.specs.Vector.{fill_from}
 use Rattle.exports.proofs.store_from.Goals as goal
 
 pub loop-i-init : goal.loop-i-init

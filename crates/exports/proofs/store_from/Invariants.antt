@@ -1,10 +1,7 @@
 -- `exports::store_from` meets its contract: the loop keeps that the entries so far are filled. Assumes nothing.
-use mathlib.Core.Path.{◌≡◌, refl, ◌∙◌, ap}
+use mathlib.Core.Path.{◌≡◌}
 use Prim.Native.Nat.{◌≤◌, ◌+◌, ◌-◌}
-use native.Mathlib.Omega.{arith}
-use borrow.Author.Rules.{rules}
 use lib.ListN.{length}
-use Rattle.floats.proofs.Fills.{fill_from-turn, fill_from_done, fill_from_length}
 use Rattle.floats.specs.Vector.{at, fill_from}
 use Rattle.exports.proofs.store_from.Given as goal
 

@@ -1,5 +1,4 @@
 -- `exports::store_state` meets its contract: from what the callees ensure. Assumes nothing.
-use borrow.Author.Rules.{rules}
 use Rattle.exports.proofs.store_state.Goals as goal
 
 pub returns : goal.returns

@@ -1,6 +1,5 @@
 -- `exports::store_vapor` meets its contract: four entries, one after the other. Assumes nothing.
 use native.Mathlib.Omega.{arith}
-use borrow.Author.Rules.{rules}
 use lib.ListN.{length-set}
 use Rattle.exports.proofs.store_vapor.Goals as goal
 

@@ -1,5 +1,4 @@
 -- `exports::vapor_in` meets its contract: the correlation's two answers. Assumes nothing.
-use borrow.Author.Rules.{rules}
 use Rattle.thermo_models.proofs.Pures.{vapor-is}
 use Rattle.exports.proofs.Ways.{vapor-refused, vapor-given}
 use Rattle.exports.proofs.vapor_in.Goals as goal

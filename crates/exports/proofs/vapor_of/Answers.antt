@@ -1,5 +1,4 @@
 -- `exports::vapor_of` meets its contract: the temperature's two answers. Assumes nothing.
-use borrow.Author.Rules.{rules}
 use Rattle.floats.proofs.Outcomes.{bind_yes, bind-no}
 use Rattle.sheet.proofs.Shared.{kelvin-ok, kelvin-no}
 use Rattle.exports.proofs.Ways.{vapor_as, vapor-none}

@@ -1,7 +1,6 @@
 -- `exports::zektonk_excess` meets its contract: the slice's length, then the book's two answers. Assumes nothing.
 use mathlib.Core.Path.{◌∙◌, sym}
 use borrow.Author.Tests.{le-leb, lt-leb}
-use borrow.Author.Rules.{rules}
 use Rattle.book.proofs.Accepted.{accepted}
 use Rattle.book.proofs.Laws.{opened-ok, opened-no}
 use Rattle.floats.proofs.Outcomes.{need_yes, need-no, bind_yes, bind-no}

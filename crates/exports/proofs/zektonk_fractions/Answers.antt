@@ -3,7 +3,6 @@ use Rattle.thermo_types.specs.Verdicts.{verdict_of}
 use Rattle.floats.specs.Outcome.{Out, ok, no}
 use Prim.Native.Nat.{ℕ}
 use mathlib.Core.Path.{◌≡◌, refl}
-use borrow.Author.Rules.{rules}
 use Rattle.exports.proofs.zektonk_fractions.Goals as goal
 
 number_is : (o : Out ℕ) → verdict_number (verdict_of o) ≡ outcome_number o

@@ -1,5 +1,4 @@
 -- `exports::zektonk_normalize` meets its contract. Assumes nothing.
-use borrow.Author.Rules.{rules}
 use Rattle.exports.proofs.Ways.{normalize-no, normalize-short, normalize-stored}
 use Rattle.exports.proofs.zektonk_normalize.Goals as goal
 

@@ -3,7 +3,6 @@ use Rattle.book.proofs.Accepted.{accepted}
 use Rattle.book.proofs.Laws.{opened-ok, opened-no}
 use mathlib.Core.Path.{sym, ◌∙◌}
 use native.Mathlib.Omega.{arith}
-use borrow.Author.Rules.{rules}
 use Rattle.exports.proofs.zektonk_open_book.Goals as goal
 
 pub overflow_add-result : goal.overflow_add-result

@@ -1,6 +1,5 @@
 use Rattle.sheet.proofs.Shared.{kelvin-ok, kelvin-no}
 use Rattle.exports.specs.Slices.{repeated}
-use borrow.Author.Rules.{rules}
 use Rattle.exports.proofs.zektonk_repeat_activity.Goals as goal
 
 pub returns-in-Valid : goal.returns-in-Valid

@@ -1,5 +1,4 @@
 -- `floats::positive` meets its contract. Assumes nothing.
-use borrow.Author.Rules.{rules}
 use Rattle.floats.specs.Small.{positive}
 use Rattle.floats.proofs.positive.Goals as goal
 

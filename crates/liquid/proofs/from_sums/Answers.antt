@@ -1,7 +1,6 @@
 -- `liquid::from_sums` meets its contract: its steps are those of `vapor_from`. Assumes nothing.
 use mathlib.Core.Path.{refl}
 use Rattle.liquid.specs.Vapor.{vapor_from}
-use borrow.Author.Rules.{rules}
 use Rattle.liquid.proofs.from_sums.Goals as goal
 
 pub returns : goal.returns

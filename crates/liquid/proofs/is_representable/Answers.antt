@@ -1,5 +1,4 @@
 -- `liquid::is_representable` meets its contract. Assumes nothing.
-use borrow.Author.Rules.{rules}
 use Rattle.liquid.proofs.is_representable.Goals as goal
 
 pub returns : goal.returns

@@ -1,6 +1,5 @@
 -- `liquid::ln_pressure` meets its contract. Assumes nothing.
 use Rattle.liquid.proofs.Ways.{logarithm_is}
-use borrow.Author.Rules.{rules}
 use Rattle.liquid.proofs.ln_pressure.Goals as goal
 
 pub returns : goal.returns

@@ -1,8 +1,4 @@
-use mathlib.Core.Path.{◌≡◌}
-use Prim.Native.Nat.{◌*◌, ◌≤◌, ◌-◌}
 use native.Mathlib.Omega.{arith}
-use borrow.Author.Rules.{rules}
-use Rattle.liquid.specs.Vapor.{sums_of}
 use Rattle.liquid.proofs.Ways.{terms_start, terms_done, pair-next}
 use Rattle.liquid.proofs.sum_pairs.Goals as goal
 

@@ -1,10 +1,7 @@
 -- `liquid::sum_pairs` meets its contract: the loop keeps the three sums so far. Assumes nothing.
 use mathlib.Core.Path.{◌≡◌}
 use Prim.Native.Nat.{◌*◌, ◌≤◌, ◌-◌}
-use native.Mathlib.Omega.{arith}
-use borrow.Author.Rules.{rules}
 use Rattle.liquid.specs.Vapor.{sums_of}
-use Rattle.liquid.proofs.Ways.{terms_start, terms_done, pair-next}
 use Rattle.liquid.proofs.sum_pairs.Given as goal
 
 abbrev pub invariant-loop-i : goal.invariant-loop-i

@@ -2,7 +2,6 @@
 use Prim.Native.Nat.{◌+◌, ◌*◌, ◌/◌, ◌-◌}
 use native.Mathlib.Omega.{arith}
 use Rattle.liquid.proofs.Ways.{terms_done, term-next}
-use borrow.Author.Rules.{rules}
 use Rattle.liquid.proofs.sum_terms.Goals as goal
 
 pub returns-then-count-eq0 : goal.returns-then-count-eq0

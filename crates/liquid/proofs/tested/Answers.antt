@@ -3,7 +3,6 @@ use Rattle.floats.proofs.Folds.{not_of_false, not_of_true}
 use mathlib.Core.Path.{refl}
 use Rattle.liquid.specs.Vapor.{vapor_answer}
 use Rattle.liquid.proofs.Ways.{numbers_no, numbers_yes}
-use borrow.Author.Rules.{rules}
 use Rattle.liquid.proofs.tested.Goals as goal
 
 pub returns-then-not-is_representable : goal.returns-then-not-is_representable

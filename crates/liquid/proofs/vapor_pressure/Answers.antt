@@ -1,7 +1,6 @@
 -- `liquid::vapor_pressure` meets its contract. Assumes nothing.
 use Rattle.floats.proofs.Folds.{not_of_true}
 use Rattle.liquid.proofs.Ways.{range_no, range_yes}
-use borrow.Author.Rules.{rules}
 use Rattle.liquid.proofs.vapor_pressure.Goals as goal
 
 pub returns-then-not-in_range : goal.returns-then-not-in_range

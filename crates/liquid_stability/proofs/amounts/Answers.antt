@@ -1,7 +1,5 @@
-use Prim.Native.Nat.{◌≤◌, ◌-◌}
-use mathlib.Core.Path.{◌≡◌, refl}
+use mathlib.Core.Path.{refl}
 use native.Mathlib.Omega.{arith}
-use borrow.Author.Rules.{rules}
 use Rattle.floats.proofs.Fills.{fill-turn, fill_done}
 use Rattle.floats.specs.Vector.{fill}
 use Rattle.liquid_stability.specs.Steps.{amounts_of}

@@ -1,10 +1,6 @@
 -- `liquid_stability::amounts` meets its contract. Assumes nothing.
 use Prim.Native.Nat.{◌≤◌, ◌-◌}
-use mathlib.Core.Path.{◌≡◌, refl}
-use native.Mathlib.Omega.{arith}
-use borrow.Author.Rules.{rules}
-use Rattle.floats.proofs.Fills.{fill-turn, fill_done}
-use Rattle.floats.specs.Vector.{fill}
+use mathlib.Core.Path.{◌≡◌}
 use Rattle.liquid_stability.specs.Steps.{amounts_of}
 use Rattle.liquid_stability.proofs.amounts.Given as goal
 

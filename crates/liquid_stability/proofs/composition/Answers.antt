@@ -1,12 +1,7 @@
-use Prim.Native.Nat.{◌≤◌, ◌-◌}
-use mathlib.Core.Bool.{cond}
-use mathlib.Core.Path.{◌≡◌, refl}
+use mathlib.Core.Path.{refl}
 use native.Mathlib.Omega.{arith}
-use lib.Ieee.{lt}
-use borrow.Author.Rules.{rules}
 use Rattle.floats.proofs.Fills.{fill-turn, fill_done}
-use Rattle.floats.specs.Arithmetic.{◌⊘◌, 0f}
-use Rattle.floats.specs.Vector.{at, fill, vec}
+use Rattle.floats.specs.Vector.{fill}
 use Rattle.liquid_stability.proofs.composition.Goals as goal
 
 pub loop-i-init : goal.loop-i-init

@@ -1,13 +1,10 @@
 -- `liquid_stability::composition` meets its contract. The invariant: the shares so far. Assumes nothing.
 use Prim.Native.Nat.{◌≤◌, ◌-◌}
 use mathlib.Core.Bool.{cond}
-use mathlib.Core.Path.{◌≡◌, refl}
-use native.Mathlib.Omega.{arith}
+use mathlib.Core.Path.{◌≡◌}
 use lib.Ieee.{lt}
-use borrow.Author.Rules.{rules}
-use Rattle.floats.proofs.Fills.{fill-turn, fill_done}
 use Rattle.floats.specs.Arithmetic.{◌⊘◌, 0f}
-use Rattle.floats.specs.Vector.{at, fill, vec}
+use Rattle.floats.specs.Vector.{at, vec}
 use Rattle.liquid_stability.proofs.composition.Given as goal
 
 abbrev pub invariant-loop-i : goal.invariant-loop-i

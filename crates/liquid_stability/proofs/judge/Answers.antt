@@ -1,5 +1,4 @@
 -- `liquid_stability::judge` meets its contract. Each way out is one of the laws. Assumes nothing.
-use borrow.Author.Rules.{rules}
 use Rattle.liquid_stability.proofs.Laws.{judge_finite, judge-unstable, judge_converged, judge-more}
 use Rattle.liquid_stability.proofs.judge.Goals as goal
 

@@ -1,5 +1,4 @@
 -- `liquid_stability::liquid_stability` meets its contract. A count past eight is read as eight. Assumes nothing.
-use borrow.Author.Rules.{rules}
 use Rattle.liquid_stability.proofs.liquid_stability.Goals as goal
 
 pub returns : goal.returns

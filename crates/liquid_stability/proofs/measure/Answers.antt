@@ -1,7 +1,5 @@
-use Prim.Native.Nat.{◌≤◌, ◌-◌}
-use mathlib.Core.Path.{◌≡◌, refl}
+use mathlib.Core.Path.{refl}
 use native.Mathlib.Omega.{arith}
-use borrow.Author.Rules.{rules}
 use Rattle.floats.specs.Fold.{fold_to}
 use Rattle.floats.proofs.Folds.{fold_done}
 use Rattle.liquid_stability.specs.Stability.{distance_of, change_of, apart_of}

@@ -1,12 +1,7 @@
 -- `liquid_stability::measure` meets its contract. The invariant: the three numbers over the solvents so far. Assumes nothing.
 use Prim.Native.Nat.{◌≤◌, ◌-◌}
-use mathlib.Core.Path.{◌≡◌, refl}
-use native.Mathlib.Omega.{arith}
-use borrow.Author.Rules.{rules}
-use Rattle.floats.specs.Fold.{fold_to}
-use Rattle.floats.proofs.Folds.{fold_done}
+use mathlib.Core.Path.{◌≡◌}
 use Rattle.liquid_stability.specs.Stability.{distance_of, change_of, apart_of}
-use Rattle.liquid_stability.proofs.Laws.{distance-turn, change-turn, apart-turn}
 use Rattle.liquid_stability.proofs.measure.Given as goal
 
 abbrev pub invariant-loop-i : goal.invariant-loop-i

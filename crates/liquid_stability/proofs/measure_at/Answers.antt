@@ -1,5 +1,4 @@
 -- `liquid_stability::measure_at` meets its contract. One solvent more, where it is present. Assumes nothing.
-use borrow.Author.Rules.{rules}
 use Rattle.liquid_stability.proofs.measure_at.Goals as goal
 
 pub returns-then-x : goal.returns-then-x

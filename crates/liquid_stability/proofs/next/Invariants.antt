@@ -1,9 +1,6 @@
 -- `liquid_stability::next` meets its contract. The invariant: ln W so far. Assumes nothing.
 use Prim.Native.Nat.{◌≤◌, ◌-◌}
-use mathlib.Core.Path.{◌≡◌, refl}
-use native.Mathlib.Omega.{arith}
-use Rattle.floats.proofs.Fills.{fill-turn, fill_done}
-use Rattle.floats.specs.Vector.{fill}
+use mathlib.Core.Path.{◌≡◌}
 use Rattle.liquid_stability.specs.Stability.{next_of}
 use Rattle.liquid_stability.proofs.next.Given as goal
 

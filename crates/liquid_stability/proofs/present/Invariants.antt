@@ -1,12 +1,7 @@
 -- `liquid_stability::present` meets its contract. The invariant: the solvents present so far, at most as many as were passed. Assumes nothing.
 use Prim.Native.Nat.{◌≤◌, ◌-◌}
-use mathlib.Core.Logic.{⊎_elim}
-use mathlib.Core.Path.{◌≡◌, refl}
-use native.Mathlib.Omega.{arith}
-use Rattle.floats.proofs.Folds.{fold_done}
-use Rattle.floats.specs.Fold.{fold_to}
+use mathlib.Core.Path.{◌≡◌}
 use Rattle.liquid_stability.specs.Stability.{present_count}
-use Rattle.liquid_stability.proofs.Laws.{count-present, count-absent}
 use Rattle.liquid_stability.proofs.present.Given as goal
 
 abbrev pub invariant-loop-i : goal.invariant-loop-i

@@ -1,5 +1,4 @@
 -- `liquid_stability::refused` meets its contract. The struct is the image of its number. Assumes nothing.
-use borrow.Author.Rules.{rules}
 use Rattle.liquid_stability.specs.Steps.{trial_answer}
 use Rattle.liquid_stability.proofs.refused.Goals as goal
 

@@ -1,13 +1,9 @@
 -- `liquid_stability::start` meets its contract. The invariant: ln W so far. Assumes nothing.
 use Prim.Native.Nat.{◌≤◌, ◌-◌}
 use mathlib.Core.Bool.{cond}
-use mathlib.Core.Path.{◌≡◌, refl}
-use native.Mathlib.Omega.{arith}
-use borrow.Author.Rules.{rules}
+use mathlib.Core.Path.{◌≡◌}
 use lib.Dec.{eqb}
-use Rattle.floats.proofs.Fills.{fill-turn, fill_done}
-use Rattle.floats.specs.Vector.{fill, vec}
-use Rattle.liquid_stability.specs.Stability.{start_from}
+use Rattle.floats.specs.Vector.{vec}
 use Rattle.liquid_stability.proofs.start.Given as goal
 
 abbrev pub invariant-loop-i : goal.invariant-loop-i

@@ -1,10 +1,6 @@
 -- `liquid_stability::tangent` meets its contract. The invariant: d so far. Assumes nothing.
 use Prim.Native.Nat.{◌≤◌, ◌-◌}
-use mathlib.Core.Path.{◌≡◌, refl}
-use native.Mathlib.Omega.{arith}
-use borrow.Author.Rules.{rules}
-use Rattle.floats.proofs.Fills.{fill-turn, fill_done}
-use Rattle.floats.specs.Vector.{fill}
+use mathlib.Core.Path.{◌≡◌}
 use Rattle.liquid_stability.specs.Stability.{tangent}
 use Rattle.liquid_stability.proofs.tangent.Given as goal
 

@@ -1,5 +1,4 @@
 -- `liquid_stability::tangent_at` meets its contract. d of a solvent present, 0 elsewhere. Assumes nothing.
-use borrow.Author.Rules.{rules}
 use Rattle.liquid_stability.proofs.tangent_at.Goals as goal
 
 pub returns-then-x : goal.returns-then-x

@@ -1,11 +1,7 @@
-use Prim.Native.Nat.{◌≤◌, ◌-◌}
-use borrow.Author.Rules.{rules}
-use mathlib.Core.Path.{refl, ◌≡◌}
+use mathlib.Core.Path.{refl}
 use native.Mathlib.Omega.{arith}
 use Rattle.floats.proofs.Folds.{fold_turn, fold_done}
-use Rattle.floats.specs.Arithmetic.{0f, ◌⊕◌}
-use Rattle.floats.specs.Fold.{fold_to, active}
-use Rattle.floats.specs.Vector.{at}
+use Rattle.floats.specs.Fold.{fold_to}
 use Rattle.liquid_stability.proofs.total.Goals as goal
 
 pub loop-i-init : goal.loop-i-init

@@ -1,9 +1,6 @@
 -- `liquid_stability::total` meets its contract. The invariant: the sum over the solvents present so far. Assumes nothing.
 use Prim.Native.Nat.{◌≤◌, ◌-◌}
-use borrow.Author.Rules.{rules}
-use mathlib.Core.Path.{refl, ◌≡◌}
-use native.Mathlib.Omega.{arith}
-use Rattle.floats.proofs.Folds.{fold_turn, fold_done}
+use mathlib.Core.Path.{◌≡◌}
 use Rattle.floats.specs.Arithmetic.{0f, ◌⊕◌}
 use Rattle.floats.specs.Fold.{fold_to, active}
 use Rattle.floats.specs.Vector.{at}

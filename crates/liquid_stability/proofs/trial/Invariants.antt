@@ -1,11 +1,8 @@
 -- `liquid_stability::trial` meets its contract. The invariant: what is left to run from here is the whole run. Assumes nothing.
 use Prim.Native.Nat.{◌≤◌, ◌-◌}
-use borrow.Author.Rules.{rules}
 use mathlib.Core.Path.{◌≡◌}
-use native.Mathlib.Omega.{arith}
 use Rattle.liquid_stability.specs.Stability.{trial_from, start_from}
 use Rattle.thermo_models.specs.Activity.{activity_on}
-use Rattle.liquid_stability.proofs.Laws.{trial-start, trial_out, trial-refused, trial-found, trial-more}
 use Rattle.liquid_stability.proofs.trial.Given as goal
 
 abbrev pub invariant-loop-done : goal.invariant-loop-done

@@ -1,11 +1,5 @@
-use Prim.Native.Nat.{◌≤◌, ◌-◌}
-use borrow.Author.Rules.{rules}
-use mathlib.Core.Logic.{⊎_elim}
-use mathlib.Core.Path.{◌≡◌}
 use native.Mathlib.Omega.{arith}
-use Rattle.liquid_stability.specs.Stability.{trials_to}
-use Rattle.thermo_models.specs.Activity.{activity_on}
-use Rattle.liquid_stability.proofs.Laws.{so_far, trials-none, trials-refused, trials_done, trials_skip, trials-more}
+use Rattle.liquid_stability.proofs.Laws.{trials-none, trials-refused, trials_done, trials_skip, trials-more}
 use Rattle.liquid_stability.proofs.trials.Goals as goal
 use Rattle.liquid_stability.proofs.trials.Goals.{then-x-j+in_default, else-x-j}
 

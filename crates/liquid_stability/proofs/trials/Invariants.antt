@@ -1,12 +1,9 @@
 -- `liquid_stability::trials` meets its contract. The invariant: the trials so far are ok, with this state. Assumes nothing.
 use Prim.Native.Nat.{◌≤◌, ◌-◌}
-use borrow.Author.Rules.{rules}
-use mathlib.Core.Logic.{⊎_elim}
 use mathlib.Core.Path.{◌≡◌}
-use native.Mathlib.Omega.{arith}
 use Rattle.liquid_stability.specs.Stability.{trials_to}
 use Rattle.thermo_models.specs.Activity.{activity_on}
-use Rattle.liquid_stability.proofs.Laws.{so_far, trials-none, trials-refused, trials_done, trials_skip, trials-more}
+use Rattle.liquid_stability.proofs.Laws.{so_far}
 use Rattle.liquid_stability.proofs.trials.Given as goal
 
 abbrev pub invariant-loop-j : goal.invariant-loop-j

@@ -1,5 +1,4 @@
 -- `liquid_stability::turn` meets its contract. The parts of a turn, put together. Assumes nothing.
-use borrow.Author.Rules.{rules}
 use Rattle.liquid_stability.proofs.Laws.{turn-refused, turn_judged}
 use Rattle.liquid_stability.proofs.turn.Goals as goal
 

@@ -1,5 +1,4 @@
 -- `liquid_stability::without_trials` meets its contract. Eight entries that no trial has filled. Assumes nothing.
-use borrow.Author.Rules.{rules}
 use Rattle.liquid_stability.specs.Stability.{no_trials}
 use Rattle.liquid_stability.proofs.without_trials.Goals as goal
 

@@ -1,11 +1,6 @@
-use Prim.Native.Nat.{◌≤◌, ◌-◌}
-use mathlib.Core.Path.{◌≡◌, refl}
-use mathlib.Core.Bool.{◌&&◌}
+use mathlib.Core.Path.{refl}
 use native.Mathlib.Omega.{arith}
-use borrow.Author.Rules.{rules}
-use Rattle.floats.specs.Small.{is_finite}
 use Rattle.floats.specs.Fold.{all_to}
-use Rattle.floats.specs.Vector.{at}
 use Rattle.floats.proofs.Folds.{all_next, all_done}
 use Rattle.nrtl.proofs.all_finite.Goals as goal
 

@@ -1,13 +1,10 @@
 -- `nrtl::all_finite` meets its contract. Assumes nothing.
 use Prim.Native.Nat.{◌≤◌, ◌-◌}
-use mathlib.Core.Path.{◌≡◌, refl}
+use mathlib.Core.Path.{◌≡◌}
 use mathlib.Core.Bool.{◌&&◌}
-use native.Mathlib.Omega.{arith}
-use borrow.Author.Rules.{rules}
 use Rattle.floats.specs.Small.{is_finite}
 use Rattle.floats.specs.Fold.{all_to}
 use Rattle.floats.specs.Vector.{at}
-use Rattle.floats.proofs.Folds.{all_next, all_done}
 use Rattle.nrtl.proofs.all_finite.Given as goal
 
 abbrev pub invariant-loop-i : goal.invariant-loop-i

@@ -1,7 +1,6 @@
 -- `nrtl::clear_past` meets its contract. Assumes nothing.
 use mathlib.Core.Path.{refl}
 use native.Mathlib.Omega.{arith}
-use borrow.Author.Rules.{rules}
 use Rattle.nrtl.proofs.clear_past.Goals as goal
 
 pub returns-then-n-eq1 : goal.returns-then-n-eq1

@@ -1,5 +1,4 @@
 -- `nrtl::excess` meets its contract. Assumes nothing.
-use borrow.Author.Rules.{rules}
 use Rattle.nrtl.proofs.Tests.{state-asked, state-refused}
 use Rattle.nrtl.proofs.excess.Goals as goal
 

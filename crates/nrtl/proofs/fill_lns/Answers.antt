@@ -1,13 +1,7 @@
-use Prim.Native.Nat.{◌≤◌, ◌+◌, ◌-◌, ◌%◌}
-use mathlib.Core.Path.{◌≡◌, refl}
+use mathlib.Core.Path.{refl}
 use native.Mathlib.Omega.{arith}
-use borrow.Author.Rules.{rules}
-use Rattle.floats.specs.Vector.{at, fill}
+use Rattle.floats.specs.Vector.{fill}
 use Rattle.floats.proofs.Fills.{fill_done}
-use Rattle.jet.specs.Planes.{twos}
-use Rattle.nrtl_tables.specs.Table.{g_plane, tau_plane}
-use Rattle.nrtl.specs.Columns.{ln_from}
-use Rattle.nrtl.specs.Lanes.{two_in}
 use Rattle.nrtl.proofs.Lanes.{two-turn, four-turn}
 use Rattle.nrtl.proofs.fill_lns.Goals as goal
 

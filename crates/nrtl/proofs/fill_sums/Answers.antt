@@ -1,11 +1,6 @@
-use Prim.Native.Nat.{◌≤◌, ◌+◌, ◌-◌, ◌%◌}
-use mathlib.Core.Path.{◌≡◌, refl}
+use mathlib.Core.Path.{refl}
 use native.Mathlib.Omega.{arith}
-use borrow.Author.Rules.{rules}
 use Rattle.floats.specs.Fold.{fold_to}
-use Rattle.floats.specs.Vector.{at}
-use Rattle.nrtl.specs.Lanes.{lanes}
-use Rattle.nrtl.specs.On.{s_on, r_on}
 use Rattle.nrtl.proofs.Lanes.{pair_turn, quad_turn, lanes_done}
 use Rattle.nrtl.proofs.fill_sums.Goals as goal
 

@@ -1,6 +1,5 @@
 -- `nrtl::jet_at` meets its contract. Assumes nothing.
 use mathlib.Core.Path.{refl}
-use native.Mathlib.Omega.{arith}
 use Rattle.jet.specs.Planes.{jet_at}
 use Rattle.nrtl.proofs.jet_at.Goals as goal
 

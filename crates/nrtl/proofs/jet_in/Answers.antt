@@ -1,7 +1,5 @@
 -- `nrtl::jet_in` meets its contract. Assumes nothing.
 use mathlib.Core.Path.{refl}
-use native.Mathlib.Omega.{arith}
-use borrow.Author.Rules.{rules}
 use Rattle.nrtl.specs.Lanes.{jet_in}
 use Rattle.nrtl.proofs.jet_in.Goals as goal
 

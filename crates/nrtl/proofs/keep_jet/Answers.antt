@@ -1,6 +1,4 @@
 -- `nrtl::keep_jet` meets its contract. Assumes nothing.
-use native.Mathlib.Omega.{arith}
-use borrow.Author.Rules.{rules}
 use Rattle.nrtl.proofs.Lanes.{jet_kept}
 use Rattle.nrtl.proofs.keep_jet.Goals as goal
 

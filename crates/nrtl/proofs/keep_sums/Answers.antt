@@ -1,6 +1,4 @@
 -- `nrtl::keep_sums` meets its contract. Assumes nothing.
-use native.Mathlib.Omega.{arith}
-use borrow.Author.Rules.{rules}
 use Rattle.nrtl.proofs.Lanes.{pair-kept, ratio-kept}
 use Rattle.nrtl.proofs.keep_sums.Goals as goal
 

@@ -1,6 +1,4 @@
 -- `nrtl::keep_two` meets its contract. Assumes nothing.
-use native.Mathlib.Omega.{arith}
-use borrow.Author.Rules.{rules}
 use Rattle.nrtl.proofs.Lanes.{two-kept}
 use Rattle.nrtl.proofs.keep_two.Goals as goal
 

@@ -1,5 +1,4 @@
 -- `nrtl::ln_gammas` meets its contract. Assumes nothing.
-use borrow.Author.Rules.{rules}
 use Rattle.nrtl.proofs.Lanes.{gammas_all}
 use Rattle.nrtl.proofs.ln_gammas.Goals as goal
 

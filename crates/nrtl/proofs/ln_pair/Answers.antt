@@ -1,5 +1,4 @@
 -- `nrtl::ln_pair` meets its contract. Assumes nothing.
-use borrow.Author.Rules.{rules}
 use Rattle.jet.specs.declared.Jet.{Jet}
 use Rattle.nrtl.proofs.Lanes.{lns_pair}
 use Rattle.nrtl.proofs.ln_pair.Goals as goal

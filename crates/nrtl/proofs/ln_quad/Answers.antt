@@ -1,6 +1,4 @@
 -- `nrtl::ln_quad` meets its contract. Assumes nothing.
-use native.Mathlib.Omega.{arith}
-use borrow.Author.Rules.{rules}
 use Rattle.jet.specs.declared.Jet.{Jet}
 use Rattle.nrtl.proofs.Lanes.{lns_quad}
 use Rattle.nrtl.proofs.ln_quad.Goals as goal

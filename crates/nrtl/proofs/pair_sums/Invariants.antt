@@ -1,14 +1,9 @@
 -- `nrtl::pair_sums` meets its contract. Assumes nothing.
 use Prim.Native.Nat.{◌≤◌, ◌+◌, ◌-◌}
-use mathlib.Core.Path.{◌≡◌, refl}
-use native.Mathlib.Omega.{arith}
-use borrow.Author.Rules.{rules}
-use Rattle.floats.specs.Fold.{fold_to}
+use mathlib.Core.Path.{◌≡◌}
 use Rattle.floats.specs.Vector.{at}
 use Rattle.jet.specs.Planes.{jets}
-use Rattle.jet.proofs.Sums.{sum_jet_turn, sum_jet_done}
 use Rattle.nrtl.specs.Columns.{col_s}
-use Rattle.nrtl.proofs.Lanes.{pair_is}
 use Rattle.nrtl.proofs.pair_sums.Given as goal
 
 abbrev pub invariant-loop-k : goal.invariant-loop-k

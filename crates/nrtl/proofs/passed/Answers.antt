@@ -1,5 +1,4 @@
 -- `nrtl::passed` meets its contract. Assumes nothing.
-use borrow.Author.Rules.{rules}
 use Rattle.nrtl.proofs.Tests.{alphas-passed, alphas-refused}
 use Rattle.nrtl.proofs.passed.Goals as goal
 

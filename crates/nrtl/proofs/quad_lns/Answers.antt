@@ -1,14 +1,8 @@
-use Prim.Native.Nat.{◌≤◌, ◌<◌, ◌+◌, ◌-◌}
-use mathlib.Core.Path.{◌≡◌, refl}
+use mathlib.Core.Path.{refl}
 use native.Mathlib.Omega.{arith}
-use borrow.Author.Rules.{rules}
 use Rattle.floats.specs.Fold.{fold_to}
-use Rattle.floats.specs.Vector.{at}
 use Rattle.jet.proofs.Sums.{sum_jet_turn, sum_jet_done}
-use Rattle.jet.specs.Planes.{twos}
-use Rattle.nrtl_tables.specs.Table.{g_plane, tau_plane}
 use Rattle.nrtl.specs.Columns.{ln_from}
-use Rattle.nrtl.specs.Lanes.{two_in}
 use Rattle.nrtl.proofs.Lanes.{quad_is}
 use Rattle.nrtl.proofs.quad_lns.Goals as goal
 

@@ -1,16 +1,11 @@
 -- `nrtl::quad_lns` meets its contract. Assumes nothing.
 use Prim.Native.Nat.{◌≤◌, ◌<◌, ◌+◌, ◌-◌}
-use mathlib.Core.Path.{◌≡◌, refl}
-use native.Mathlib.Omega.{arith}
-use borrow.Author.Rules.{rules}
-use Rattle.floats.specs.Fold.{fold_to}
+use mathlib.Core.Path.{◌≡◌}
 use Rattle.floats.specs.Vector.{at}
-use Rattle.jet.proofs.Sums.{sum_jet_turn, sum_jet_done}
 use Rattle.jet.specs.Planes.{twos}
 use Rattle.nrtl_tables.specs.Table.{g_plane, tau_plane}
 use Rattle.nrtl.specs.Columns.{ln_from}
 use Rattle.nrtl.specs.Lanes.{two_in}
-use Rattle.nrtl.proofs.Lanes.{quad_is}
 use Rattle.nrtl.proofs.quad_lns.Given as goal
 
 abbrev pub invariant-loop-j : goal.invariant-loop-j

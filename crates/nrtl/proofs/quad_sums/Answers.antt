@@ -1,10 +1,6 @@
-use Prim.Native.Nat.{◌≤◌, ◌<◌, ◌+◌, ◌-◌}
-use mathlib.Core.Path.{◌≡◌, refl}
+use mathlib.Core.Path.{refl}
 use native.Mathlib.Omega.{arith}
-use borrow.Author.Rules.{rules}
 use Rattle.floats.specs.Fold.{fold_to}
-use Rattle.floats.specs.Vector.{at}
-use Rattle.jet.specs.Planes.{jets}
 use Rattle.jet.proofs.Sums.{sum_jet_turn, sum_jet_done}
 use Rattle.nrtl.specs.Columns.{col_s}
 use Rattle.nrtl.proofs.Lanes.{quad_is}

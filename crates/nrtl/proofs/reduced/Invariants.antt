@@ -1,11 +1,7 @@
 -- `nrtl::reduced` meets its contract. Assumes nothing.
 use Prim.Native.Nat.{◌≤◌, ◌-◌}
 use mathlib.Core.Path.{◌≡◌}
-use native.Mathlib.Omega.{arith}
-use borrow.Author.Rules.{rules}
-use Rattle.floats.specs.Fold.{fold_to}
 use Rattle.floats.specs.Vector.{at}
-use Rattle.jet.proofs.Sums.{sum_jet_turn, sum_jet_done}
 use Rattle.nrtl.specs.Columns.{gibbs_from}
 use Rattle.nrtl.specs.Lanes.{jet_in}
 use Rattle.nrtl.proofs.reduced.Given as goal

@@ -1,5 +1,4 @@
 -- `nrtl::state` meets its contract. Assumes nothing.
-use borrow.Author.Rules.{rules}
 use Rattle.nrtl.proofs.Whole.{state_yes, state-no}
 use Rattle.nrtl.proofs.state.Goals as goal
 

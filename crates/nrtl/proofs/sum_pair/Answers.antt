@@ -1,5 +1,4 @@
 -- `nrtl::sum_pair` meets its contract. Assumes nothing.
-use borrow.Author.Rules.{rules}
 use Rattle.nrtl.proofs.Lanes.{sums-pair, ratios-pair}
 use Rattle.nrtl.proofs.sum_pair.Goals as goal
 

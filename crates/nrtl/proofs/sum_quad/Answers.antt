@@ -1,6 +1,4 @@
 -- `nrtl::sum_quad` meets its contract. Assumes nothing.
-use native.Mathlib.Omega.{arith}
-use borrow.Author.Rules.{rules}
 use Rattle.nrtl.proofs.Lanes.{sums_quad, ratios_quad}
 use Rattle.nrtl.proofs.sum_quad.Goals as goal
 

@@ -1,5 +1,4 @@
 -- `nrtl::term` meets its contract. Assumes nothing.
-use borrow.Author.Rules.{rules}
 use Rattle.nrtl.specs.Columns.{term_j}
 use Rattle.nrtl.proofs.term.Goals as goal
 

@@ -1,11 +1,8 @@
 -- `nrtl_tables::all_right` meets its contract. Assumes nothing.
 use Prim.Native.Nat.{◌≤◌, ◌-◌}
-use mathlib.Core.Path.{◌≡◌, refl}
-use native.Mathlib.Omega.{arith}
-use borrow.Author.Rules.{rules}
-use Rattle.floats.proofs.Folds.{all_next, all_done}
+use mathlib.Core.Path.{◌≡◌}
 use Rattle.floats.specs.Fold.{all_to}
-use Rattle.nrtl_tables.specs.Pair.{alpha_right, all_right}
+use Rattle.nrtl_tables.specs.Pair.{alpha_right}
 use Rattle.nrtl_tables.proofs.all_right.Given as goal
 
 abbrev pub invariant-loop-i : goal.invariant-loop-i

@@ -1,6 +1,4 @@
 -- `nrtl_tables::alpha_of` meets its contract. Assumes nothing.
-use native.Mathlib.Omega.{arith}
-use borrow.Author.Rules.{rules}
 use Rattle.nrtl_tables.specs.Pair.{alpha_j}
 use Rattle.nrtl_tables.proofs.alpha_of.Goals as goal
 

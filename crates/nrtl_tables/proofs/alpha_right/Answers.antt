@@ -1,6 +1,4 @@
 -- `nrtl_tables::alpha_right` meets its contract. Assumes nothing.
-use native.Mathlib.Omega.{arith}
-use borrow.Author.Rules.{rules}
 use borrow.Author.Tests.{eq-eqb, ne_eqb}
 use Rattle.floats.proofs.Nan.{nan_if}
 use Rattle.nrtl_tables.specs.Pair.{alpha_right}

@@ -1,5 +1,4 @@
 -- `nrtl_tables::basis_at` meets its contract. Assumes nothing.
-use borrow.Author.Rules.{rules}
 use Rattle.nrtl_tables.specs.Pair.{basis_of}
 use Rattle.nrtl_tables.proofs.basis_at.Goals as goal
 

@@ -1,10 +1,6 @@
-use Prim.Native.Nat.{◌≤◌, ◌-◌}
-use mathlib.Core.Path.{◌≡◌, refl}
+use mathlib.Core.Path.{refl}
 use Rattle.floats.proofs.Folds.{fold_turn, fold_done}
 use Rattle.floats.specs.Fold.{fold_to}
-use Rattle.nrtl_tables.specs.Pair.{tau_ij, g_ij}
-use Rattle.nrtl_tables.specs.Table.{table_pairs}
-use borrow.Author.Rules.{rules}
 use native.Mathlib.Omega.{arith}
 use Rattle.nrtl_tables.proofs.border.Goals as goal
 

@@ -1,6 +1,5 @@
 -- `nrtl_tables::both` meets its contract. Assumes nothing.
 use Rattle.nrtl_tables.proofs.Stores.{both-made}
-use borrow.Author.Rules.{rules}
 use Rattle.nrtl_tables.proofs.both.Goals as goal
 
 pub returns : goal.returns

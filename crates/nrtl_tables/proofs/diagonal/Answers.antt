@@ -1,6 +1,4 @@
 -- `nrtl_tables::diagonal` meets its contract. Assumes nothing.
-use mathlib.Core.Path.{◌≡◌}
-use borrow.Author.Rules.{rules}
 use Rattle.nrtl_tables.proofs.diagonal.Goals as goal
 
 pub returns : goal.returns

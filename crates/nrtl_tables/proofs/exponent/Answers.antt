@@ -1,5 +1,4 @@
 -- `nrtl_tables::exponent` meets its contract. Assumes nothing.
-use borrow.Author.Rules.{rules}
 use Rattle.nrtl_tables.specs.Pair.{exponent_j}
 use Rattle.nrtl_tables.proofs.exponent.Goals as goal
 

@@ -1,5 +1,4 @@
 -- `nrtl_tables::fill_tables` meets its contract. Assumes nothing.
-use borrow.Author.Rules.{rules}
 use Rattle.nrtl_tables.proofs.Stores.{filled-no, filled_yes}
 use Rattle.nrtl_tables.proofs.fill_tables.Goals as goal
 

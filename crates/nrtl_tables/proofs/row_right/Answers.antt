@@ -1,10 +1,7 @@
-use Prim.Native.Nat.{◌≤◌, ◌-◌}
-use mathlib.Core.Path.{◌≡◌, refl}
+use mathlib.Core.Path.{refl}
 use native.Mathlib.Omega.{arith}
-use borrow.Author.Rules.{rules}
 use Rattle.floats.proofs.Folds.{all_next, all_done}
 use Rattle.floats.specs.Fold.{all_to}
-use Rattle.nrtl_tables.specs.Pair.{alpha_right}
 use Rattle.nrtl_tables.proofs.row_right.Goals as goal
 
 pub loop-j-init : goal.loop-j-init

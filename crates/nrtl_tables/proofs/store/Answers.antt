@@ -1,6 +1,4 @@
 -- `nrtl_tables::store` meets its contract. Assumes nothing.
-use native.Mathlib.Omega.{arith}
-use borrow.Author.Rules.{rules}
 use Rattle.nrtl_tables.proofs.Stores.{stored}
 use Rattle.nrtl_tables.proofs.store.Goals as goal
 

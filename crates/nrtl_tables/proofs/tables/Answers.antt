@@ -1,5 +1,4 @@
 -- `nrtl_tables::tables` meets its contract. Assumes nothing.
-use borrow.Author.Rules.{rules}
 use Rattle.nrtl_tables.proofs.tables.Goals as goal
 
 pub returns : goal.returns

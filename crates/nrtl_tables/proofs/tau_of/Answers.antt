@@ -1,6 +1,4 @@
 -- `nrtl_tables::tau_of` meets its contract. Assumes nothing.
-use native.Mathlib.Omega.{arith}
-use borrow.Author.Rules.{rules}
 use Rattle.nrtl_tables.proofs.Stores.{tau-made}
 use Rattle.nrtl_tables.proofs.tau_of.Goals as goal
 

@@ -1,5 +1,5 @@
 -- `numerics::count` meets its contract (`proofs/Guess.antt`).
-use Rattle.std.proofs.Common.{◌+◌, rules}
+use Rattle.std.proofs.Common.{◌+◌}
 use lib.Ieee.{nan_bits, binary64}
 use Rattle.floats.proofs.Nan.{no_nan}
 use Rattle.numerics.proofs.Guess.{count-is, count-no_nan}

@@ -1,5 +1,4 @@
 -- `numerics::exp` meets its contract, by what `exp_near` and `exp_far` ensure.
-use Rattle.std.proofs.Common.{rules}
 use Rattle.numerics.proofs.exp.Goals as goal
 
 pub returns-then-n : goal.returns-then-n

@@ -1,6 +1,6 @@
 -- `numerics::exp_digits` meets its contract: its steps are those of `digits` (`proofs/Signs.antt`, `proofs/Guess.antt`).
 use Rattle.std.proofs.Common.{T, sym, refl, subst}
-use lib.Ieee.{binary64, of_bits, neg, fits}
+use lib.Ieee.{of_bits, neg}
 use Rattle.numerics.proofs.Guess.{two_products, one_product}
 use Rattle.numerics.proofs.exp_digits.Goals as goal
 

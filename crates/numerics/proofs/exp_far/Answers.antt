@@ -1,5 +1,5 @@
 -- `numerics::exp_far` meets its contract. Each arm returns what `exp_of` picks where the tests are as the arm found them; what the two calls require is in `proofs/Limits.antt`.
-use Rattle.std.proofs.Common.{◌≡◌, ◌<◌, ℤ, sym, refl, ap, ◌∙◌, arith, lit<, w64, to_z, of_z, false, rules}
+use Rattle.std.proofs.Common.{◌≡◌, ◌<◌, ℤ, sym, refl, ap, ◌∙◌, arith, lit<, w64, to_z, of_z, false}
 use lib.Signed.{mag}
 use lib.Ieee.{Float, is_nan, of_bits, neg, nan_bits, to_signed, lt}
 use mir.ValLaws.{to_z-of_z}

@@ -1,5 +1,5 @@
 -- `numerics::exp_from` meets its contract: by what `exp_digits` ensures. What is left is that k and its halves are small.
-use Rattle.std.proofs.Common.{◌≡◌, ◌≤◌, ◌<◌, ℤ, pos, ◌-ℤ◌, ap, arith, lit<, w64, SFits, to_z, of_z, rules}
+use Rattle.std.proofs.Common.{◌≡◌, ◌<◌, ℤ, pos, ◌-ℤ◌, ap, arith, lit<, w64, SFits, to_z, of_z}
 use lib.Signed.{mag, quot_z}
 use mir.ValLaws.{to_z-of_z}
 use Rattle.numerics.specs.Numerics.{whole}

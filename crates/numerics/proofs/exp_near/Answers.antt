@@ -1,6 +1,6 @@
 -- `numerics::exp_near` meets its contract (`proofs/Guess.antt`).
-use Rattle.std.proofs.Common.{◌*◌, ◌%◌, T, sym, subst, arith, rules}
-use lib.Ieee.{binary64, fits, nan_bits, to_bits}
+use Rattle.std.proofs.Common.{◌*◌, ◌%◌, T, sym, subst, arith}
+use lib.Ieee.{binary64, nan_bits, to_bits}
 use Rattle.floats.specs.Arithmetic.{#, ◌⊕◌, ◌⊗◌}
 use Rattle.floats.proofs.Nan.{no_nan}
 use Rattle.numerics.specs.Numerics.{C}

@@ -1,5 +1,4 @@
 -- `numerics::exp_two` meets its contract, by what `exp_near` and `exp_far` ensure.
-use Rattle.std.proofs.Common.{rules}
 use Rattle.numerics.proofs.Guess.{both}
 use Rattle.numerics.proofs.exp_two.Goals as goal
 

@@ -1,8 +1,7 @@
-use Rattle.std.proofs.Common.{◌≡◌, ◌+◌, ◌-◌, ◌%◌, ◌≤◌, List, refl, ap, ◌∙◌, arith, rules}
+use Rattle.std.proofs.Common.{List, refl, ap, ◌∙◌, arith}
 use lib.Ieee.{Float, nan}
 use Rattle.floats.proofs.Fills.{fill-turn, fill_done, fill-at}
-use Rattle.floats.specs.Vector.{at, fill, vec, zeros8}
-use Rattle.numerics.specs.Numerics.{exp_of}
+use Rattle.floats.specs.Vector.{at, fill, zeros8}
 use Rattle.numerics.proofs.exps.Goals as goal
 
 pub loop-i-init : goal.loop-i-init

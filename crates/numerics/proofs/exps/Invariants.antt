@@ -1,8 +1,6 @@
 -- `numerics::exps` meets its contract. Assumes nothing.
-use Rattle.std.proofs.Common.{◌≡◌, ◌+◌, ◌-◌, ◌%◌, ◌≤◌, List, refl, ap, ◌∙◌, arith, rules}
-use lib.Ieee.{Float, nan}
-use Rattle.floats.proofs.Fills.{fill-turn, fill_done, fill-at}
-use Rattle.floats.specs.Vector.{at, fill, vec, zeros8}
+use Rattle.std.proofs.Common.{◌≡◌, ◌+◌, ◌-◌, ◌%◌, ◌≤◌}
+use Rattle.floats.specs.Vector.{at, vec}
 use Rattle.numerics.specs.Numerics.{exp_of}
 use Rattle.numerics.proofs.exps.Given as goal
 

@@ -1,5 +1,4 @@
 -- `numerics::halved` meets its contract. Assumes nothing.
-use Rattle.std.proofs.Common.{rules}
 use Rattle.numerics.proofs.halved.Goals as goal
 
 pub returns-then-up : goal.returns-then-up

@@ -1,5 +1,5 @@
 -- `numerics::ln_digits` meets its contract: what `normal` gives are the digits of v's mantissa, and field - 1022 - j is v's exponent (`proofs/Splits.antt`).
-use Rattle.std.proofs.Common.{◌≡◌, ℕ, ◌+◌, ◌*◌, ◌^◌, ◌<◌, ◌≤◌, false, ◌-ℤ◌, sym, ap, ◌∙◌, subst, ap₂, add_comm, arith, w64, SFits, to_z, of_z, rules}
+use Rattle.std.proofs.Common.{◌≡◌, ℕ, ◌+◌, ◌*◌, ◌^◌, ◌<◌, ◌≤◌, false, ◌-ℤ◌, sym, ap, ◌∙◌, subst, ap₂, add_comm, arith, w64, SFits, to_z, of_z}
 use lib.Signed.{mag}
 use lib.Ieee.{minus, odd, binary64, of_bits, nan_bits}
 use mir.ValLaws.{to_z-of_z}

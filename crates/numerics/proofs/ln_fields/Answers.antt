@@ -1,5 +1,5 @@
 -- `numerics::ln_fields` meets its contract. Assumes nothing.
-use Rattle.std.proofs.Common.{◌≡◌, ◌+◌, arith, rules}
+use Rattle.std.proofs.Common.{◌+◌}
 use lib.Ieee.{nan_bits, binary64, of_bits, lt}
 use Rattle.floats.proofs.Nan.{no_nan}
 use Rattle.numerics.specs.Numerics.{√2}

@@ -1,6 +1,6 @@
 -- `numerics::ln_near` meets its contract. Assumes nothing.
-use Rattle.std.proofs.Common.{T, sym, subst, arith, rules}
-use lib.Ieee.{Float, binary64, fits, nan_bits}
+use Rattle.std.proofs.Common.{T, sym, subst, arith}
+use lib.Ieee.{Float, nan_bits}
 use lib.Ieee.Positive.{positive}
 use Rattle.numerics.proofs.Fields.{kept-positive, no_nan_of, near_field, near-ln}
 use Rattle.numerics.proofs.ln_near.Goals as goal

@@ -1,6 +1,6 @@
 -- `numerics::ln_positive` meets its contract: what its two arms pass on are the digits and the place of v's bit pattern (`proofs/Patterns.antt`).
-use Rattle.std.proofs.Common.{◌≡◌, ◌/◌, ◌%◌, not, T, sym, ◌∙◌, subst, arith, lit<, rules}
-use lib.Ieee.{Float, fin, binary64, fits, is_nan, to_bits, of_bits}
+use Rattle.std.proofs.Common.{T, sym, ◌∙◌, subst, arith, lit<}
+use lib.Ieee.{Float, binary64, fits, to_bits, of_bits}
 use lib.Ieee.Bits.{of_bits-to_bits}
 use lib.Ieee.Positive.{positive}
 use Rattle.numerics.proofs.Patterns.{field_lt, subnormal}

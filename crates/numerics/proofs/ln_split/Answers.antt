@@ -1,5 +1,5 @@
 -- `numerics::ln_split` meets its contract: each arm is what `cond` picks.
-use Rattle.std.proofs.Common.{◌≡◌, ◌<◌, ℤ, pos, ◌+ℤ◌, arith, w64, SFits, to_z, of_z, rules}
+use Rattle.std.proofs.Common.{◌≡◌, ◌<◌, ℤ, pos, ◌+ℤ◌, arith, w64, SFits, to_z, of_z}
 use lib.Signed.{mag}
 use mir.ValLaws.{to_z-of_z}
 use Rattle.numerics.specs.Numerics.{ln_split}

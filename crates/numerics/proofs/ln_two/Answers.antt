@@ -1,6 +1,5 @@
 -- `numerics::ln_two` meets its contract. Assumes nothing.
 use Rattle.numerics.proofs.Guess.{both}
-use Rattle.std.proofs.Common.{rules}
 use Rattle.numerics.proofs.ln_two.Goals as goal
 
 pub returns-then-p-q : goal.returns-then-p-q

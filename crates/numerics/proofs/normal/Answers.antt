@@ -1,4 +1,4 @@
-use Rattle.std.proofs.Common.{◌≡◌, ℕ, ◌+◌, ◌-◌, ◌*◌, ◌^◌, ◌<◌, sym, ap, ◌∙◌, subst, mul_assoc, pow-suc, mul-one, add-one, arith}
+use Rattle.std.proofs.Common.{◌≡◌, ℕ, ◌+◌, ◌*◌, ◌^◌, ◌<◌, sym, ap, ◌∙◌, subst, mul_assoc, pow-suc, mul-one, add-one, arith}
 use Rattle.numerics.proofs.Splits.{short}
 use Rattle.numerics.proofs.normal.Goals as goal
 

@@ -1,6 +1,5 @@
 -- `numerics::normal` meets its contract. The invariant: q is the digits with j zeros after them, and has at most 53 of them. The measure is what is left to 2 ^ 53.
-use Rattle.std.proofs.Common.{◌≡◌, ℕ, ◌+◌, ◌-◌, ◌*◌, ◌^◌, ◌<◌, sym, ap, ◌∙◌, subst, mul_assoc, pow-suc, mul-one, add-one, arith}
-use Rattle.numerics.proofs.Splits.{short}
+use Rattle.std.proofs.Common.{◌≡◌, ◌-◌, ◌*◌, ◌^◌, ◌<◌}
 use Rattle.numerics.proofs.normal.Given as goal
 
 abbrev pub invariant-loop-q : goal.invariant-loop-q

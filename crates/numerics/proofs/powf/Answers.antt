@@ -1,5 +1,5 @@
 -- `numerics::powf` meets its contract, by what `ln` and `exp` ensure.
-use Rattle.std.proofs.Common.{ap, ◌∙◌, rules}
+use Rattle.std.proofs.Common.{ap, ◌∙◌}
 use lib.Ieee.{Float}
 use Rattle.floats.specs.Arithmetic.{◌⊗◌}
 use Rattle.numerics.specs.Numerics.{exp_of}

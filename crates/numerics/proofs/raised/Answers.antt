@@ -1,5 +1,4 @@
 -- `numerics::raised` meets its contract. Assumes nothing.
-use Rattle.std.proofs.Common.{rules}
 use Rattle.numerics.proofs.raised.Goals as goal
 
 pub returns-then-up : goal.returns-then-up

@@ -1,13 +1,9 @@
-use Prim.Native.Nat.{◌≤◌, ◌-◌}
 use mathlib.Core.Path.{◌≡◌, refl}
 use lib.Dec.{le→leb}
-use lib.ListN.{length, length-set}
+use lib.ListN.{length-set}
 use lib.Ieee.{in_float}
-use Rattle.floats.specs.Vector.{fill, vec}
+use Rattle.floats.specs.Vector.{fill}
 use Rattle.floats.proofs.Fills.{fill-turn, fill_done}
-use Rattle.blocks.specs.Bytes.{word_at}
-use Rattle.pool.specs.Pool.{amount}
-use borrow.Author.Rules.{rules}
 use native.Mathlib.Omega.{arith}
 use Rattle.pool.proofs.amounts.Goals as goal
 

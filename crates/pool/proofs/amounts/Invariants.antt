@@ -1,15 +1,10 @@
 -- `pool::amounts` meets its contract. The loop's invariant: the entries passed are filled. Assumes nothing.
 use Prim.Native.Nat.{◌≤◌, ◌-◌}
-use mathlib.Core.Path.{◌≡◌, refl}
-use lib.Dec.{le→leb}
-use lib.ListN.{length, length-set}
-use lib.Ieee.{in_float}
-use Rattle.floats.specs.Vector.{fill, vec}
-use Rattle.floats.proofs.Fills.{fill-turn, fill_done}
+use mathlib.Core.Path.{◌≡◌}
+use lib.ListN.{length}
+use Rattle.floats.specs.Vector.{vec}
 use Rattle.blocks.specs.Bytes.{word_at}
 use Rattle.pool.specs.Pool.{amount}
-use borrow.Author.Rules.{rules}
-use native.Mathlib.Omega.{arith}
 use Rattle.pool.proofs.amounts.Given as goal
 
 abbrev pub invariant-loop-i : goal.invariant-loop-i

@@ -1,6 +1,5 @@
 -- `pool::answer` meets its contract. Assumes nothing.
 use Rattle.pool.proofs.Calls.{book-no, book-ok}
-use borrow.Author.Rules.{rules}
 use Rattle.pool.proofs.answer.Goals as goal
 
 pub returns-in-No : goal.returns-in-No

@@ -1,10 +1,9 @@
 -- `pool::answer_drums` meets its contract. Assumes nothing.
 use mathlib.Core.Path.{◌∙◌}
 use native.Mathlib.Nat.{min-le_right}
-use Rattle.floats.proofs.Folds.{as_tested, was_no, was_yes}
+use Rattle.floats.proofs.Folds.{as_tested}
 use Rattle.pool.proofs.Laws.{counted, count_fits, feed_of_lem}
 use Rattle.pool.proofs.Calls.{drums_no, total-no, kind_not, feed-no, feed-ok}
-use borrow.Author.Rules.{rules}
 use Rattle.pool.proofs.answer_drums.Goals as goal
 
 pub returns-then-not-drums_right : goal.returns-then-not-drums_right

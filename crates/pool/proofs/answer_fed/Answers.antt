@@ -1,6 +1,5 @@
 -- `pool::answer_fed` meets its contract. Assumes nothing.
 use Rattle.pool.proofs.Calls.{fed-no, fed-ok}
-use borrow.Author.Rules.{rules}
 use Rattle.pool.proofs.answer_fed.Goals as goal
 
 pub returns-in-Refused : goal.returns-in-Refused

@@ -1,7 +1,6 @@
 -- `pool::answer_opened` meets its contract. Assumes nothing.
 use Rattle.sheet.proofs.Dispatch.{short, roomed}
 use Rattle.pool.specs.Pool.{pooled_from}
-use borrow.Author.Rules.{rules}
 use Rattle.pool.proofs.answer_opened.Goals as goal
 
 pub returns-then-out-lt-ANSWER_ROOM : goal.returns-then-out-lt-ANSWER_ROOM

@@ -1,9 +1,7 @@
-use Prim.Native.Nat.{◌≤◌, ◌-◌, ◌+◌, ◌^◌, min}
-use mathlib.Core.Path.{◌≡◌, refl}
+use mathlib.Core.Path.{refl}
 use Rattle.floats.specs.Fold.{fold_to}
-use Rattle.pool.specs.Pool.{total_to, count_in, pool_count}
+use Rattle.pool.specs.Pool.{pool_count}
 use Rattle.pool.proofs.Laws.{kept-turn, kept_done}
-use borrow.Author.Rules.{rules}
 use native.Mathlib.Omega.{arith}
 use Rattle.pool.proofs.pool_count.Goals as goal
 

@@ -1,11 +1,7 @@
 -- `pool::pool_count` meets its contract. The loop's invariant: the sum of the drums passed, kept at one past the most. Assumes nothing.
 use Prim.Native.Nat.{◌≤◌, ◌-◌, ◌+◌, ◌^◌, min}
-use mathlib.Core.Path.{◌≡◌, refl}
-use Rattle.floats.specs.Fold.{fold_to}
-use Rattle.pool.specs.Pool.{total_to, count_in, pool_count}
-use Rattle.pool.proofs.Laws.{kept-turn, kept_done}
-use borrow.Author.Rules.{rules}
-use native.Mathlib.Omega.{arith}
+use mathlib.Core.Path.{◌≡◌}
+use Rattle.pool.specs.Pool.{total_to, count_in}
 use Rattle.pool.proofs.pool_count.Given as goal
 
 abbrev pub invariant-loop-d : goal.invariant-loop-d

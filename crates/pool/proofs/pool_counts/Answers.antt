@@ -1,10 +1,7 @@
-use Prim.Native.Nat.{◌≤◌, ◌-◌, ◌+◌, ◌^◌, min}
 use mathlib.Core.Path.{◌≡◌, refl}
-use lib.ListN.{length, length-set, replicate}
+use lib.ListN.{length-set}
 use Rattle.floats.specs.Vector.{fill}
 use Rattle.floats.proofs.Fills.{fill-turn, fill_done}
-use Rattle.pool.specs.Pool.{pool_count}
-use borrow.Author.Rules.{rules}
 use native.Mathlib.Omega.{arith}
 use Rattle.pool.proofs.pool_counts.Goals as goal
 

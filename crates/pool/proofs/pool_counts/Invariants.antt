@@ -1,12 +1,9 @@
 -- `pool::pool_counts` meets its contract. The loop's invariant: the counts of the solvents passed are filled. Assumes nothing.
 use Prim.Native.Nat.{◌≤◌, ◌-◌, ◌+◌, ◌^◌, min}
-use mathlib.Core.Path.{◌≡◌, refl}
-use lib.ListN.{length, length-set, replicate}
+use mathlib.Core.Path.{◌≡◌}
+use lib.ListN.{length, replicate}
 use Rattle.floats.specs.Vector.{fill}
-use Rattle.floats.proofs.Fills.{fill-turn, fill_done}
 use Rattle.pool.specs.Pool.{pool_count}
-use borrow.Author.Rules.{rules}
-use native.Mathlib.Omega.{arith}
 use Rattle.pool.proofs.pool_counts.Given as goal
 
 abbrev pub invariant-loop-i : goal.invariant-loop-i

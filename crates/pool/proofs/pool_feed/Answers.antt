@@ -1,7 +1,6 @@
 -- `pool::pool_feed` meets its contract. Assumes nothing.
 use native.Mathlib.Nat.{min-le_right}
 use Rattle.pool.proofs.Laws.{normalized_vec}
-use borrow.Author.Rules.{rules}
 use Rattle.pool.proofs.pool_feed.Goals as goal
 
 pub returns : goal.returns

@@ -1,6 +1,5 @@
 -- `pool::read_and_answer` meets its contract. Assumes nothing.
 use Rattle.pool.proofs.Calls.{task-refuses, task-goes_on}
-use borrow.Author.Rules.{rules}
 use Rattle.pool.proofs.read_and_answer.Goals as goal
 
 pub returns-in-No : goal.returns-in-No

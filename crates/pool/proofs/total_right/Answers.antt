@@ -1,10 +1,7 @@
-use Prim.Native.Nat.{◌≤◌, ◌-◌, ◌+◌, ◌^◌, min}
+use Prim.Native.Nat.{◌^◌}
 use mathlib.Core.Path.{◌≡◌, refl}
 use Rattle.floats.specs.Fold.{fold_to}
-use Rattle.blocks.specs.Bytes.{word_at}
-use Rattle.pool.specs.Pool.{total_to}
 use Rattle.pool.proofs.Laws.{kept-turn, kept_done, kept-within}
-use borrow.Author.Rules.{rules}
 use native.Mathlib.Omega.{arith}
 use Rattle.pool.proofs.total_right.Goals as goal
 

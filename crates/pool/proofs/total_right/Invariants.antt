@@ -1,12 +1,8 @@
 -- `pool::total_right` meets its contract. The loop's invariant: the sum of the counts passed, kept at one past the most. Assumes nothing.
 use Prim.Native.Nat.{◌≤◌, ◌-◌, ◌+◌, ◌^◌, min}
-use mathlib.Core.Path.{◌≡◌, refl}
-use Rattle.floats.specs.Fold.{fold_to}
+use mathlib.Core.Path.{◌≡◌}
 use Rattle.blocks.specs.Bytes.{word_at}
 use Rattle.pool.specs.Pool.{total_to}
-use Rattle.pool.proofs.Laws.{kept-turn, kept_done, kept-within}
-use borrow.Author.Rules.{rules}
-use native.Mathlib.Omega.{arith}
 use Rattle.pool.proofs.total_right.Given as goal
 
 abbrev pub invariant-loop-i : goal.invariant-loop-i

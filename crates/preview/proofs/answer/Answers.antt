@@ -1,5 +1,4 @@
 -- `preview::answer` meets its contract. Assumes nothing.
-use borrow.Author.Rules.{rules}
 use Rattle.preview.proofs.Laws.{book-no, offered_no, offered_ok}
 use Rattle.preview.proofs.answer.Goals as goal
 

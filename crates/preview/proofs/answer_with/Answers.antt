@@ -1,5 +1,4 @@
 -- `preview::answer_with` meets its contract. Assumes nothing.
-use borrow.Author.Rules.{rules}
 use Rattle.sheet.specs.Sheet.{sheet_from}
 use Rattle.sheet.proofs.Dispatch.{short}
 use Rattle.preview.proofs.Laws.{copy-roomed}

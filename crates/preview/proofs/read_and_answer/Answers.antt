@@ -1,5 +1,4 @@
 -- `preview::read_and_answer` meets its contract. Assumes nothing.
-use borrow.Author.Rules.{rules}
 use Rattle.sheet.proofs.Dispatch.{question-no, question-ok}
 use Rattle.preview.proofs.read_and_answer.Goals as goal
 

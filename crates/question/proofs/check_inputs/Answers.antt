@@ -1,6 +1,5 @@
 -- `question::check_inputs` meets its contract. Assumes nothing.
 use mathlib.Core.Path.{refl}
-use borrow.Author.Rules.{rules}
 use Rattle.floats.proofs.Folds.{was_no, was_yes}
 use Rattle.thermo_types.specs.Verdicts.{verdict_of}
 use Rattle.question.specs.Asked.{inputs_right}

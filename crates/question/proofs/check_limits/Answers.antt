@@ -1,5 +1,4 @@
 -- `question::check_limits` meets its contract. Assumes nothing.
-use borrow.Author.Rules.{rules}
 use Rattle.floats.proofs.Folds.{was_no, was_yes}
 use Rattle.thermo_types.specs.Verdicts.{verdict_of}
 use Rattle.question.specs.Asked.{limits_right}

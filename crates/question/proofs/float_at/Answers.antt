@@ -1,5 +1,4 @@
 -- `question::float_at` meets its contract. Assumes nothing.
-use borrow.Author.Rules.{rules}
 use Rattle.question.proofs.float_at.Goals as goal
 
 pub returns : goal.returns

@@ -1,12 +1,8 @@
-use Prim.Native.Nat.{◌≤◌, ◌-◌, ◌+◌}
 use mathlib.Core.Path.{◌≡◌, refl}
 use native.Mathlib.Omega.{arith}
-use borrow.Author.Rules.{rules}
-use lib.ListN.{length, length-set}
-use Rattle.floats.specs.Small.{float}
-use Rattle.floats.specs.Vector.{fill, vec}
+use lib.ListN.{length-set}
+use Rattle.floats.specs.Vector.{fill}
 use Rattle.floats.proofs.Fills.{fill-turn, fill_done}
-use Rattle.blocks.specs.Words.{word}
 use Rattle.question.proofs.floats_from.Goals as goal
 
 pub loop-i-init : goal.loop-i-init

@@ -1,12 +1,9 @@
 -- `question::floats_from` meets its contract. The loop's invariant: the entries passed are filled. Assumes nothing.
 use Prim.Native.Nat.{◌≤◌, ◌-◌, ◌+◌}
-use mathlib.Core.Path.{◌≡◌, refl}
-use native.Mathlib.Omega.{arith}
-use borrow.Author.Rules.{rules}
-use lib.ListN.{length, length-set}
+use mathlib.Core.Path.{◌≡◌}
+use lib.ListN.{length}
 use Rattle.floats.specs.Small.{float}
-use Rattle.floats.specs.Vector.{fill, vec}
-use Rattle.floats.proofs.Fills.{fill-turn, fill_done}
+use Rattle.floats.specs.Vector.{vec}
 use Rattle.blocks.specs.Words.{word}
 use Rattle.question.proofs.floats_from.Given as goal
 

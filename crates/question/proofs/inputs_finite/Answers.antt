@@ -1,5 +1,4 @@
 -- `question::inputs_finite` meets its contract. Assumes nothing.
-use borrow.Author.Rules.{rules}
 use Rattle.question.proofs.inputs_finite.Goals as goal
 
 pub returns : goal.returns

@@ -1,6 +1,5 @@
 -- `question::is_task` meets its contract. Assumes nothing.
 use native.Mathlib.Omega.{arith}
-use Rattle.question.specs.Inputs.{is_task}
 use Rattle.question.proofs.Laws.{inside, below, above}
 use Rattle.question.proofs.is_task.Goals as goal
 

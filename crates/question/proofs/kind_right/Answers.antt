@@ -1,5 +1,4 @@
 -- `question::kind_right` meets its contract. Assumes nothing.
-use borrow.Author.Rules.{rules}
 use Rattle.question.specs.Asked.{kind_right}
 use Rattle.question.proofs.kind_right.Goals as goal
 

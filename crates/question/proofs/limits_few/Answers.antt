@@ -1,5 +1,4 @@
 -- `question::limits_few` meets its contract. Assumes nothing.
-use borrow.Author.Rules.{rules}
 use Rattle.question.proofs.limits_few.Goals as goal
 
 pub returns : goal.returns

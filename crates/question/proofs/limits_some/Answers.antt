@@ -1,5 +1,4 @@
 -- `question::limits_some` meets its contract. Assumes nothing.
-use borrow.Author.Rules.{rules}
 use Rattle.question.proofs.limits_some.Goals as goal
 
 pub returns : goal.returns

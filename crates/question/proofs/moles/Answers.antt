@@ -1,7 +1,6 @@
 -- `question::moles` meets its contract. Assumes nothing.
 use mathlib.Core.Path.{refl}
 use native.Mathlib.Nat.{min-le_right}
-use borrow.Author.Rules.{rules}
 use Rattle.question.proofs.Laws.{moles-by-mass, moles_as_given}
 use Rattle.question.proofs.moles.Goals as goal
 

@@ -1,6 +1,5 @@
 -- `question::needs_options` meets its contract. Assumes nothing.
 use native.Mathlib.Omega.{arith}
-use Rattle.question.specs.Inputs.{needs_options}
 use Rattle.question.proofs.Laws.{inside, below, above}
 use Rattle.question.proofs.needs_options.Goals as goal
 

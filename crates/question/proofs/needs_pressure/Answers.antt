@@ -1,7 +1,6 @@
 -- `question::needs_pressure` meets its contract. Assumes nothing.
 use native.Mathlib.Omega.{arith}
 use borrow.Author.Tests.{eq-eqb, ne_eqb}
-use Rattle.question.specs.Inputs.{needs_pressure}
 use Rattle.question.proofs.Laws.{inside, below, above}
 use Rattle.question.proofs.needs_pressure.Goals as goal
 

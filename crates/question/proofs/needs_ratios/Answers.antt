@@ -1,6 +1,5 @@
 -- `question::needs_ratios` meets its contract. Assumes nothing.
 use native.Mathlib.Omega.{arith}
-use Rattle.question.specs.Inputs.{needs_ratios}
 use Rattle.question.proofs.Laws.{inside, below, above}
 use Rattle.question.proofs.needs_ratios.Goals as goal
 

@@ -1,6 +1,5 @@
 -- `question::needs_temperature` meets its contract. Assumes nothing.
 use native.Mathlib.Omega.{arith}
-use Rattle.question.specs.Inputs.{needs_temperature}
 use Rattle.question.proofs.Laws.{inside, below, above}
 use Rattle.question.proofs.needs_temperature.Goals as goal
 

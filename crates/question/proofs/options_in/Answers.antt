@@ -1,5 +1,4 @@
 -- `question::options_in` meets its contract. Assumes nothing.
-use borrow.Author.Rules.{rules}
 use Rattle.question.specs.Asked.{options_in}
 use Rattle.question.proofs.options_in.Goals as goal
 

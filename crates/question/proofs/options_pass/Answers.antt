@@ -1,5 +1,4 @@
 -- `question::options_pass` meets its contract. Assumes nothing.
-use borrow.Author.Rules.{rules}
 use Rattle.question.proofs.options_pass.Goals as goal
 
 pub returns : goal.returns

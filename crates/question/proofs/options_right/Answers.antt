@@ -1,5 +1,4 @@
 -- `question::options_right` meets its contract. Assumes nothing.
-use borrow.Author.Rules.{rules}
 use Rattle.question.specs.Asked.{options_right}
 use Rattle.question.proofs.options_right.Goals as goal
 

@@ -1,13 +1,8 @@
-use Prim.Native.Nat.{◌≤◌, ◌-◌, ◌+◌}
 use mathlib.Core.Path.{◌≡◌, refl}
 use native.Mathlib.Omega.{arith}
-use borrow.Author.Rules.{rules}
-use lib.ListN.{length, length-set}
-use Rattle.floats.specs.Arithmetic.{◌⊘◌}
-use Rattle.floats.specs.Vector.{at, fill, vec}
+use lib.ListN.{length-set}
+use Rattle.floats.specs.Vector.{fill}
 use Rattle.floats.proofs.Fills.{fill-turn, fill_done}
-use Rattle.book.specs.Places.{words}
-use Rattle.book.specs.Book.{molar_mass}
 use Rattle.question.proofs.over_masses.Goals as goal
 
 pub loop-i-init : goal.loop-i-init

@@ -1,12 +1,9 @@
 -- `question::over_masses` meets its contract. The loop's invariant: the entries passed are filled. Assumes nothing.
-use Prim.Native.Nat.{◌≤◌, ◌-◌, ◌+◌}
-use mathlib.Core.Path.{◌≡◌, refl}
-use native.Mathlib.Omega.{arith}
-use borrow.Author.Rules.{rules}
-use lib.ListN.{length, length-set}
+use Prim.Native.Nat.{◌≤◌, ◌-◌}
+use mathlib.Core.Path.{◌≡◌}
+use lib.ListN.{length}
 use Rattle.floats.specs.Arithmetic.{◌⊘◌}
-use Rattle.floats.specs.Vector.{at, fill, vec}
-use Rattle.floats.proofs.Fills.{fill-turn, fill_done}
+use Rattle.floats.specs.Vector.{at, vec}
 use Rattle.book.specs.Places.{words}
 use Rattle.book.specs.Book.{molar_mass}
 use Rattle.question.proofs.over_masses.Given as goal

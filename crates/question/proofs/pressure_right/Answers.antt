@@ -1,5 +1,4 @@
 -- `question::pressure_right` meets its contract. Assumes nothing.
-use borrow.Author.Rules.{rules}
 use Rattle.question.proofs.pressure_right.Goals as goal
 
 pub returns : goal.returns

@@ -1,5 +1,4 @@
 -- `question::question_from` meets its contract. Assumes nothing.
-use borrow.Author.Rules.{rules}
 use Rattle.question.specs.Asked.{question_from}
 use Rattle.question.proofs.question_from.Goals as goal
 

@@ -1,5 +1,4 @@
 -- `question::ratios_positive` meets its contract. Assumes nothing.
-use borrow.Author.Rules.{rules}
 use Rattle.question.proofs.ratios_positive.Goals as goal
 
 pub returns : goal.returns

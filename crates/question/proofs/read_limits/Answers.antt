@@ -1,6 +1,5 @@
 -- `question::read_limits` meets its contract. Assumes nothing.
 use mathlib.Core.Path.{refl}
-use borrow.Author.Rules.{rules}
 use Rattle.question.specs.Asked.{asked_of}
 use Rattle.question.proofs.Laws.{limits_no, limits_yes}
 use Rattle.question.proofs.read_limits.Goals as goal

@@ -1,5 +1,4 @@
 -- `question::read_moles` meets its contract. Assumes nothing.
-use borrow.Author.Rules.{rules}
 use Rattle.question.proofs.Laws.{moles-no, moles_yes}
 use Rattle.question.proofs.read_moles.Goals as goal
 

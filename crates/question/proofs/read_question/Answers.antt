@@ -1,6 +1,5 @@
 -- `question::read_question` meets its contract. Assumes nothing.
-use borrow.Author.Rules.{rules}
-use Rattle.floats.proofs.Folds.{as_tested, was_no, was_yes}
+use Rattle.floats.proofs.Folds.{as_tested}
 use Rattle.question.specs.Asked.{question_of}
 use Rattle.question.proofs.Laws.{task-no, task_yes, asks-no, asks_yes}
 use Rattle.question.proofs.read_question.Goals as goal

@@ -1,5 +1,4 @@
 -- `question::read_rest` meets its contract. Assumes nothing.
-use borrow.Author.Rules.{rules}
 use Rattle.question.specs.Asked.{rest_of}
 use Rattle.question.proofs.Laws.{inputs_no, inputs_yes}
 use Rattle.question.proofs.read_rest.Goals as goal

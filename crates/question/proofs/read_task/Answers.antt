@@ -1,5 +1,4 @@
 -- `question::read_task` meets its contract. Assumes nothing.
-use borrow.Author.Rules.{rules}
 use borrow.Author.Tests.{eq-eqb, ne_eqb}
 use Rattle.floats.proofs.Folds.{as_tested, was_no, was_yes}
 use Rattle.question.specs.Asked.{task_in}

@@ -1,5 +1,4 @@
 -- `question::temperature_right` meets its contract. Assumes nothing.
-use borrow.Author.Rules.{rules}
 use Rattle.question.proofs.temperature_right.Goals as goal
 
 pub returns : goal.returns

@@ -1,5 +1,4 @@
 -- `question::tolerance_right` meets its contract. Assumes nothing.
-use borrow.Author.Rules.{rules}
 use Rattle.question.specs.Asked.{tolerance_right}
 use Rattle.question.proofs.tolerance_right.Goals as goal
 

@@ -1,5 +1,4 @@
 -- `rachford_rice::between` meets its contract. Assumes nothing.
-use borrow.Author.Rules.{rules}
 use Rattle.floats.specs.Outcome.{need}
 use Rattle.rachford_rice.specs.Rachford.{between, split_of}
 use Rattle.rachford_rice.proofs.between.Goals as goal

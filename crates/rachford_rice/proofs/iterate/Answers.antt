@@ -1,10 +1,4 @@
-use Prim.Native.Nat.{◌≤◌, ◌-◌}
-use mathlib.Core.Path.{◌≡◌}
 use native.Mathlib.Omega.{arith}
-use borrow.Author.Rules.{rules}
-use Rattle.floats.specs.Arithmetic.{½}
-use Rattle.floats.specs.Vector.{at}
-use Rattle.rachford_rice.specs.Rachford.{iterate}
 use Rattle.rachford_rice.proofs.Laws.{loop_start, loop_out, loop_stops, loop_last, loop_more}
 use Rattle.rachford_rice.proofs.iterate.Goals as goal
 

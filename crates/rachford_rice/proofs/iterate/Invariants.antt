@@ -1,12 +1,9 @@
 -- `rachford_rice::iterate` meets its contract. The loop's invariant: what is left to run from here gives the same as the whole run. Assumes nothing.
 use Prim.Native.Nat.{◌≤◌, ◌-◌}
 use mathlib.Core.Path.{◌≡◌}
-use native.Mathlib.Omega.{arith}
-use borrow.Author.Rules.{rules}
 use Rattle.floats.specs.Arithmetic.{½}
 use Rattle.floats.specs.Vector.{at}
 use Rattle.rachford_rice.specs.Rachford.{iterate}
-use Rattle.rachford_rice.proofs.Laws.{loop_start, loop_out, loop_stops, loop_last, loop_more}
 use Rattle.rachford_rice.proofs.iterate.Given as goal
 
 abbrev pub invariant-loop-done : goal.invariant-loop-done

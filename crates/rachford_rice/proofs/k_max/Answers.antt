@@ -1,10 +1,7 @@
-use Prim.Native.Nat.{◌≤◌, ◌-◌}
-use mathlib.Core.Path.{◌≡◌, refl}
+use mathlib.Core.Path.{refl}
 use native.Mathlib.Omega.{arith}
-use borrow.Author.Rules.{rules}
 use lib.Ieee.{nan_bits}
 use Rattle.floats.specs.Fold.{fold_to}
-use Rattle.floats.specs.Vector.{at}
 use Rattle.floats.proofs.Folds.{fold_turn, fold_done}
 use Rattle.rachford_rice.specs.Rachford.{k_max}
 use Rattle.rachford_rice.proofs.k_max.Goals as goal

@@ -1,12 +1,7 @@
 -- `rachford_rice::k_min` meets its contract. The loop's invariant: the smallest so far. Assumes nothing.
 use Prim.Native.Nat.{◌≤◌, ◌-◌}
-use mathlib.Core.Path.{◌≡◌, refl}
-use native.Mathlib.Omega.{arith}
-use borrow.Author.Rules.{rules}
-use lib.Ieee.{nan_bits}
-use Rattle.floats.specs.Fold.{fold_to}
+use mathlib.Core.Path.{◌≡◌}
 use Rattle.floats.specs.Vector.{at}
-use Rattle.floats.proofs.Folds.{fold_turn, fold_done}
 use Rattle.rachford_rice.specs.Rachford.{k_min}
 use Rattle.rachford_rice.proofs.k_min.Given as goal
 

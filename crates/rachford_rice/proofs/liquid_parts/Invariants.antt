@@ -1,10 +1,7 @@
 -- `rachford_rice::liquid_parts` meets its contract. The loop's invariant: the entries passed are filled. Assumes nothing.
 use Prim.Native.Nat.{◌≤◌, ◌-◌}
-use mathlib.Core.Path.{◌≡◌, refl}
-use native.Mathlib.Omega.{arith}
-use borrow.Author.Rules.{rules}
-use Rattle.floats.specs.Vector.{at, vec, fill}
-use Rattle.floats.proofs.Fills.{fill-turn, fill_done}
+use mathlib.Core.Path.{◌≡◌}
+use Rattle.floats.specs.Vector.{at, vec}
 use Rattle.rachford_rice.specs.Rachford.{liquid_part}
 use Rattle.rachford_rice.proofs.liquid_parts.Given as goal
 

@@ -1,5 +1,4 @@
 -- `rachford_rice::max_term` meets its contract. Assumes nothing.
-use borrow.Author.Rules.{rules}
 use Rattle.rachford_rice.proofs.max_term.Goals as goal
 
 pub returns-then-z : goal.returns-then-z

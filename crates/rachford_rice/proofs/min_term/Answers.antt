@@ -1,5 +1,4 @@
 -- `rachford_rice::min_term` meets its contract. Assumes nothing.
-use borrow.Author.Rules.{rules}
 use Rattle.rachford_rice.proofs.min_term.Goals as goal
 
 pub returns-then-z : goal.returns-then-z

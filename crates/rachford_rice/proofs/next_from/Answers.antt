@@ -1,6 +1,5 @@
 -- `rachford_rice::next_from` meets its contract. Assumes nothing.
 use Rattle.floats.proofs.Folds.{not_of_false, not_of_true}
-use borrow.Author.Rules.{rules}
 use Rattle.rachford_rice.proofs.Laws.{step-outside, step_stops, step_newton}
 use Rattle.rachford_rice.proofs.next_from.Goals as goal
 

@@ -1,5 +1,4 @@
 -- `rachford_rice::rachford_rice` meets its contract. Assumes nothing.
-use borrow.Author.Rules.{rules}
 use Rattle.rachford_rice.proofs.Laws.{classify_refused, classify_liquid, classify_vapor, classify_both}
 use Rattle.rachford_rice.proofs.rachford_rice.Goals as goal
 

@@ -1,5 +1,4 @@
 -- `rachford_rice::rachford_rice_negative` meets its contract. Assumes nothing.
-use borrow.Author.Rules.{rules}
 use Rattle.rachford_rice.proofs.Laws.{split-refused, split-passed}
 use Rattle.rachford_rice.proofs.rachford_rice_negative.Goals as goal
 

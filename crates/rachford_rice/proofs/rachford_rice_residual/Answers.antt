@@ -1,9 +1,6 @@
-use Prim.Native.Nat.{◌≤◌, ◌-◌}
-use mathlib.Core.Path.{◌≡◌, refl}
+use mathlib.Core.Path.{refl}
 use native.Mathlib.Omega.{arith}
-use borrow.Author.Rules.{rules}
 use Rattle.floats.specs.Fold.{fold_to}
-use Rattle.floats.specs.Vector.{at}
 use Rattle.floats.proofs.Folds.{fold_turn, fold_done}
 use Rattle.rachford_rice.specs.Rachford.{residual_of}
 use Rattle.rachford_rice.proofs.rachford_rice_residual.Goals as goal

@@ -1,11 +1,7 @@
 -- `rachford_rice::rachford_rice_residual` meets its contract. The loop's invariant: the sum so far is g(β) of the entries passed. Assumes nothing.
 use Prim.Native.Nat.{◌≤◌, ◌-◌}
-use mathlib.Core.Path.{◌≡◌, refl}
-use native.Mathlib.Omega.{arith}
-use borrow.Author.Rules.{rules}
-use Rattle.floats.specs.Fold.{fold_to}
+use mathlib.Core.Path.{◌≡◌}
 use Rattle.floats.specs.Vector.{at}
-use Rattle.floats.proofs.Folds.{fold_turn, fold_done}
 use Rattle.rachford_rice.specs.Rachford.{residual_of}
 use Rattle.rachford_rice.proofs.rachford_rice_residual.Given as goal
 

@@ -1,13 +1,9 @@
 -- `rachford_rice::residual_and_slope` meets its contract. The loop's invariant: both sums so far are those of the entries passed. Assumes nothing.
 use Prim.Native.Nat.{◌≤◌, ◌-◌}
-use mathlib.Core.Path.{◌≡◌, refl}
-use native.Mathlib.Omega.{arith}
-use borrow.Author.Rules.{rules}
-use Rattle.floats.specs.Fold.{fold_to}
+use mathlib.Core.Path.{◌≡◌}
 use Rattle.floats.specs.Vector.{at}
-use Rattle.floats.proofs.Folds.{fold_turn, fold_done}
 use Rattle.rachford_rice.specs.Rachford.{residual_of}
-use Rattle.rachford_rice.proofs.Laws.{slope-turn, slope_done, slope_sum}
+use Rattle.rachford_rice.proofs.Laws.{slope_sum}
 use Rattle.rachford_rice.proofs.residual_and_slope.Given as goal
 
 abbrev pub invariant-loop-i : goal.invariant-loop-i

@@ -1,5 +1,4 @@
 -- `rachford_rice::solution` meets its contract. Assumes nothing.
-use borrow.Author.Rules.{rules}
 use Rattle.rachford_rice.proofs.Laws.{solution-is}
 use Rattle.rachford_rice.proofs.solution.Goals as goal
 

@@ -1,5 +1,4 @@
 -- `rachford_rice::turn_from` meets its contract. Assumes nothing.
-use borrow.Author.Rules.{rules}
 use Rattle.rachford_rice.specs.Rachford.{turn_of}
 use Rattle.rachford_rice.proofs.turn_from.Goals as goal
 

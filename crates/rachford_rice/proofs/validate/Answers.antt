@@ -1,5 +1,4 @@
 -- `rachford_rice::validate` meets its contract. Assumes nothing.
-use borrow.Author.Rules.{rules}
 use Rattle.rachford_rice.proofs.Laws.{not_finite, some-negative, not_positive, not_one, all_right}
 use Rattle.rachford_rice.proofs.validate.Goals as goal
 

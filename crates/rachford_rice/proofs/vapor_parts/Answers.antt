@@ -1,8 +1,6 @@
-use Prim.Native.Nat.{◌≤◌, ◌-◌}
-use mathlib.Core.Path.{◌≡◌, refl}
+use mathlib.Core.Path.{refl}
 use native.Mathlib.Omega.{arith}
-use Rattle.floats.specs.Arithmetic.{◌⊗◌}
-use Rattle.floats.specs.Vector.{at, vec, fill}
+use Rattle.floats.specs.Vector.{fill}
 use Rattle.floats.proofs.Fills.{fill-turn, fill_done}
 use Rattle.rachford_rice.proofs.vapor_parts.Goals as goal
 

@@ -1,10 +1,8 @@
 -- `rachford_rice::vapor_parts` meets its contract. The loop's invariant: the entries passed are filled. Assumes nothing.
 use Prim.Native.Nat.{◌≤◌, ◌-◌}
-use mathlib.Core.Path.{◌≡◌, refl}
-use native.Mathlib.Omega.{arith}
+use mathlib.Core.Path.{◌≡◌}
 use Rattle.floats.specs.Arithmetic.{◌⊗◌}
-use Rattle.floats.specs.Vector.{at, vec, fill}
-use Rattle.floats.proofs.Fills.{fill-turn, fill_done}
+use Rattle.floats.specs.Vector.{at, vec}
 use Rattle.rachford_rice.proofs.vapor_parts.Given as goal
 
 abbrev pub invariant-loop-i : goal.invariant-loop-i

@@ -1,5 +1,4 @@
 -- `records::ancillary_at` meets its contract. From what the callees ensure. Assumes nothing.
-use borrow.Author.Rules.{rules}
 use Rattle.records.specs.Records.{ancillary_of}
 use Rattle.records.proofs.ancillary_at.Goals as goal
 

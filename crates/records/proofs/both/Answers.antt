@@ -1,5 +1,4 @@
 -- `records::both` meets its contract. Assumes nothing.
-use borrow.Author.Rules.{rules}
 use Rattle.records.proofs.both.Goals as goal
 
 pub returns-in-Nrtl : goal.returns-in-Nrtl

@@ -1,5 +1,4 @@
 -- `records::density_range` meets its contract. From what the callees ensure. Assumes nothing.
-use borrow.Author.Rules.{rules}
 use Rattle.records.proofs.density_range.Goals as goal
 
 pub returns : goal.returns

@@ -1,6 +1,5 @@
 -- `records::diagonal` meets its contract. Assumes nothing.
 use Rattle.records.proofs.Loads.{none-stored}
-use borrow.Author.Rules.{rules}
 use Rattle.records.proofs.diagonal.Goals as goal
 
 pub returns : goal.returns

@@ -1,11 +1,7 @@
-use mathlib.Core.Path.{◌≡◌, refl}
-use Prim.Native.Nat.{◌≤◌, ◌-◌, ◌+◌}
+use mathlib.Core.Path.{refl}
 use native.Mathlib.Omega.{arith}
-use borrow.Author.Rules.{rules}
 use Rattle.floats.proofs.Fills.{fill-turn, fill_done}
-use Rattle.floats.specs.Vector.{vec, fill}
-use Rattle.blocks.specs.Words.{word}
-use Rattle.floats.specs.Small.{float}
+use Rattle.floats.specs.Vector.{fill}
 use Rattle.records.proofs.eight_floats.Goals as goal
 
 pub loop-k-init : goal.loop-k-init

@@ -1,10 +1,7 @@
 -- `records::eight_floats` meets its contract. The invariant: the first k entries are filled. Assumes nothing.
-use mathlib.Core.Path.{◌≡◌, refl}
+use mathlib.Core.Path.{◌≡◌}
 use Prim.Native.Nat.{◌≤◌, ◌-◌, ◌+◌}
-use native.Mathlib.Omega.{arith}
-use borrow.Author.Rules.{rules}
-use Rattle.floats.proofs.Fills.{fill-turn, fill_done}
-use Rattle.floats.specs.Vector.{vec, fill}
+use Rattle.floats.specs.Vector.{vec}
 use Rattle.blocks.specs.Words.{word}
 use Rattle.floats.specs.Small.{float}
 use Rattle.records.proofs.eight_floats.Given as goal

@@ -1,10 +1,7 @@
 -- `records::fill` meets its contract. The invariant: the rows so far. Assumes nothing.
 use mathlib.Core.Path.{◌≡◌}
 use Prim.Native.Nat.{◌≤◌, ◌-◌}
-use native.Mathlib.Omega.{arith}
-use borrow.Author.Rules.{rules}
 use Rattle.blocks.specs.Words.{word}
-use Rattle.records.proofs.Loads.{square_holds, square-more, square_done}
 use Rattle.records.specs.Offered.{pair_at}
 use Rattle.records.specs.Parameters.{parameter, parameter_rows}
 use Rattle.records.proofs.fill.Given as goal

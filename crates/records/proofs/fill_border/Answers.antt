@@ -1,11 +1,6 @@
-use Prim.Native.Nat.{◌≤◌, ◌-◌}
-use mathlib.Core.Path.{◌≡◌, refl}
-use Rattle.blocks.specs.Words.{word}
+use mathlib.Core.Path.{refl}
 use Rattle.floats.specs.Fold.{fold_to}
 use Rattle.floats.proofs.Folds.{fold_turn, fold_done}
-use Rattle.records.specs.Offered.{pair_at}
-use Rattle.records.specs.Parameters.{parameter, parameter_border}
-use borrow.Author.Rules.{rules}
 use native.Mathlib.Omega.{arith}
 use Rattle.records.proofs.fill_border.Goals as goal
 

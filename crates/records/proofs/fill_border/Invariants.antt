@@ -1,13 +1,9 @@
 -- `records::fill_border` meets its contract. Assumes nothing.
 use Prim.Native.Nat.{◌≤◌, ◌-◌}
-use mathlib.Core.Path.{◌≡◌, refl}
+use mathlib.Core.Path.{◌≡◌}
 use Rattle.blocks.specs.Words.{word}
-use Rattle.floats.specs.Fold.{fold_to}
-use Rattle.floats.proofs.Folds.{fold_turn, fold_done}
 use Rattle.records.specs.Offered.{pair_at}
 use Rattle.records.specs.Parameters.{parameter, parameter_border}
-use borrow.Author.Rules.{rules}
-use native.Mathlib.Omega.{arith}
 use Rattle.records.proofs.fill_border.Given as goal
 
 abbrev pub invariant-loop-j : goal.invariant-loop-j

@@ -3,7 +3,6 @@ use native.Mathlib.Omega.{arith}
 use Rattle.blocks.specs.Words.{word}
 use Rattle.records.specs.Offered.{pair_at}
 use Rattle.records.proofs.Loads.{both_stored, offered_there, own-there}
-use borrow.Author.Rules.{rules}
 use Rattle.records.proofs.fill_both.Goals as goal
 
 pub returns-then-k-place : goal.returns-then-k-place

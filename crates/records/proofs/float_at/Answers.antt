@@ -1,5 +1,4 @@
 -- `records::float_at` meets its contract. From what the callees ensure. Assumes nothing.
-use borrow.Author.Rules.{rules}
 use Rattle.records.proofs.float_at.Goals as goal
 
 pub returns : goal.returns

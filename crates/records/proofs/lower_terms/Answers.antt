@@ -1,5 +1,4 @@
 -- `records::lower_terms` meets its contract. From what the callees ensure. Assumes nothing.
-use borrow.Author.Rules.{rules}
 use Rattle.records.specs.Parameters.{pair_term, lower_from}
 use Rattle.records.proofs.lower_terms.Goals as goal
 

@@ -1,6 +1,5 @@
 -- `records::nrtl_both` meets its contract. Assumes nothing.
 use Rattle.records.proofs.Loads.{nrtl_stored}
-use borrow.Author.Rules.{rules}
 use Rattle.records.proofs.nrtl_both.Goals as goal
 
 pub returns : goal.returns

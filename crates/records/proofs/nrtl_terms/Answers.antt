@@ -1,6 +1,5 @@
 -- `records::nrtl_terms` meets its contract. From what the callees ensure. Assumes nothing.
 use native.Mathlib.Nat.{add-zero}
-use borrow.Author.Rules.{rules}
 use Rattle.records.specs.Parameters.{terms_of, term_in}
 use Rattle.records.proofs.nrtl_terms.Goals as goal
 

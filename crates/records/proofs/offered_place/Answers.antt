@@ -1,7 +1,5 @@
 -- `records::offered_place` meets its contract. One law for each way out. Assumes nothing.
-use native.Mathlib.Nat.{min-le_right}
 use native.Mathlib.Omega.{arith}
-use borrow.Author.Rules.{rules}
 use Rattle.records.proofs.Offered.{place-cut, place_order, place-past, place_found, place_short}
 use Rattle.records.proofs.offered_place.Goals as goal
 

@@ -1,5 +1,4 @@
 -- `records::pair_at` meets its contract. From what the callees ensure. Assumes nothing.
-use borrow.Author.Rules.{rules}
 use Rattle.records.specs.Records.{pair_of}
 use Rattle.records.proofs.pair_at.Goals as goal
 

@@ -1,6 +1,5 @@
 -- `records::pair_place` meets its contract. From what the callees ensure. Assumes nothing.
 use mathlib.Core.Path.{refl}
-use borrow.Author.Rules.{rules}
 use Rattle.records.proofs.Rows.{place-behind, place-first}
 use Rattle.records.proofs.pair_place.Goals as goal
 

@@ -1,5 +1,4 @@
 -- `records::pair_record` meets its contract. The offered block, or the book's. Assumes nothing.
-use borrow.Author.Rules.{rules}
 use borrow.Author.Tests.{eq-eqb, ne_eqb}
 use Rattle.records.proofs.pair_record.Goals as goal
 

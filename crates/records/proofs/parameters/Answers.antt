@@ -1,5 +1,4 @@
 -- `records::parameters` meets its contract. From what the callees ensure. Assumes nothing.
-use borrow.Author.Rules.{rules}
 use Rattle.records.proofs.Offered.{copy-parameters}
 use Rattle.records.proofs.parameters.Goals as goal
 

@@ -1,5 +1,4 @@
 -- `records::range_at` meets its contract. From what the callees ensure. Assumes nothing.
-use borrow.Author.Rules.{rules}
 use Rattle.records.specs.Records.{range_of}
 use Rattle.records.proofs.range_at.Goals as goal
 

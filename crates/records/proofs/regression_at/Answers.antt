@@ -1,5 +1,4 @@
 -- `records::regression_at` meets its contract. The two ways of the test. Assumes nothing.
-use borrow.Author.Rules.{rules}
 use borrow.Author.Tests.{eq-eqb, ne_eqb}
 use Rattle.records.specs.Records.{regression_of}
 use Rattle.records.proofs.regression_at.Goals as goal

@@ -1,6 +1,5 @@
 -- `records::row_from` meets its contract. From what the callees ensure. Assumes nothing.
 use mathlib.Core.Path.{◌∙◌}
-use borrow.Author.Rules.{rules}
 use Rattle.records.proofs.Rows.{row-past}
 use Rattle.records.proofs.row_from.Goals as goal
 

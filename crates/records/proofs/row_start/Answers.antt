@@ -1,6 +1,5 @@
 -- `records::row_start` meets its contract. The law `row_code` computes both sides. Assumes nothing.
 use native.Mathlib.Omega.{arith}
-use borrow.Author.Rules.{rules}
 use Rattle.records.proofs.Rows.{row_code, row-few, row_low, row-high}
 use Rattle.records.proofs.row_start.Goals as goal
 

@@ -1,7 +1,6 @@
 -- `records::solvent_block` meets its contract. Past the end both blocks are empty. Assumes nothing.
 use mathlib.Core.Path.{sym, ◌∙◌}
 use native.Mathlib.Omega.{arith}
-use borrow.Author.Rules.{rules}
 use Rattle.blocks.proofs.Laws.{block_none}
 use Rattle.records.proofs.solvent_block.Goals as goal
 

@@ -1,5 +1,4 @@
 -- `records::upper_terms` meets its contract. From what the callees ensure. Assumes nothing.
-use borrow.Author.Rules.{rules}
 use Rattle.records.specs.Parameters.{pair_term}
 use Rattle.records.proofs.upper_terms.Goals as goal
 

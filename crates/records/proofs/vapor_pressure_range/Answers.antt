@@ -1,5 +1,4 @@
 -- `records::vapor_pressure_range` meets its contract. From what the callees ensure. Assumes nothing.
-use borrow.Author.Rules.{rules}
 use Rattle.records.proofs.vapor_pressure_range.Goals as goal
 
 pub returns : goal.returns

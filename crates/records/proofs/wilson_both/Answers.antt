@@ -1,6 +1,5 @@
 -- `records::wilson_both` meets its contract. Assumes nothing.
 use Rattle.records.proofs.Loads.{wilson_stored}
-use borrow.Author.Rules.{rules}
 use Rattle.records.proofs.wilson_both.Goals as goal
 
 pub returns : goal.returns

@@ -1,6 +1,5 @@
 -- `records::wilson_terms` meets its contract. From what the callees ensure. Assumes nothing.
 use native.Mathlib.Nat.{add-zero}
-use borrow.Author.Rules.{rules}
 use Rattle.records.specs.Parameters.{terms_of, wilson_term}
 use Rattle.records.proofs.wilson_terms.Goals as goal
 

@@ -1,5 +1,4 @@
 -- `replies::answer_length` meets its contract. Assumes nothing.
-use borrow.Author.Rules.{rules}
 use borrow.Author.Tests.{le-leb, lt-leb}
 use Rattle.replies.specs.Blocks.{answer_length}
 use Rattle.replies.proofs.answer_length.Goals as goal

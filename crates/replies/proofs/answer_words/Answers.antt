@@ -1,5 +1,4 @@
 -- `replies::answer_words` meets its contract. Assumes nothing.
-use borrow.Author.Rules.{rules}
 use Rattle.replies.proofs.Laws.{answer-made}
 use Rattle.replies.proofs.answer_words.Goals as goal
 

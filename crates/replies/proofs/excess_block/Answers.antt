@@ -1,5 +1,4 @@
 -- `replies::excess_block` meets its contract. Assumes nothing.
-use borrow.Author.Rules.{rules}
 use Rattle.replies.proofs.excess_block.Goals as goal
 
 pub returns : goal.returns

@@ -1,5 +1,4 @@
 -- `replies::flash_block` meets its contract. Assumes nothing.
-use borrow.Author.Rules.{rules}
 use mathlib.Core.Path.{◌∙◌}
 use Rattle.replies.proofs.flash_block.Goals as goal
 

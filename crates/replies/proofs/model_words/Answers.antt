@@ -1,5 +1,4 @@
 -- `replies::model_words` meets its contract. Assumes nothing.
-use borrow.Author.Rules.{rules}
 use Rattle.replies.proofs.Laws.{model-made}
 use Rattle.replies.proofs.model_words.Goals as goal
 

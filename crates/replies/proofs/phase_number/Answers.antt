@@ -1,5 +1,4 @@
 -- `replies::phase_number` meets its contract. Assumes nothing.
-use borrow.Author.Rules.{rules}
 use Rattle.replies.specs.Answers.{phase_number}
 use Rattle.replies.proofs.phase_number.Goals as goal
 

@@ -1,9 +1,6 @@
-use Prim.Native.Nat.{◌≤◌, ◌-◌}
 use mathlib.Core.Path.{◌≡◌, refl}
 use native.Mathlib.Omega.{arith}
-use borrow.Author.Rules.{rules}
-use Rattle.floats.specs.Small.{bits_of}
-use Rattle.floats.specs.Vector.{at, fill_from}
+use Rattle.floats.specs.Vector.{fill_from}
 use Rattle.floats.proofs.Fills.{fill_from-turn, fill_from_done}
 use Rattle.replies.proofs.put_floats.Goals as goal
 

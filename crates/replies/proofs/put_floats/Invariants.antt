@@ -1,11 +1,8 @@
 -- `replies::put_floats` meets its contract. The loop's invariant: the words passed are stored. Assumes nothing.
 use Prim.Native.Nat.{◌≤◌, ◌-◌}
-use mathlib.Core.Path.{◌≡◌, refl}
-use native.Mathlib.Omega.{arith}
-use borrow.Author.Rules.{rules}
+use mathlib.Core.Path.{◌≡◌}
 use Rattle.floats.specs.Small.{bits_of}
 use Rattle.floats.specs.Vector.{at, fill_from}
-use Rattle.floats.proofs.Fills.{fill_from-turn, fill_from_done}
 use Rattle.replies.proofs.put_floats.Given as goal
 
 abbrev pub invariant-loop-i : goal.invariant-loop-i

@@ -1,10 +1,8 @@
 use native.Mathlib.Omega.{arith}
-use Prim.Native.Nat.{◌≤◌, ◌-◌}
 use mathlib.Core.Path.{◌≡◌, refl}
 use lib.ListN.{length}
 use Rattle.floats.specs.Vector.{fill_from}
 use Rattle.floats.proofs.Fills.{fill_from-turn, fill_from_done}
-use Rattle.blocks.specs.Bytes.{word_at}
 use Rattle.replies.proofs.put_words.Goals as goal
 
 pub loop-i-init : goal.loop-i-init

@@ -1,5 +1,4 @@
 -- `replies::refusal_words` meets its contract. Assumes nothing.
-use borrow.Author.Rules.{rules}
 use Rattle.replies.specs.Blocks.{refusal_words}
 use Rattle.replies.proofs.refusal_words.Goals as goal
 

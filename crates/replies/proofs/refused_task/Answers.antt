@@ -1,5 +1,4 @@
 -- `replies::refused_task` meets its contract. Assumes nothing.
-use borrow.Author.Rules.{rules}
 use Rattle.replies.specs.Blocks.{refused_task}
 use Rattle.replies.proofs.refused_task.Goals as goal
 

@@ -1,5 +1,4 @@
 -- `replies::rice_block` meets its contract. Assumes nothing.
-use borrow.Author.Rules.{rules}
 use mathlib.Core.Path.{◌∙◌}
 use Rattle.replies.specs.Answers.{rice_block}
 use Rattle.replies.proofs.rice_block.Goals as goal

@@ -1,5 +1,4 @@
 -- `replies::stability_block` meets its contract. Assumes nothing.
-use borrow.Author.Rules.{rules}
 use mathlib.Core.Path.{◌∙◌}
 use Rattle.replies.proofs.stability_block.Goals as goal
 

@@ -1,5 +1,4 @@
 -- `replies::state_words` meets its contract. Assumes nothing.
-use borrow.Author.Rules.{rules}
 use Rattle.replies.proofs.Laws.{state-made}
 use Rattle.replies.proofs.state_words.Goals as goal
 

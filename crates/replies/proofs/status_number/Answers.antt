@@ -1,5 +1,4 @@
 -- `replies::status_number` meets its contract. Assumes nothing.
-use borrow.Author.Rules.{rules}
 use Rattle.replies.specs.Blocks.{status_number}
 use Rattle.replies.proofs.status_number.Goals as goal
 

@@ -1,6 +1,5 @@
 -- `replies::trial_words` meets its contract. Assumes nothing.
 use mathlib.Core.Path.{◌∙◌}
-use borrow.Author.Rules.{rules}
 use Rattle.replies.specs.Blocks.{trial_words}
 use Rattle.replies.proofs.trial_words.Goals as goal
 

@@ -1,5 +1,4 @@
 -- `replies::write_refusal` meets its contract. Assumes nothing.
-use borrow.Author.Rules.{rules}
 use Rattle.replies.specs.Blocks.{refusal_bytes}
 use Rattle.replies.proofs.write_refusal.Goals as goal
 

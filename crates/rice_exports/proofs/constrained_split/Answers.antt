@@ -1,6 +1,5 @@
 -- `rice_exports::constrained_split` meets its contract. Assumes nothing.
 use Rattle.floats.proofs.Folds.{not_of_false, not_of_true}
-use borrow.Author.Rules.{rules}
 use Rattle.rachford_rice.proofs.Answers.{constrained-low}
 use Rattle.rice_exports.proofs.Laws.{sizes, unsized, answered}
 use Rattle.rice_exports.proofs.constrained_split.Goals as goal

@@ -1,6 +1,5 @@
 -- `rice_exports::count` meets its contract. Assumes nothing.
 use mathlib.Core.Path.{refl}
-use borrow.Author.Rules.{rules}
 use Rattle.rice_exports.specs.Splits.{count_of}
 use Rattle.rice_exports.proofs.count.Goals as goal
 

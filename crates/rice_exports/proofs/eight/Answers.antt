@@ -1,8 +1,7 @@
-use Prim.Native.Nat.{◌≤◌, ◌-◌}
-use mathlib.Core.Path.{◌≡◌, refl}
+use mathlib.Core.Path.{refl}
 use native.Mathlib.Omega.{arith}
 use Rattle.floats.proofs.Fills.{fill-turn}
-use Rattle.floats.specs.Vector.{at, vec, fill}
+use Rattle.floats.specs.Vector.{fill}
 use Rattle.rice_exports.proofs.Laws.{eight_is}
 use Rattle.rice_exports.proofs.eight.Goals as goal
 

@@ -1,10 +1,7 @@
 -- `rice_exports::eight` meets its contract. The loop's invariant: the entries passed are filled. Assumes nothing.
 use Prim.Native.Nat.{◌≤◌, ◌-◌}
-use mathlib.Core.Path.{◌≡◌, refl}
-use native.Mathlib.Omega.{arith}
-use Rattle.floats.proofs.Fills.{fill-turn}
-use Rattle.floats.specs.Vector.{at, vec, fill}
-use Rattle.rice_exports.proofs.Laws.{eight_is}
+use mathlib.Core.Path.{◌≡◌}
+use Rattle.floats.specs.Vector.{at, vec}
 use Rattle.rice_exports.proofs.eight.Given as goal
 
 abbrev pub invariant-loop-i : goal.invariant-loop-i

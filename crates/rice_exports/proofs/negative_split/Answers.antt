@@ -1,6 +1,5 @@
 -- `rice_exports::negative_split` meets its contract. Assumes nothing.
 use Rattle.floats.proofs.Folds.{not_of_false, not_of_true}
-use borrow.Author.Rules.{rules}
 use Rattle.rachford_rice.proofs.Answers.{negative-low}
 use Rattle.rice_exports.proofs.Laws.{sizes, unsized, answered}
 use Rattle.rice_exports.proofs.negative_split.Goals as goal

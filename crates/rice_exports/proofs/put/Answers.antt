@@ -1,9 +1,8 @@
-use Prim.Native.Nat.{◌≤◌, ◌-◌}
-use mathlib.Core.Path.{◌≡◌, refl, ap, ◌∙◌}
+use mathlib.Core.Path.{refl, ap, ◌∙◌}
 use native.Mathlib.Omega.{arith}
 use lib.ListN.{length}
 use Rattle.floats.proofs.Fills.{fill_from-turn, fill_from_done, fill_from_length}
-use Rattle.floats.specs.Vector.{at, fill_from}
+use Rattle.floats.specs.Vector.{fill_from}
 use Rattle.rice_exports.proofs.put.Goals as goal
 
 pub loop-i-init : goal.loop-i-init

@@ -1,9 +1,6 @@
 -- `rice_exports::put` meets its contract. The loop's invariant: the entries passed are stored. Assumes nothing.
 use Prim.Native.Nat.{◌≤◌, ◌-◌}
-use mathlib.Core.Path.{◌≡◌, refl, ap, ◌∙◌}
-use native.Mathlib.Omega.{arith}
-use lib.ListN.{length}
-use Rattle.floats.proofs.Fills.{fill_from-turn, fill_from_done, fill_from_length}
+use mathlib.Core.Path.{◌≡◌}
 use Rattle.floats.specs.Vector.{at, fill_from}
 use Rattle.rice_exports.proofs.put.Given as goal
 

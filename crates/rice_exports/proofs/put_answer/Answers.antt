@@ -1,6 +1,5 @@
 -- `rice_exports::put_answer` meets its contract. Assumes nothing.
 use native.Mathlib.Omega.{arith}
-use borrow.Author.Rules.{rules}
 use Rattle.rice_exports.proofs.Laws.{as_refused, as_passed}
 use Rattle.rice_exports.proofs.put_answer.Goals as goal
 

@@ -1,5 +1,4 @@
 -- `rice_exports::put_both` meets its contract. Assumes nothing.
-use borrow.Author.Rules.{rules}
 use Rattle.rice_exports.specs.Splits.{both}
 use Rattle.rice_exports.proofs.put_both.Goals as goal
 

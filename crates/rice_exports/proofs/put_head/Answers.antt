@@ -1,6 +1,5 @@
 -- `rice_exports::put_head` meets its contract. Assumes nothing.
 use native.Mathlib.Omega.{arith}
-use borrow.Author.Rules.{rules}
 use lib.ListN.{length-set}
 use Rattle.rice_exports.proofs.put_head.Goals as goal
 

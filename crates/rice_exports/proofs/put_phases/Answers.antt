@@ -1,5 +1,4 @@
 -- `rice_exports::put_phases` meets its contract. Assumes nothing.
-use borrow.Author.Rules.{rules}
 use Rattle.rice_exports.proofs.Laws.{as_liquid_lem, as_vapor_lem, as_both_lem}
 use Rattle.rice_exports.proofs.put_phases.Goals as goal
 

@@ -1,6 +1,5 @@
 -- `saturation::activity_bubble_pressure` meets its contract. Assumes nothing.
 use Rattle.saturation.proofs.Laws.{task-no-activity, task-refused, task-outside, task_infinite, task_good}
-use borrow.Author.Rules.{rules}
 use Rattle.saturation.proofs.activity_bubble_pressure.Goals as goal
 
 pub returns-in-Refused : goal.returns-in-Refused

@@ -1,5 +1,4 @@
 -- `saturation::activity_dew_pressure` meets its contract. Assumes nothing.
-use borrow.Author.Rules.{rules}
 use Rattle.saturation.proofs.Laws.{found-refused, found-outside, found_good}
 use Rattle.saturation.proofs.activity_dew_pressure.Goals as goal
 

@@ -1,5 +1,4 @@
 -- `saturation::bubble_from` meets its contract. Assumes nothing.
-use borrow.Author.Rules.{rules}
 use Rattle.saturation.proofs.Laws.{bubble_infinite, bubble_not_positive, bubble_good}
 use Rattle.saturation.proofs.bubble_from.Goals as goal
 

@@ -1,10 +1,3 @@
-use Prim.Native.Nat.{◌-◌}
-use mathlib.Core.Path.{◌≡◌}
-use native.Mathlib.Omega.{arith}
-use borrow.Author.Rules.{rules}
-use Rattle.floats.specs.Vector.{places}
-use Rattle.thermo_models.specs.Activity.{activity_on}
-use Rattle.saturation.specs.Saturation.{dew_loop, dew_at}
 use Rattle.saturation.proofs.Laws.{loop_start, loop_out, loop_refused, loop_done, loop_more}
 use Rattle.saturation.proofs.dew_at.Goals as goal
 

@@ -1,12 +1,9 @@
 -- `saturation::dew_at` meets its contract. The loop's invariant: what is left to run from here is the whole run. Assumes nothing.
 use Prim.Native.Nat.{◌-◌}
 use mathlib.Core.Path.{◌≡◌}
-use native.Mathlib.Omega.{arith}
-use borrow.Author.Rules.{rules}
 use Rattle.floats.specs.Vector.{places}
 use Rattle.thermo_models.specs.Activity.{activity_on}
 use Rattle.saturation.specs.Saturation.{dew_loop, dew_at}
-use Rattle.saturation.proofs.Laws.{loop_start, loop_out, loop_refused, loop_done, loop_more}
 use Rattle.saturation.proofs.dew_at.Given as goal
 
 abbrev pub invariant-loop-done : goal.invariant-loop-done

@@ -1,5 +1,4 @@
 -- `saturation::dew_point` meets its contract. Assumes nothing.
-use borrow.Author.Rules.{rules}
 use Rattle.saturation.proofs.Laws.{point_vanished, point_refused, point_infinite, point_good}
 use Rattle.saturation.proofs.dew_point.Goals as goal
 

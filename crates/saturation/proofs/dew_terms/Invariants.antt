@@ -1,10 +1,7 @@
 -- `saturation::dew_terms` meets its contract. Assumes nothing.
 use Prim.Native.Nat.{◌≤◌, ◌-◌}
-use mathlib.Core.Path.{◌≡◌, refl}
-use native.Mathlib.Omega.{arith}
-use borrow.Author.Rules.{rules}
-use Rattle.floats.proofs.Fills.{fill-turn, fill_done}
-use Rattle.floats.specs.Vector.{fill, vec}
+use mathlib.Core.Path.{◌≡◌}
+use Rattle.floats.specs.Vector.{vec}
 use Rattle.saturation.specs.Saturation.{dew_term}
 use Rattle.saturation.proofs.dew_terms.Given as goal
 

@@ -1,5 +1,4 @@
 -- `saturation::dew_turn` meets its contract. Assumes nothing.
-use borrow.Author.Rules.{rules}
 use Rattle.saturation.proofs.Laws.{turn_vanished, turn-refused, turn-change, turn-pressure, turn_good}
 use Rattle.saturation.proofs.dew_turn.Goals as goal
 

@@ -1,9 +1,7 @@
-use Prim.Native.Nat.{◌≤◌, ◌-◌}
-use mathlib.Core.Path.{◌≡◌, refl}
+use mathlib.Core.Path.{refl}
 use native.Mathlib.Omega.{arith}
 use Rattle.floats.proofs.Fills.{fill-turn, fill_done}
-use Rattle.floats.specs.Vector.{at, fill, vec}
-use Rattle.floats.specs.Arithmetic.{◌⊘◌}
+use Rattle.floats.specs.Vector.{fill}
 use Rattle.saturation.proofs.divided.Goals as goal
 
 pub loop-i-init : goal.loop-i-init

@@ -1,9 +1,7 @@
 -- `saturation::divided` meets its contract. Assumes nothing.
 use Prim.Native.Nat.{◌≤◌, ◌-◌}
-use mathlib.Core.Path.{◌≡◌, refl}
-use native.Mathlib.Omega.{arith}
-use Rattle.floats.proofs.Fills.{fill-turn, fill_done}
-use Rattle.floats.specs.Vector.{at, fill, vec}
+use mathlib.Core.Path.{◌≡◌}
+use Rattle.floats.specs.Vector.{at, vec}
 use Rattle.floats.specs.Arithmetic.{◌⊘◌}
 use Rattle.saturation.proofs.divided.Given as goal
 

@@ -1,5 +1,4 @@
 -- `saturation::gap` meets its contract. Assumes nothing.
-use borrow.Author.Rules.{rules}
 use Rattle.saturation.proofs.gap.Goals as goal
 
 pub returns : goal.returns

@@ -1,5 +1,4 @@
 -- `saturation::larger_change` meets its contract. Assumes nothing.
-use borrow.Author.Rules.{rules}
 use Rattle.saturation.proofs.larger_change.Goals as goal
 
 pub returns-then-y : goal.returns-then-y

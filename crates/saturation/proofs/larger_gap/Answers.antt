@@ -1,5 +1,4 @@
 -- `saturation::larger_gap` meets its contract. Assumes nothing.
-use borrow.Author.Rules.{rules}
 use Rattle.saturation.proofs.larger_gap.Goals as goal
 
 pub returns-then-x-y : goal.returns-then-x-y

@@ -1,7 +1,5 @@
-use Prim.Native.Nat.{◌≤◌, ◌-◌}
-use mathlib.Core.Path.{◌≡◌, refl}
+use mathlib.Core.Path.{refl}
 use native.Mathlib.Omega.{arith}
-use borrow.Author.Rules.{rules}
 use Rattle.floats.proofs.Folds.{fold_turn, fold_done}
 use Rattle.floats.specs.Fold.{fold_to}
 use Rattle.saturation.specs.Saturation.{change_of}

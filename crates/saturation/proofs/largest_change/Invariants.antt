@@ -1,10 +1,6 @@
 -- `saturation::largest_change` meets its contract. Assumes nothing.
 use Prim.Native.Nat.{◌≤◌, ◌-◌}
-use mathlib.Core.Path.{◌≡◌, refl}
-use native.Mathlib.Omega.{arith}
-use borrow.Author.Rules.{rules}
-use Rattle.floats.proofs.Folds.{fold_turn, fold_done}
-use Rattle.floats.specs.Fold.{fold_to}
+use mathlib.Core.Path.{◌≡◌}
 use Rattle.saturation.specs.Saturation.{change_of}
 use Rattle.saturation.proofs.largest_change.Given as goal
 

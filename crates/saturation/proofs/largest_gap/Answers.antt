@@ -1,10 +1,8 @@
-use Prim.Native.Nat.{◌≤◌, ◌-◌}
-use mathlib.Core.Path.{◌≡◌, refl}
+use mathlib.Core.Path.{refl}
 use native.Mathlib.Omega.{arith}
 use borrow.Author.Rules.{rules}
 use Rattle.floats.proofs.Folds.{fold_done}
 use Rattle.floats.specs.Fold.{fold_to}
-use Rattle.numerics.specs.Numerics.{ln_of}
 use Rattle.saturation.specs.Saturation.{gap_of}
 use Rattle.saturation.proofs.Laws.{gap-turn}
 use Rattle.saturation.proofs.largest_gap.Goals as goal

@@ -1,9 +1,7 @@
-use Prim.Native.Nat.{◌≤◌, ◌-◌}
-use mathlib.Core.Path.{◌≡◌, refl}
+use mathlib.Core.Path.{refl}
 use native.Mathlib.Omega.{arith}
-use borrow.Author.Rules.{rules}
 use Rattle.floats.proofs.Fills.{fill-turn, fill_done}
-use Rattle.floats.specs.Vector.{fill, vec}
+use Rattle.floats.specs.Vector.{fill}
 use Rattle.saturation.specs.Saturation.{partial_of}
 use Rattle.saturation.proofs.partials.Goals as goal
 

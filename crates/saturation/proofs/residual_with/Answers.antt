@@ -1,5 +1,4 @@
 -- `saturation::residual_with` meets its contract. Assumes nothing.
-use borrow.Author.Rules.{rules}
 use Rattle.floats.specs.Outcome.{need}
 use Rattle.saturation.specs.Answers.{residual_answer}
 use Rattle.saturation.specs.Saturation.{residual_with}

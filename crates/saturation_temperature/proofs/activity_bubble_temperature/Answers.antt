@@ -1,5 +1,4 @@
 -- `saturation_temperature::activity_bubble_temperature` meets its contract. Assumes nothing.
-use Rattle.std.proofs.Common.{rules}
 use Rattle.saturation_temperature.specs.Boiling.{bubble_temperature}
 use Rattle.saturation_temperature.specs.Curves.{point_of, found_of}
 use Rattle.saturation_temperature.proofs.activity_bubble_temperature.Goals as goal

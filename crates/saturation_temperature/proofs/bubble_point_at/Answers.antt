@@ -1,5 +1,5 @@
 -- `saturation_temperature::bubble_point_at` meets its contract. Assumes nothing.
-use Rattle.std.proofs.Common.{refl, rules}
+use Rattle.std.proofs.Common.{refl}
 use Rattle.saturation_temperature.proofs.Points.{feed-is, bubble-no-activity, bubble-no_pures, bubble_root, bubble-off}
 use Rattle.saturation_temperature.proofs.bubble_point_at.Goals as goal
 

@@ -1,6 +1,5 @@
 -- `saturation_temperature::bubble_with` meets its contract. Assumes nothing.
 use Rattle.saturation_temperature.proofs.Points.{bubble-refuses, bubble_infinite, bubble_good}
-use Rattle.std.proofs.Common.{rules}
 use Rattle.saturation_temperature.proofs.bubble_with.Goals as goal
 
 pub returns-in-Refused : goal.returns-in-Refused

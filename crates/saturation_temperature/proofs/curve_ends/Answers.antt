@@ -1,6 +1,5 @@
 -- `saturation_temperature::curve_ends` meets its contract. Assumes nothing.
 use Rattle.saturation_temperature.proofs.Searching.{low-refused, high-refused, low-found, high-found, unbracketed, bracketed}
-use Rattle.std.proofs.Common.{rules}
 use Rattle.saturation_temperature.proofs.curve_ends.Goals as goal
 
 pub returns-in-Refused : goal.returns-in-Refused

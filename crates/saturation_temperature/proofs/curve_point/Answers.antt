@@ -1,6 +1,5 @@
 -- `saturation_temperature::curve_point` meets its contract. Assumes nothing.
 use Rattle.saturation_temperature.proofs.Points.{point_none, point_bubble, point_dew}
-use Rattle.std.proofs.Common.{rules}
 use Rattle.saturation_temperature.proofs.curve_point.Goals as goal
 
 pub returns-in-No : goal.returns-in-No

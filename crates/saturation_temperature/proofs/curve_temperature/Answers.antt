@@ -1,6 +1,5 @@
 -- `saturation_temperature::curve_temperature` meets its contract. Assumes nothing.
 use Rattle.saturation_temperature.proofs.Points.{outside, searched}
-use Rattle.std.proofs.Common.{rules}
 use Rattle.saturation_temperature.proofs.curve_temperature.Goals as goal
 
 pub returns-then-not-check_pressure : goal.returns-then-not-check_pressure

@@ -1,6 +1,5 @@
 -- `saturation_temperature::curve_turn` meets its contract. Assumes nothing.
 use Rattle.saturation_temperature.proofs.Searching.{turn-refused, turn-found, turn-collapsed, turn_more}
-use Rattle.std.proofs.Common.{rules}
 use Rattle.saturation_temperature.proofs.curve_turn.Goals as goal
 
 pub returns-in-Refused : goal.returns-in-Refused

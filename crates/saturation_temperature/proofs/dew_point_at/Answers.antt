@@ -1,5 +1,5 @@
 -- `saturation_temperature::dew_point_at` meets its contract. Assumes nothing.
-use Rattle.std.proofs.Common.{refl, rules}
+use Rattle.std.proofs.Common.{refl}
 use Rattle.saturation_temperature.proofs.Points.{dew-no_pures, dew_on, dew-none, dew_root, dew-off}
 use Rattle.saturation_temperature.proofs.dew_point_at.Goals as goal
 

@@ -1,8 +1,6 @@
-use Rattle.std.proofs.Common.{◌≡◌, ◌-◌, ◌≤◌, refl, arith, rules}
+use Rattle.std.proofs.Common.{refl, arith, rules}
 use Rattle.floats.proofs.Folds.{fold_turn, fold_done}
-use Rattle.floats.specs.Vector.{at}
-use Rattle.floats.specs.Fold.{fold_to, active}
-use Rattle.floats.specs.Arithmetic.{◌⊕◌, ◌⊗◌, 0f}
+use Rattle.floats.specs.Fold.{fold_to}
 use Rattle.saturation_temperature.proofs.dew_slope.Goals as goal
 
 pub loop-i-init : goal.loop-i-init

@@ -1,6 +1,5 @@
 -- `saturation_temperature::dew_slope` meets its contract. Assumes nothing.
-use Rattle.std.proofs.Common.{◌≡◌, ◌-◌, ◌≤◌, refl, arith, rules}
-use Rattle.floats.proofs.Folds.{fold_turn, fold_done}
+use Rattle.std.proofs.Common.{◌≡◌, ◌-◌, ◌≤◌}
 use Rattle.floats.specs.Vector.{at}
 use Rattle.floats.specs.Fold.{fold_to, active}
 use Rattle.floats.specs.Arithmetic.{◌⊕◌, ◌⊗◌, 0f}

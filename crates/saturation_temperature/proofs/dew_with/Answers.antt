@@ -1,6 +1,5 @@
 -- `saturation_temperature::dew_with` meets its contract. Assumes nothing.
 use Rattle.saturation_temperature.proofs.Points.{dew_infinite, dew_good}
-use Rattle.std.proofs.Common.{rules}
 use Rattle.saturation_temperature.proofs.dew_with.Goals as goal
 
 pub returns-in-Refused : goal.returns-in-Refused

@@ -1,6 +1,5 @@
 -- `saturation_temperature::inside` meets its contract. Assumes nothing.
 use Rattle.saturation_temperature.specs.Answers.{inside}
-use Rattle.std.proofs.Common.{rules}
 use Rattle.saturation_temperature.proofs.inside.Goals as goal
 
 pub returns : goal.returns

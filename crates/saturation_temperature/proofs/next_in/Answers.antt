@@ -1,5 +1,4 @@
 -- `saturation_temperature::next_in` meets its contract. Assumes nothing.
-use Rattle.std.proofs.Common.{rules}
 use Rattle.saturation_temperature.proofs.next_in.Goals as goal
 
 pub returns-then-slope-lo : goal.returns-then-slope-lo

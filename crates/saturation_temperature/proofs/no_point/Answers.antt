@@ -1,6 +1,5 @@
 -- `saturation_temperature::no_point` meets its contract. Assumes nothing.
 use Rattle.saturation_temperature.specs.Answers.{point_answer}
-use Rattle.std.proofs.Common.{rules}
 use Rattle.saturation_temperature.proofs.no_point.Goals as goal
 
 pub returns : goal.returns

@@ -1,5 +1,4 @@
 -- `saturation_temperature::refused` meets its contract. Assumes nothing.
-use Rattle.std.proofs.Common.{rules}
 use Rattle.saturation_temperature.proofs.refused.Goals as goal
 
 pub returns : goal.returns

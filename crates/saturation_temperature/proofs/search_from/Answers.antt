@@ -1,7 +1,3 @@
-use Rattle.std.proofs.Common.{◌≡◌, ◌-◌, arith, rules}
-use Rattle.saturation_temperature.specs.Search.{search_from}
-use Rattle.saturation_temperature.specs.Answers.{answer_at}
-use Rattle.saturation_temperature.specs.Curves.{curve_of, root_of}
 use Rattle.saturation_temperature.proofs.Searching.{search_begun, search_over, search_more, search_stopped}
 use Rattle.saturation_temperature.proofs.search_from.Goals as goal
 

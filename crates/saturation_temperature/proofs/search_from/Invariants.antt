@@ -1,9 +1,8 @@
 -- `saturation_temperature::search_from` meets its contract. The loop's invariant: what is left to run from here answers as the whole run. Assumes nothing.
-use Rattle.std.proofs.Common.{◌≡◌, ◌-◌, arith, rules}
+use Rattle.std.proofs.Common.{◌≡◌, ◌-◌}
 use Rattle.saturation_temperature.specs.Search.{search_from}
 use Rattle.saturation_temperature.specs.Answers.{answer_at}
 use Rattle.saturation_temperature.specs.Curves.{curve_of, root_of}
-use Rattle.saturation_temperature.proofs.Searching.{search_begun, search_over, search_more, search_stopped}
 use Rattle.saturation_temperature.proofs.search_from.Given as goal
 
 abbrev pub invariant-loop-done : goal.invariant-loop-done

@@ -1,6 +1,5 @@
 -- `saturation_temperature::solve_temperature` meets its contract. Assumes nothing.
 use Rattle.saturation_temperature.proofs.Searching.{solved_inside, solved_stopped}
-use Rattle.std.proofs.Common.{rules}
 use Rattle.saturation_temperature.proofs.solve_temperature.Goals as goal
 
 pub returns-then-not-s : goal.returns-then-not-s

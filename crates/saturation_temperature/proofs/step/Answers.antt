@@ -1,5 +1,4 @@
 -- `saturation_temperature::step` meets its contract. Assumes nothing.
-use Rattle.std.proofs.Common.{rules}
 use Rattle.saturation_temperature.specs.Search.{step_of}
 use Rattle.saturation_temperature.proofs.step.Goals as goal
 

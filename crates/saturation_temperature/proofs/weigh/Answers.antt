@@ -1,5 +1,4 @@
-use Rattle.std.proofs.Common.{◌-◌, ◌≤◌, arith, rules}
-use Rattle.saturation_temperature.specs.Answers.{Weighed}
+use Rattle.std.proofs.Common.{arith}
 use Rattle.saturation_temperature.proofs.Points.{weighed-none, weighed-turn, weighed_done}
 use Rattle.saturation_temperature.proofs.weigh.Goals as goal
 

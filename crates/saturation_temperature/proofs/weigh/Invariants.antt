@@ -1,7 +1,6 @@
 -- `saturation_temperature::weigh` meets its contract. Assumes nothing.
-use Rattle.std.proofs.Common.{◌-◌, ◌≤◌, arith, rules}
+use Rattle.std.proofs.Common.{◌-◌, ◌≤◌}
 use Rattle.saturation_temperature.specs.Answers.{Weighed}
-use Rattle.saturation_temperature.proofs.Points.{weighed-none, weighed-turn, weighed_done}
 use Rattle.saturation_temperature.proofs.weigh.Given as goal
 
 abbrev pub invariant-loop-i : goal.invariant-loop-i

@@ -1,5 +1,4 @@
 -- `sheet::answer` meets its contract. Assumes nothing.
-use borrow.Author.Rules.{rules}
 use Rattle.sheet.proofs.Dispatch.{book-no, book-ok}
 use Rattle.sheet.proofs.answer.Goals as goal
 

@@ -1,5 +1,4 @@
 -- `sheet::answer_asked` meets its contract: nothing is offered. Assumes nothing.
-use borrow.Author.Rules.{rules}
 use Rattle.records.proofs.Offered.{copy-nothing}
 use Rattle.sheet.proofs.answer_asked.Goals as goal
 

@@ -1,5 +1,4 @@
 -- `sheet::answer_at` meets its contract. Assumes nothing.
-use borrow.Author.Rules.{rules}
 use Rattle.sheet.proofs.Dispatch.{ready_no, ready_at}
 use Rattle.sheet.proofs.answer_at.Goals as goal
 

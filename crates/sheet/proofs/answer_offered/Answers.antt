@@ -1,7 +1,6 @@
 -- `sheet::answer_offered` meets its contract. Assumes nothing.
 use mathlib.Core.Path.{sym, ◌∙◌}
 use native.Mathlib.Omega.{arith}
-use borrow.Author.Rules.{rules}
 use Rattle.records.proofs.Offered.{copy-rule}
 use Rattle.sheet.proofs.Dispatch.{short, asked}
 use Rattle.sheet.proofs.answer_offered.Goals as goal

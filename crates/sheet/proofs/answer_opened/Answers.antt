@@ -1,5 +1,4 @@
 -- `sheet::answer_opened` meets its contract. Assumes nothing.
-use borrow.Author.Rules.{rules}
 use Rattle.sheet.specs.Sheet.{sheet_from}
 use Rattle.sheet.proofs.Dispatch.{short, roomed}
 use Rattle.sheet.proofs.answer_opened.Goals as goal

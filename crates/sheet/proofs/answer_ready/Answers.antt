@@ -1,7 +1,6 @@
 -- `sheet::answer_ready` meets its contract: nothing is offered. Assumes nothing.
 use mathlib.Core.Path.{refl}
 use native.Mathlib.Omega.{arith}
-use borrow.Author.Rules.{rules}
 use Rattle.records.proofs.Offered.{copy-nothing}
 use Rattle.sheet.proofs.Dispatch.{short, asked, solved_at}
 use Rattle.sheet.proofs.answer_ready.Goals as goal

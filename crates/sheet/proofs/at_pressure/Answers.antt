@@ -1,5 +1,4 @@
 -- `sheet::at_pressure` meets its contract. Assumes nothing.
-use borrow.Author.Rules.{rules}
 use Rattle.sheet.proofs.Replies.{pressure-no}
 use Rattle.sheet.proofs.Dispatch.{pressure-given}
 use Rattle.sheet.proofs.at_pressure.Goals as goal

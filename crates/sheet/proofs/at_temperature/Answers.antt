@@ -1,5 +1,4 @@
 -- `sheet::at_temperature` meets its contract. Assumes nothing.
-use borrow.Author.Rules.{rules}
 use lib.ListN.{length-replicate}
 use Rattle.floats.specs.Arithmetic.{0f}
 use Rattle.sheet.proofs.at_temperature.Goals as goal

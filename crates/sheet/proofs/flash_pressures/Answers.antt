@@ -1,5 +1,4 @@
 -- `sheet::flash_pressures` meets its contract. Assumes nothing.
-use borrow.Author.Rules.{rules}
 use Rattle.sheet.proofs.Shared.{flash_cold, flash_hard, flash_pressed}
 use Rattle.sheet.proofs.flash_pressures.Goals as goal
 

@@ -1,5 +1,4 @@
 -- `sheet::make_ready` meets its contract: nothing is offered. Assumes nothing.
-use borrow.Author.Rules.{rules}
 use Rattle.records.proofs.Offered.{copy-nothing}
 use Rattle.sheet.proofs.make_ready.Goals as goal
 

@@ -1,5 +1,4 @@
 -- `sheet::pressures_for` meets its contract. Assumes nothing.
-use borrow.Author.Rules.{rules}
 use Rattle.sheet.proofs.Shared.{pascal-no, pascal-ok, pressures-same, pressures-none, pressures-no, pressures-unread, pressures-pure, pressures-other}
 use mathlib.Core.Path.{◌∙◌}
 use mathlib.Core.Logic.{◌⊎◌, inl, inr}

@@ -1,5 +1,4 @@
 -- `sheet::pure_pressures` meets its contract. Assumes nothing.
-use borrow.Author.Rules.{rules}
 use Rattle.sheet.proofs.Shared.{pures_pressures}
 use Rattle.sheet.proofs.pure_pressures.Goals as goal
 

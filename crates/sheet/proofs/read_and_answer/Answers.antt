@@ -1,5 +1,4 @@
 -- `sheet::read_and_answer` meets its contract. Assumes nothing.
-use borrow.Author.Rules.{rules}
 use Rattle.sheet.proofs.Dispatch.{question-no, question-ok}
 use Rattle.sheet.proofs.read_and_answer.Goals as goal
 

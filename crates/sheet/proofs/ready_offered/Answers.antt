@@ -1,5 +1,4 @@
 -- `sheet::ready_offered` meets its contract. Assumes nothing.
-use borrow.Author.Rules.{rules}
 use Rattle.sheet.proofs.Shared.{pressures-copied, ready_cold, ready_refused, ready_made}
 use Rattle.sheet.proofs.ready_offered.Goals as goal
 

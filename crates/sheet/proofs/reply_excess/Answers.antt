@@ -1,5 +1,4 @@
 -- `sheet::reply_excess` meets its contract. Assumes nothing.
-use borrow.Author.Rules.{rules}
 use Rattle.sheet.proofs.Replies.{excess-no, excess_wild, excess-ok}
 use Rattle.sheet.proofs.reply_excess.Goals as goal
 

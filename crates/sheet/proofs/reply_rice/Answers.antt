@@ -1,5 +1,4 @@
 -- `sheet::reply_rice` meets its contract. Assumes nothing.
-use borrow.Author.Rules.{rules}
 use Rattle.sheet.proofs.Replies.{rice-says}
 use Rattle.sheet.proofs.reply_rice.Goals as goal
 

@@ -1,5 +1,4 @@
 -- `sheet::reply_saturation` meets its contract. Assumes nothing.
-use borrow.Author.Rules.{rules}
 use Rattle.sheet.proofs.Replies.{saturation_says}
 use Rattle.sheet.proofs.reply_saturation.Goals as goal
 

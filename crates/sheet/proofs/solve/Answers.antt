@@ -1,5 +1,4 @@
 -- `sheet::solve` meets its contract. Assumes nothing.
-use borrow.Author.Rules.{rules}
 use Rattle.sheet.specs.Tasks.{task_split, task8, task9}
 use Rattle.sheet.proofs.Dispatch.{solved_at, solved_under, solved_split}
 use Rattle.sheet.proofs.solve.Goals as goal

@@ -1,5 +1,4 @@
 -- `sheet::tables_at` meets its contract. Assumes nothing.
-use borrow.Author.Rules.{rules}
 use Rattle.sheet.proofs.Shared.{tabled}
 use Rattle.sheet.proofs.tables_at.Goals as goal
 

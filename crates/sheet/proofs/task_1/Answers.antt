@@ -1,5 +1,4 @@
 -- `sheet::task_1` meets its contract. Assumes nothing.
-use borrow.Author.Rules.{rules}
 use Rattle.sheet.specs.Tasks.{task1}
 use Rattle.sheet.proofs.Replies.{excess-asked}
 use Rattle.sheet.proofs.task_1.Goals as goal

@@ -1,6 +1,5 @@
 -- `sheet::task_6` meets its contract. Assumes nothing.
 use native.Mathlib.Omega.{arith}
-use borrow.Author.Rules.{rules}
 use Rattle.sheet.proofs.Replies.{stability_fits, stability_says}
 use Rattle.sheet.proofs.task_6.Goals as goal
 

@@ -1,6 +1,5 @@
 -- `sheet::task_7` meets its contract. Assumes nothing.
 use native.Mathlib.Omega.{arith}
-use borrow.Author.Rules.{rules}
 use Rattle.sheet.proofs.Replies.{flash_fits, flash_says}
 use Rattle.sheet.proofs.task_7.Goals as goal
 

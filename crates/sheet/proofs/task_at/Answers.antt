@@ -1,5 +1,4 @@
 -- `sheet::task_at` meets its contract. Assumes nothing.
-use borrow.Author.Rules.{rules}
 use Rattle.sheet.proofs.Dispatch.{at_1, bubble-at, dew-at, at_6, at_rest}
 use Rattle.sheet.proofs.Shared.{pressures-rest}
 use mathlib.Core.Path.{sym, ◌∙◌}

@@ -1,5 +1,4 @@
 -- `sheet::task_at_pressure` meets its contract. Assumes nothing.
-use borrow.Author.Rules.{rules}
 use Rattle.sheet.proofs.Replies.{pressure-no, pressure-ok}
 use mathlib.Core.Path.{sym, ◌∙◌}
 use Rattle.floats.proofs.Outcomes.{bind_yes}

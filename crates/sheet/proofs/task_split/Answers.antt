@@ -1,5 +1,4 @@
 -- `sheet::task_split` meets its contract. Assumes nothing.
-use borrow.Author.Rules.{rules}
 use Rattle.sheet.proofs.Dispatch.{split_8, split_9, split-none}
 use Rattle.sheet.proofs.task_split.Goals as goal
 

@@ -1,5 +1,4 @@
 -- `sheet::task_under` meets its contract. Assumes nothing.
-use borrow.Author.Rules.{rules}
 use Rattle.sheet.proofs.Dispatch.{under_4, under_5}
 use Rattle.sheet.proofs.task_under.Goals as goal
 

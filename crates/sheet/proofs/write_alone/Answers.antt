@@ -1,5 +1,4 @@
 -- `sheet::write_alone` meets its contract. Assumes nothing.
-use borrow.Author.Rules.{rules}
 use Rattle.sheet.proofs.Laws.{head-no, head_yes}
 use Rattle.sheet.proofs.write_alone.Goals as goal
 

@@ -1,5 +1,4 @@
 -- `sheet::write_answer` meets its contract. Assumes nothing.
-use borrow.Author.Rules.{rules}
 use Rattle.sheet.proofs.Laws.{head-no, answer_yes}
 use Rattle.sheet.proofs.write_answer.Goals as goal
 

@@ -1,5 +1,4 @@
 -- `sheet::write_trial` meets its contract. Assumes nothing.
-use borrow.Author.Rules.{rules}
 use Rattle.sheet.proofs.Laws.{trial-put}
 use Rattle.sheet.proofs.write_trial.Goals as goal
 

@@ -1,9 +1,6 @@
-use borrow.Author.Rules.{rules}
 use native.Mathlib.Omega.{arith}
-use Prim.Native.Nat.{◌≤◌, ◌-◌}
 use mathlib.Core.Path.{◌≡◌, refl}
-use lib.ListN.{length}
-use Rattle.sheet.proofs.Laws.{Behind, behind-none, behind-turn}
+use Rattle.sheet.proofs.Laws.{behind-none, behind-turn}
 use Rattle.sheet.proofs.write_trials.Goals as goal
 
 pub loop-k-init : goal.loop-k-init

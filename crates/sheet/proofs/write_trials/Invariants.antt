@@ -1,10 +1,8 @@
 -- `sheet::write_trials` meets its contract. The loop's invariant: the trials so far stand behind the answer block, the old bytes behind them. Assumes nothing.
-use borrow.Author.Rules.{rules}
-use native.Mathlib.Omega.{arith}
 use Prim.Native.Nat.{◌≤◌, ◌-◌}
-use mathlib.Core.Path.{◌≡◌, refl}
+use mathlib.Core.Path.{◌≡◌}
 use lib.ListN.{length}
-use Rattle.sheet.proofs.Laws.{Behind, behind-none, behind-turn}
+use Rattle.sheet.proofs.Laws.{Behind}
 use Rattle.sheet.proofs.write_trials.Given as goal
 
 abbrev pub invariant-loop-k : goal.invariant-loop-k

@@ -1,5 +1,4 @@
 -- `thermo_models::activity` meets its contract. Assumes nothing.
-use borrow.Author.Rules.{rules}
 use Rattle.thermo_models.proofs.Stands.{activity-is}
 use Rattle.thermo_models.specs.Activity.{activity_on}
 use Rattle.thermo_models.proofs.activity.Goals as goal

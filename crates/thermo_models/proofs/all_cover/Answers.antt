@@ -1,11 +1,7 @@
-use mathlib.Core.Bool.{true}
-use mathlib.Core.Path.{◌≡◌, refl, sym}
-use Prim.Native.Nat.{◌≤◌, ◌-◌}
+use mathlib.Core.Path.{refl, sym}
 use native.Mathlib.Omega.{arith}
-use borrow.Author.Rules.{rules}
-use Rattle.floats.proofs.Folds.{as_tested, all_turn, all_fails, all_end, was_no, was_yes}
+use Rattle.floats.proofs.Folds.{as_tested, all_turn, all_fails, all_end}
 use Rattle.floats.specs.Fold.{all_to}
-use Rattle.thermo_models.specs.Domain.{solvent_covers}
 use Rattle.thermo_models.proofs.all_cover.Goals as goal
 
 pub loop-i-init : goal.loop-i-init

@@ -1,10 +1,7 @@
 -- `thermo_models::all_cover` meets its contract: the loop keeps that every solvent passed covers t. Assumes nothing.
 use mathlib.Core.Bool.{true}
-use mathlib.Core.Path.{◌≡◌, refl, sym}
+use mathlib.Core.Path.{◌≡◌}
 use Prim.Native.Nat.{◌≤◌, ◌-◌}
-use native.Mathlib.Omega.{arith}
-use borrow.Author.Rules.{rules}
-use Rattle.floats.proofs.Folds.{all_turn, all_fails, all_end, was_no, was_yes}
 use Rattle.floats.specs.Fold.{all_to}
 use Rattle.thermo_models.specs.Domain.{solvent_covers}
 use Rattle.thermo_models.proofs.all_cover.Given as goal

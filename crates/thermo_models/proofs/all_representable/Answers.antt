@@ -1,13 +1,6 @@
-use borrow.Author.Rules.{rules}
-use mathlib.Core.Path.{◌≡◌, refl}
-use Prim.Native.Nat.{◌≤◌, ◌-◌}
+use mathlib.Core.Path.{refl}
 use native.Mathlib.Omega.{arith}
-use mathlib.Core.Bool.{not, ◌&&◌}
-use lib.Ieee.{le}
-use Rattle.floats.specs.Arithmetic.{0f}
-use Rattle.floats.specs.Small.{is_finite}
 use Rattle.floats.specs.Fold.{all_to}
-use Rattle.floats.specs.Vector.{at}
 use Rattle.floats.proofs.Folds.{all_next, all_done}
 use Rattle.thermo_models.proofs.all_representable.Goals as goal
 

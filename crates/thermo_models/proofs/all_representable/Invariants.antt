@@ -1,15 +1,12 @@
 -- `thermo_models::all_representable` meets its contract. Assumes nothing.
-use borrow.Author.Rules.{rules}
-use mathlib.Core.Path.{◌≡◌, refl}
+use mathlib.Core.Path.{◌≡◌}
 use Prim.Native.Nat.{◌≤◌, ◌-◌}
-use native.Mathlib.Omega.{arith}
 use mathlib.Core.Bool.{not, ◌&&◌}
 use lib.Ieee.{le}
 use Rattle.floats.specs.Arithmetic.{0f}
 use Rattle.floats.specs.Small.{is_finite}
 use Rattle.floats.specs.Fold.{all_to}
 use Rattle.floats.specs.Vector.{at}
-use Rattle.floats.proofs.Folds.{all_next, all_done}
 use Rattle.thermo_models.proofs.all_representable.Given as goal
 
 abbrev pub invariant-loop-i : goal.invariant-loop-i

@@ -1,5 +1,4 @@
 -- `thermo_models::check_temperature` meets its contract: from what the callees ensure. Assumes nothing.
-use borrow.Author.Rules.{rules}
 use Rattle.thermo_models.specs.Domain.{temperature_in_domain}
 use Rattle.thermo_models.proofs.check_temperature.Goals as goal
 

@@ -1,5 +1,4 @@
 -- `thermo_models::excess` meets its contract. Assumes nothing.
-use borrow.Author.Rules.{rules}
 use Rattle.thermo_models.proofs.Stands.{nrtl_excess, wilson_excess}
 use Rattle.thermo_models.proofs.excess.Goals as goal
 

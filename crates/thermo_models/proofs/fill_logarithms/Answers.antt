@@ -1,12 +1,8 @@
-use borrow.Author.Rules.{rules}
-use mathlib.Core.Path.{◌≡◌, refl}
-use Prim.Native.Nat.{◌≤◌, ◌-◌}
+use mathlib.Core.Path.{refl}
 use native.Mathlib.Omega.{arith}
-use Rattle.floats.specs.Vector.{fill, vec}
+use Rattle.floats.specs.Vector.{fill}
 use Rattle.floats.proofs.Fills.{fill-turn, fill_done}
-use Rattle.liquid.specs.Vapor.{vapor_of}
 use Rattle.thermo_models.proofs.Pures.{logarithm_of}
-use Rattle.thermo_models.specs.Domain.{vapor_record}
 use Rattle.thermo_models.proofs.fill_logarithms.Goals as goal
 
 pub loop-i-init : goal.loop-i-init

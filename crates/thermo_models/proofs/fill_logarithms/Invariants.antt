@@ -1,12 +1,8 @@
 -- `thermo_models::fill_logarithms` meets its contract. Assumes nothing.
-use borrow.Author.Rules.{rules}
-use mathlib.Core.Path.{◌≡◌, refl}
+use mathlib.Core.Path.{◌≡◌}
 use Prim.Native.Nat.{◌≤◌, ◌-◌}
-use native.Mathlib.Omega.{arith}
-use Rattle.floats.specs.Vector.{fill, vec}
-use Rattle.floats.proofs.Fills.{fill-turn, fill_done}
+use Rattle.floats.specs.Vector.{vec}
 use Rattle.liquid.specs.Vapor.{vapor_of}
-use Rattle.thermo_models.proofs.Pures.{logarithm_of}
 use Rattle.thermo_models.specs.Domain.{vapor_record}
 use Rattle.thermo_models.proofs.fill_logarithms.Given as goal
 

@@ -1,9 +1,7 @@
-use borrow.Author.Rules.{rules}
-use mathlib.Core.Path.{◌≡◌, refl}
-use Prim.Native.Nat.{◌≤◌, ◌+◌, ◌-◌, ◌*◌, ◌/◌}
+use mathlib.Core.Path.{refl}
+use Prim.Native.Nat.{◌+◌, ◌-◌, ◌*◌}
 use native.Mathlib.Omega.{arith}
-use Rattle.floats.specs.Vector.{at, fill, vec}
-use Rattle.numerics.specs.Numerics.{exp_of}
+use Rattle.floats.specs.Vector.{fill}
 use Rattle.floats.proofs.Fills.{fill-turn, fill_done}
 use Rattle.thermo_models.proofs.Pures.{pressures-turn}
 use Rattle.thermo_models.proofs.fill_pressures.Goals as goal

@@ -1,12 +1,8 @@
 -- `thermo_models::fill_pressures` meets its contract. Assumes nothing.
-use borrow.Author.Rules.{rules}
-use mathlib.Core.Path.{◌≡◌, refl}
-use Prim.Native.Nat.{◌≤◌, ◌+◌, ◌-◌, ◌*◌, ◌/◌}
-use native.Mathlib.Omega.{arith}
-use Rattle.floats.specs.Vector.{at, fill, vec}
+use mathlib.Core.Path.{◌≡◌}
+use Prim.Native.Nat.{◌≤◌, ◌-◌, ◌*◌, ◌/◌}
+use Rattle.floats.specs.Vector.{at, vec}
 use Rattle.numerics.specs.Numerics.{exp_of}
-use Rattle.floats.proofs.Fills.{fill-turn, fill_done}
-use Rattle.thermo_models.proofs.Pures.{pressures-turn}
 use Rattle.thermo_models.proofs.fill_pressures.Given as goal
 
 abbrev pub invariant-loop-i : goal.invariant-loop-i

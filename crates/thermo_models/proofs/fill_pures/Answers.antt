@@ -1,7 +1,6 @@
 -- `thermo_models::fill_pures` meets its contract, by what its parts fill. Assumes nothing.
 use Rattle.floats.proofs.Folds.{not_of_false, not_of_true}
 use Rattle.thermo_models.proofs.Pures.{pures_refused, pures_passed, pures_given, pures_none}
-use borrow.Author.Rules.{rules}
 use Rattle.thermo_models.proofs.fill_pures.Goals as goal
 
 pub returns-then-not-all_representable : goal.returns-then-not-all_representable

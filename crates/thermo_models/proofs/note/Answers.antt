@@ -1,5 +1,4 @@
 -- `thermo_models::note` meets its contract: by the variant of the regression. Assumes nothing.
-use borrow.Author.Rules.{rules}
 use Rattle.thermo_models.specs.Validity.{noted}
 use Rattle.thermo_models.proofs.note.Goals as goal
 

@@ -1,5 +1,4 @@
 -- `thermo_models::nrtl_table` meets its contract. Assumes nothing.
-use borrow.Author.Rules.{rules}
 use Rattle.thermo_models.proofs.Stands.{nrtl_made}
 use Rattle.thermo_models.proofs.nrtl_table.Goals as goal
 

@@ -1,7 +1,6 @@
 -- `thermo_models::pure_liquids` meets its contract: the domain's test, then the liquids. Assumes nothing.
 use native.Mathlib.Omega.{arith}
-use borrow.Author.Rules.{rules}
-use Rattle.floats.proofs.Folds.{as_tested, was_no, was_yes}
+use Rattle.floats.proofs.Folds.{as_tested}
 use Rattle.thermo_models.proofs.Pures.{covers, pures_outside, pures_inside}
 use Rattle.thermo_models.proofs.pure_liquids.Goals as goal
 

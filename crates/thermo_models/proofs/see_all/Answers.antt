@@ -1,12 +1,9 @@
 use mathlib.Core.Path.{◌≡◌, refl}
-use Prim.Native.Nat.{◌≤◌, ◌-◌}
 use native.Mathlib.Omega.{arith}
-use borrow.Author.Rules.{rules}
 use Rattle.floats.proofs.Folds.{fold_turn, fold_done}
 use Rattle.floats.specs.Fold.{fold_to}
 use Rattle.floats.specs.Vector.{places}
-use Rattle.records.specs.Offered.{with_pair}
-use Rattle.thermo_models.specs.Validity.{unseen, row_seen, all_seen}
+use Rattle.thermo_models.specs.Validity.{unseen, all_seen}
 use Rattle.thermo_models.proofs.see_all.Goals as goal
 
 pub loop-i-init : goal.loop-i-init

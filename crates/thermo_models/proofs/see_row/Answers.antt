@@ -1,10 +1,5 @@
-use mathlib.Core.Path.{◌≡◌}
-use Prim.Native.Nat.{◌≤◌, ◌+◌, ◌-◌}
 use native.Mathlib.Omega.{arith}
-use borrow.Author.Rules.{rules}
 use Rattle.thermo_models.proofs.Pairs.{row-start, row-turn, row_done}
-use Rattle.records.specs.Offered.{with_pair}
-use Rattle.thermo_models.specs.Validity.{row_seen}
 use Rattle.thermo_models.proofs.see_row.Goals as goal
 
 pub loop-j-init : goal.loop-j-init

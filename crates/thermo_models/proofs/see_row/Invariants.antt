@@ -1,9 +1,6 @@
 -- `thermo_models::see_row` meets its contract: the loop is the definition's fold over j from i + 1 on. Assumes nothing.
 use mathlib.Core.Path.{◌≡◌}
 use Prim.Native.Nat.{◌≤◌, ◌+◌, ◌-◌}
-use native.Mathlib.Omega.{arith}
-use borrow.Author.Rules.{rules}
-use Rattle.thermo_models.proofs.Pairs.{row-start, row-turn, row_done}
 use Rattle.records.specs.Offered.{with_pair}
 use Rattle.thermo_models.specs.Validity.{row_seen}
 use Rattle.thermo_models.proofs.see_row.Given as goal

@@ -1,5 +1,4 @@
 -- `thermo_models::solvent_covers` meets its contract: from what the callees ensure. Assumes nothing.
-use borrow.Author.Rules.{rules}
 use Rattle.thermo_models.specs.Domain.{solvent_covers}
 use Rattle.thermo_models.proofs.solvent_covers.Goals as goal
 

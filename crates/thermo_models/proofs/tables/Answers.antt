@@ -1,5 +1,4 @@
 -- `thermo_models::tables` meets its contract. Assumes nothing.
-use borrow.Author.Rules.{rules}
 use Rattle.thermo_models.proofs.Stands.{stands}
 use Rattle.thermo_models.proofs.tables.Goals as goal
 

@@ -1,5 +1,4 @@
 -- `thermo_models::validity` meets its contract: from what the callees ensure. Assumes nothing.
-use borrow.Author.Rules.{rules}
 use Rattle.thermo_models.specs.Validity.{validity_of}
 use Rattle.thermo_models.proofs.validity.Goals as goal
 

@@ -1,5 +1,4 @@
 -- `thermo_models::visit` meets its contract. Assumes nothing.
-use borrow.Author.Rules.{rules}
 use Rattle.records.proofs.Offered.{copy_interval}
 use Rattle.thermo_models.proofs.Pairs.{visited_yes}
 use Rattle.thermo_models.specs.Validity.{visited}

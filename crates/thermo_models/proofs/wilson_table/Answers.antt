@@ -1,5 +1,4 @@
 -- `thermo_models::wilson_table` meets its contract. Assumes nothing.
-use borrow.Author.Rules.{rules}
 use Rattle.thermo_models.proofs.Stands.{wilson_made}
 use Rattle.thermo_models.proofs.wilson_table.Goals as goal
 

@@ -1,11 +1,6 @@
-use Rattle.floats.proofs.Folds.{as_tested, was_no, was_yes, all_turn, all_fails, all_end}
-use Rattle.floats.specs.Vector.{at, places}
-use Rattle.floats.specs.Small.{is_finite}
+use Rattle.floats.proofs.Folds.{as_tested, all_turn, all_fails, all_end}
 use Rattle.floats.specs.Fold.{all_to}
-use mathlib.Core.Path.{◌≡◌, refl, sym}
-use mathlib.Core.Bool.{true}
-use Prim.Native.Nat.{◌≤◌, ◌-◌}
-use borrow.Author.Rules.{rules}
+use mathlib.Core.Path.{refl, sym}
 use native.Mathlib.Omega.{arith}
 use Rattle.thermo_types.proofs.all_finite.Goals as goal
 

@@ -1,12 +1,9 @@
-use Rattle.floats.proofs.Folds.{was_no, was_yes, all_turn, all_fails, all_end}
 use Rattle.floats.specs.Vector.{at, places}
 use Rattle.floats.specs.Small.{is_finite}
 use Rattle.floats.specs.Fold.{all_to}
-use mathlib.Core.Path.{◌≡◌, refl, sym}
+use mathlib.Core.Path.{◌≡◌}
 use mathlib.Core.Bool.{true}
 use Prim.Native.Nat.{◌≤◌, ◌-◌}
-use borrow.Author.Rules.{rules}
-use native.Mathlib.Omega.{arith}
 use Rattle.thermo_types.proofs.all_finite.Given as goal
 
 abbrev pub invariant-loop-i : goal.invariant-loop-i

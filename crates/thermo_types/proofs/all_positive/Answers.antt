@@ -1,13 +1,7 @@
-use Prim.Native.Nat.{◌≤◌, ◌-◌}
-use mathlib.Core.Bool.{true}
-use mathlib.Core.Path.{◌≡◌, refl, sym}
+use mathlib.Core.Path.{refl, sym}
 use native.Mathlib.Omega.{arith}
-use borrow.Author.Rules.{rules}
-use lib.Ieee.{lt}
-use Rattle.floats.specs.Arithmetic.{0f}
 use Rattle.floats.specs.Fold.{all_to}
-use Rattle.floats.specs.Vector.{at, places}
-use Rattle.floats.proofs.Folds.{as_tested, was_no, was_yes, all_turn, all_fails, all_end}
+use Rattle.floats.proofs.Folds.{as_tested, all_turn, all_fails, all_end}
 use Rattle.thermo_types.proofs.all_positive.Goals as goal
 
 pub loop-i-init : goal.loop-i-init

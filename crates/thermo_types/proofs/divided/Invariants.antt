@@ -1,10 +1,7 @@
-use Rattle.floats.proofs.Fills.{fill-turn, fill_done}
-use Rattle.floats.specs.Vector.{at, fill, vec}
+use Rattle.floats.specs.Vector.{at, vec}
 use Rattle.floats.specs.Arithmetic.{◌⊘◌}
-use mathlib.Core.Path.{◌≡◌, refl}
+use mathlib.Core.Path.{◌≡◌}
 use Prim.Native.Nat.{◌≤◌, ◌-◌}
-use borrow.Author.Rules.{rules}
-use native.Mathlib.Omega.{arith}
 use Rattle.thermo_types.proofs.divided.Given as goal
 
 abbrev pub invariant-loop-i : goal.invariant-loop-i

@@ -1,13 +1,7 @@
 use Rattle.floats.proofs.Folds.{all_turn, all_fails, all_end}
-use Rattle.floats.specs.Vector.{at, places}
 use Rattle.floats.specs.Fold.{all_to}
-use Rattle.floats.specs.Arithmetic.{0f}
-use lib.Ieee.{lt}
-use mathlib.Core.Path.{◌≡◌, refl, sym}
-use mathlib.Core.Bool.{true, not}
-use Prim.Native.Nat.{◌≤◌, ◌-◌}
+use mathlib.Core.Path.{refl, sym}
 use native.Mathlib.Omega.{arith}
-use borrow.Author.Rules.{rules}
 use Rattle.thermo_types.proofs.none_negative.Goals as goal
 
 pub loop-i-init : goal.loop-i-init

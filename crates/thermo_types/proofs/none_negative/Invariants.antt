@@ -1,13 +1,10 @@
-use Rattle.floats.proofs.Folds.{all_turn, all_fails, all_end}
 use Rattle.floats.specs.Vector.{at, places}
 use Rattle.floats.specs.Fold.{all_to}
 use Rattle.floats.specs.Arithmetic.{0f}
 use lib.Ieee.{lt}
-use mathlib.Core.Path.{◌≡◌, refl, sym}
+use mathlib.Core.Path.{◌≡◌}
 use mathlib.Core.Bool.{true, not}
 use Prim.Native.Nat.{◌≤◌, ◌-◌}
-use native.Mathlib.Omega.{arith}
-use borrow.Author.Rules.{rules}
 use Rattle.thermo_types.proofs.none_negative.Given as goal
 
 abbrev pub invariant-loop-i : goal.invariant-loop-i

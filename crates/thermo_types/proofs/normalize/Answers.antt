@@ -1,5 +1,4 @@
 -- `thermo_types::normalize` meets its contract. Assumes nothing.
-use borrow.Author.Rules.{rules}
 use Rattle.thermo_types.proofs.Normalizing.{normalize_yes, normalize-no}
 use Rattle.thermo_types.proofs.normalize.Goals as goal
 

@@ -1,5 +1,4 @@
 -- `thermo_types::shares` meets its contract. Assumes nothing.
-use borrow.Author.Rules.{rules}
 use Rattle.thermo_types.proofs.Normalizing.{shares-is}
 use Rattle.thermo_types.proofs.shares.Goals as goal
 

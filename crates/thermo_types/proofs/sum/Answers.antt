@@ -1,4 +1,3 @@
-use borrow.Author.Rules.{rules}
 use Rattle.thermo_types.proofs.sum.Goals as goal
 
 pub returns : goal.returns

@@ -1,5 +1,4 @@
 use Rattle.thermo_types.specs.Composition.{sums_to_one}
-use borrow.Author.Rules.{rules}
 use Rattle.thermo_types.proofs.sums_to_one.Goals as goal
 
 pub returns : goal.returns

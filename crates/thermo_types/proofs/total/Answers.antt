@@ -1,9 +1,7 @@
 use Rattle.floats.proofs.Folds.{sum-turn, sum_done}
 use Rattle.floats.specs.Arithmetic.{0f}
-use Rattle.floats.specs.Vector.{at}
-use Rattle.floats.specs.Fold.{fold_to, sum_to}
-use mathlib.Core.Path.{◌≡◌, refl}
-use Prim.Native.Nat.{◌≤◌, ◌-◌}
+use Rattle.floats.specs.Fold.{fold_to}
+use mathlib.Core.Path.{refl}
 use native.Mathlib.Omega.{arith}
 use Rattle.thermo_types.proofs.total.Goals as goal
 

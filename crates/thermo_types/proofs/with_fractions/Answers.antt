@@ -1,8 +1,7 @@
 use Rattle.thermo_types.specs.Verdicts.{verdict_of}
 use Rattle.thermo_types.specs.Composition.{with_fractions}
 use Rattle.floats.specs.Outcome.{need}
-use Rattle.floats.proofs.Folds.{as_tested, was_no, was_yes}
-use borrow.Author.Rules.{rules}
+use Rattle.floats.proofs.Folds.{as_tested}
 use Rattle.thermo_types.proofs.with_fractions.Goals as goal
 
 pub returns-then-not-all_finite : goal.returns-then-not-all_finite

@@ -1,6 +1,5 @@
 -- `tp_flash::activity_tp_flash` meets its contract. Assumes nothing.
 use Rattle.tp_flash.proofs.Laws.{feed-refused, phases-refused, phases-passed}
-use borrow.Author.Rules.{rules}
 use Rattle.tp_flash.proofs.activity_tp_flash.Goals as goal
 
 pub returns-in-Refused : goal.returns-in-Refused

@@ -1,5 +1,4 @@
 -- `tp_flash::as_both` meets its contract. Assumes nothing.
-use borrow.Author.Rules.{rules}
 use Rattle.tp_flash.proofs.Laws.{both-refused, both-unstable, both-vapor, both-liquid, both-passed}
 use Rattle.tp_flash.proofs.as_both.Goals as goal
 

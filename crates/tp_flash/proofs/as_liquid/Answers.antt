@@ -1,5 +1,4 @@
 -- `tp_flash::as_liquid` meets its contract. Assumes nothing.
-use borrow.Author.Rules.{rules}
 use Rattle.tp_flash.specs.Tp.{flash_answer}
 use Rattle.tp_flash.proofs.Laws.{liquid-refused, liquid-unstable, liquid-fractions, liquid-passed}
 use Rattle.tp_flash.proofs.as_liquid.Goals as goal

@@ -1,5 +1,4 @@
 -- `tp_flash::as_vapor` meets its contract. Assumes nothing.
-use borrow.Author.Rules.{rules}
 use Rattle.liquid_stability.specs.Stability.{no_trials}
 use Rattle.tp_flash.specs.Tp.{flash_answer}
 use Rattle.tp_flash.proofs.Laws.{vapor-refused, vapor-passed}

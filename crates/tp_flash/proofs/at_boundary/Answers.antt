@@ -1,5 +1,4 @@
 -- `tp_flash::at_boundary` meets its contract. Assumes nothing.
-use borrow.Author.Rules.{rules}
 use Rattle.floats.proofs.Outcomes.{choose_yes, choose_no}
 use Rattle.tp_flash.specs.Tp.{boundary_of}
 use Rattle.tp_flash.proofs.at_boundary.Goals as goal

@@ -1,12 +1,7 @@
-use Prim.Native.Nat.{◌≤◌, ◌-◌}
-use mathlib.Core.Path.{◌≡◌, refl}
+use mathlib.Core.Path.{refl}
 use native.Mathlib.Omega.{arith}
-use borrow.Author.Rules.{rules}
 use Rattle.floats.proofs.Folds.{fold_turn, fold_done}
-use Rattle.floats.specs.Arithmetic.{◌⊕◌, ◌⊖◌, ◌⊗◌, 0f, 1f}
 use Rattle.floats.specs.Fold.{fold_to}
-use Rattle.floats.specs.Small.{max_of, abs_of}
-use Rattle.floats.specs.Vector.{at}
 use Rattle.tp_flash.specs.Split.{balance_of}
 use Rattle.tp_flash.proofs.balance.Goals as goal
 

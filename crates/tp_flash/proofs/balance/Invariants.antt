@@ -1,15 +1,11 @@
 -- `tp_flash::balance` meets its contract. The loop's invariant: r is the largest error of the first i solvents. The measure is what is left of the count.
 -- Assumes nothing.
 use Prim.Native.Nat.{◌≤◌, ◌-◌}
-use mathlib.Core.Path.{◌≡◌, refl}
-use native.Mathlib.Omega.{arith}
-use borrow.Author.Rules.{rules}
-use Rattle.floats.proofs.Folds.{fold_turn, fold_done}
+use mathlib.Core.Path.{◌≡◌}
 use Rattle.floats.specs.Arithmetic.{◌⊕◌, ◌⊖◌, ◌⊗◌, 0f, 1f}
 use Rattle.floats.specs.Fold.{fold_to}
 use Rattle.floats.specs.Small.{max_of, abs_of}
 use Rattle.floats.specs.Vector.{at}
-use Rattle.tp_flash.specs.Split.{balance_of}
 use Rattle.tp_flash.proofs.balance.Given as goal
 
 abbrev pub invariant-loop-i : goal.invariant-loop-i

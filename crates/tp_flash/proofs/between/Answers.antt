@@ -1,6 +1,5 @@
 -- `tp_flash::between` meets its contract. Assumes nothing.
 use Rattle.tp_flash.proofs.Laws.{between-liquid, between-vapor, between_split}
-use borrow.Author.Rules.{rules}
 use Rattle.tp_flash.proofs.between.Goals as goal
 
 pub returns-then-pressure-bubble : goal.returns-then-pressure-bubble

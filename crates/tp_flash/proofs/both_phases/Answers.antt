@@ -1,5 +1,4 @@
 -- `tp_flash::both_phases` meets its contract. Assumes nothing.
-use borrow.Author.Rules.{rules}
 use Rattle.tp_flash.specs.Answers.{split_in}
 use Rattle.tp_flash.specs.Tp.{flash_answer}
 use Rattle.tp_flash.proofs.both_phases.Goals as goal

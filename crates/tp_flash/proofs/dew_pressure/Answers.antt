@@ -1,5 +1,4 @@
 -- `tp_flash::dew_pressure` meets its contract. Assumes nothing.
-use borrow.Author.Rules.{rules}
 use borrow.Author.Tests.{eq-eqb, ne_eqb}
 use Rattle.floats.proofs.Outcomes.{choose_yes, choose_no}
 use Rattle.tp_flash.specs.Answers.{dew_pressure_answer}

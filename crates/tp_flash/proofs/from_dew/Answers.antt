@@ -1,6 +1,5 @@
 -- `tp_flash::from_dew` meets its contract. Assumes nothing.
 use Rattle.tp_flash.proofs.Laws.{from_dew-refused, from_dew-passed}
-use borrow.Author.Rules.{rules}
 use Rattle.tp_flash.proofs.from_dew.Goals as goal
 
 pub returns-in-Refused : goal.returns-in-Refused

@@ -1,5 +1,4 @@
 -- `tp_flash::from_split` meets its contract. Assumes nothing.
-use borrow.Author.Rules.{rules}
 use Rattle.tp_flash.proofs.Laws.{split_edge, split-both, split-outside}
 use Rattle.tp_flash.proofs.from_split.Goals as goal
 

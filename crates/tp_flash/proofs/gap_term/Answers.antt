@@ -1,5 +1,4 @@
 -- `tp_flash::gap_term` meets its contract. Assumes nothing.
-use borrow.Author.Rules.{rules}
 use Rattle.tp_flash.proofs.gap_term.Goals as goal
 
 pub returns-then-z : goal.returns-then-z

@@ -1,5 +1,4 @@
 -- `tp_flash::k_value` meets its contract. Assumes nothing.
-use borrow.Author.Rules.{rules}
 use Rattle.tp_flash.proofs.k_value.Goals as goal
 
 pub returns-then-z : goal.returns-then-z

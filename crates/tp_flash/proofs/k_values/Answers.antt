@@ -1,13 +1,7 @@
-use Prim.Native.Nat.{◌≤◌, ◌-◌}
-use mathlib.Core.Bool.{cond}
-use mathlib.Core.Path.{◌≡◌, refl}
+use mathlib.Core.Path.{refl}
 use native.Mathlib.Omega.{arith}
-use borrow.Author.Rules.{rules}
-use lib.Ieee.{lt}
 use Rattle.floats.proofs.Fills.{fill-turn, fill_done}
-use Rattle.floats.specs.Arithmetic.{◌⊕◌, ◌⊖◌, 0f, 1f}
-use Rattle.floats.specs.Vector.{at, fill, vec}
-use Rattle.numerics.specs.Numerics.{exp_of, ln_of}
+use Rattle.floats.specs.Vector.{fill}
 use Rattle.tp_flash.specs.Split.{k_values}
 use Rattle.tp_flash.proofs.k_values.Goals as goal
 

@@ -1,15 +1,11 @@
 -- `tp_flash::k_values` meets its contract. The loop's invariant: the first i entries are K. The measure is what is left of the count. Assumes nothing.
 use Prim.Native.Nat.{◌≤◌, ◌-◌}
 use mathlib.Core.Bool.{cond}
-use mathlib.Core.Path.{◌≡◌, refl}
-use native.Mathlib.Omega.{arith}
-use borrow.Author.Rules.{rules}
+use mathlib.Core.Path.{◌≡◌}
 use lib.Ieee.{lt}
-use Rattle.floats.proofs.Fills.{fill-turn, fill_done}
 use Rattle.floats.specs.Arithmetic.{◌⊕◌, ◌⊖◌, 0f, 1f}
-use Rattle.floats.specs.Vector.{at, fill, vec}
+use Rattle.floats.specs.Vector.{at, vec}
 use Rattle.numerics.specs.Numerics.{exp_of, ln_of}
-use Rattle.tp_flash.specs.Split.{k_values}
 use Rattle.tp_flash.proofs.k_values.Given as goal
 
 abbrev pub invariant-loop-i : goal.invariant-loop-i

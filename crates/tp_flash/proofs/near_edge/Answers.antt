@@ -1,5 +1,4 @@
 -- `tp_flash::near_edge` meets its contract. Assumes nothing.
-use borrow.Author.Rules.{rules}
 use Rattle.tp_flash.specs.Tp.{near_edge}
 use Rattle.tp_flash.proofs.near_edge.Goals as goal
 

@@ -1,5 +1,4 @@
 -- `tp_flash::no_flash` meets its contract. Assumes nothing.
-use borrow.Author.Rules.{rules}
 use Rattle.tp_flash.specs.Tp.{flash_answer}
 use Rattle.tp_flash.proofs.no_flash.Goals as goal
 

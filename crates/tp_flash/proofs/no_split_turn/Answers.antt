@@ -1,5 +1,4 @@
 -- `tp_flash::no_split_turn` meets its contract. Assumes nothing.
-use borrow.Author.Rules.{rules}
 use Rattle.tp_flash.specs.Answers.{split_turn_answer}
 use Rattle.tp_flash.proofs.no_split_turn.Goals as goal
 

@@ -2,14 +2,10 @@
 -- count. Assumes nothing.
 use Prim.Native.Nat.{◌≤◌, ◌-◌}
 use mathlib.Core.Bool.{cond}
-use mathlib.Core.Path.{◌≡◌, refl}
-use native.Mathlib.Omega.{arith}
-use borrow.Author.Rules.{rules}
+use mathlib.Core.Path.{◌≡◌}
 use lib.Ieee.{lt}
-use Rattle.floats.proofs.Fills.{fill-turn, fill_done}
 use Rattle.floats.specs.Arithmetic.{0f}
-use Rattle.floats.specs.Vector.{at, fill, vec}
-use Rattle.tp_flash.proofs.Laws.{phase_is}
+use Rattle.floats.specs.Vector.{at, vec}
 use Rattle.tp_flash.proofs.phase_of.Given as goal
 
 abbrev pub invariant-loop-i : goal.invariant-loop-i

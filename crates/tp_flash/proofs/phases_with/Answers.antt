@@ -1,5 +1,4 @@
 -- `tp_flash::phases_with` meets its contract. Assumes nothing.
-use borrow.Author.Rules.{rules}
 use Rattle.liquid_stability.specs.Stability.{no_trials}
 use Rattle.tp_flash.proofs.phases_with.Goals as goal
 

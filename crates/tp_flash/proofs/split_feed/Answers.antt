@@ -1,6 +1,5 @@
 -- `tp_flash::split_feed` meets its contract. Assumes nothing.
 use Rattle.tp_flash.proofs.Laws.{feed-split-refused, feed-split}
-use borrow.Author.Rules.{rules}
 use Rattle.tp_flash.proofs.split_feed.Goals as goal
 
 pub returns-in-Refused : goal.returns-in-Refused

@@ -1,10 +1,4 @@
-use Prim.Native.Nat.{◌≤◌, ◌-◌}
-use borrow.Author.Rules.{rules}
-use mathlib.Core.Path.{◌≡◌}
 use native.Mathlib.Omega.{arith}
-use Rattle.floats.specs.Vector.{places}
-use Rattle.thermo_models.specs.Activity.{activity_on}
-use Rattle.tp_flash.specs.Split.{split_from}
 use Rattle.tp_flash.proofs.Laws.{loop_start, loop_out, loop_stop, loop_more}
 use Rattle.tp_flash.proofs.split_from.Goals as goal
 

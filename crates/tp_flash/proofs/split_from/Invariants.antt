@@ -1,12 +1,9 @@
 -- `tp_flash::split_from` meets its contract. The loop's invariant: what is left to run from here gives the same as the whole run. Assumes nothing.
 use Prim.Native.Nat.{◌≤◌, ◌-◌}
-use borrow.Author.Rules.{rules}
 use mathlib.Core.Path.{◌≡◌}
-use native.Mathlib.Omega.{arith}
 use Rattle.floats.specs.Vector.{places}
 use Rattle.thermo_models.specs.Activity.{activity_on}
 use Rattle.tp_flash.specs.Split.{split_from}
-use Rattle.tp_flash.proofs.Laws.{loop_start, loop_out, loop_stop, loop_more}
 use Rattle.tp_flash.proofs.split_from.Given as goal
 
 abbrev pub invariant-loop-done : goal.invariant-loop-done

@@ -2,17 +2,13 @@
 -- Assumes nothing.
 use Prim.Native.Nat.{◌≤◌, ◌-◌}
 use mathlib.Core.Bool.{cond}
-use mathlib.Core.Path.{◌≡◌, refl}
-use native.Mathlib.Omega.{arith}
-use borrow.Author.Rules.{rules}
+use mathlib.Core.Path.{◌≡◌}
 use lib.Ieee.{lt}
-use Rattle.floats.proofs.Folds.{fold_turn, fold_done}
 use Rattle.floats.specs.Arithmetic.{◌⊕◌, ◌⊖◌, 0f}
 use Rattle.floats.specs.Fold.{fold_to}
 use Rattle.floats.specs.Small.{max_of, abs_of}
 use Rattle.floats.specs.Vector.{at}
 use Rattle.numerics.specs.Numerics.{ln_of}
-use Rattle.tp_flash.specs.Split.{split_gap}
 use Rattle.tp_flash.proofs.split_gap.Given as goal
 
 abbrev pub invariant-loop-i : goal.invariant-loop-i

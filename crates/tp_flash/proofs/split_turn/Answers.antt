@@ -1,5 +1,4 @@
 -- `tp_flash::split_turn` meets its contract. Assumes nothing.
-use borrow.Author.Rules.{rules}
 use Rattle.tp_flash.proofs.Laws.{rice-refused, liquid_vanished, vapor_vanished, rice-two}
 use Rattle.tp_flash.proofs.split_turn.Goals as goal
 

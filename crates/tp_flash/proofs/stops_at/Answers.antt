@@ -1,5 +1,4 @@
 -- `tp_flash::stops_at` meets its contract. Assumes nothing.
-use borrow.Author.Rules.{rules}
 use Rattle.tp_flash.specs.Answers.{stops_at}
 use Rattle.tp_flash.proofs.stops_at.Goals as goal
 

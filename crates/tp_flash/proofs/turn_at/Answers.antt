@@ -1,6 +1,5 @@
 -- `tp_flash::turn_at` meets its contract. Assumes nothing.
 use Rattle.floats.proofs.Folds.{not_of_true}
-use borrow.Author.Rules.{rules}
 use Rattle.tp_flash.proofs.Laws.{turn-refused, turn_gap, turn_good}
 use Rattle.tp_flash.proofs.turn_at.Goals as goal
 

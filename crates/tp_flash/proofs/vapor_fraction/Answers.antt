@@ -1,5 +1,4 @@
 -- `tp_flash::vapor_fraction` meets its contract. Assumes nothing.
-use borrow.Author.Rules.{rules}
 use Rattle.tp_flash.specs.Answers.{fraction_in}
 use Rattle.tp_flash.proofs.vapor_fraction.Goals as goal
 

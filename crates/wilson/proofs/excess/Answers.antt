@@ -1,5 +1,4 @@
 -- `wilson::excess` meets its contract. Assumes nothing.
-use borrow.Author.Rules.{rules}
 use Rattle.wilson.proofs.Whole.{asked-passed, asked-refused}
 use Rattle.wilson.proofs.excess.Goals as goal
 

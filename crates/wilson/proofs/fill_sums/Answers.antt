@@ -1,12 +1,7 @@
-use Prim.Native.Nat.{◌≤◌, ◌-◌}
 use mathlib.Core.Path.{refl}
 use native.Mathlib.Omega.{arith}
-use borrow.Author.Rules.{rules}
 use Rattle.floats.specs.Fold.{fold_to}
-use Rattle.floats.specs.Vector.{at}
-use Rattle.excess.specs.Steps.{SumsTo}
 use Rattle.excess.proofs.Steps.{sums-turn, sums_done}
-use Rattle.wilson.specs.On.{s_on, ln_s_on}
 use Rattle.wilson.proofs.fill_sums.Goals as goal
 
 pub loop-i-init : goal.loop-i-init

@@ -1,5 +1,4 @@
 -- `wilson::jet_at` meets its contract. Assumes nothing.
-use native.Mathlib.Omega.{arith}
 use Rattle.wilson.proofs.Entries.{jet_first}
 use Rattle.wilson.proofs.jet_at.Goals as goal
 

@@ -1,5 +1,4 @@
 -- `wilson::ln_gamma_from` meets its contract. Assumes nothing.
-use borrow.Author.Rules.{rules}
 use Rattle.wilson.proofs.ln_gamma_from.Goals as goal
 
 pub returns : goal.returns

@@ -1,6 +1,5 @@
 -- `wilson::ln_gamma_pair` meets its contract. Assumes nothing.
 use Rattle.wilson.specs.Sums.{wilson_from}
-use borrow.Author.Rules.{rules}
 use Rattle.wilson.proofs.ln_gamma_pair.Goals as goal
 
 pub returns : goal.returns

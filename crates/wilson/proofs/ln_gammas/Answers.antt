@@ -1,13 +1,8 @@
-use Prim.Native.Nat.{◌≤◌, ◌-◌, ◌*◌, ◌/◌}
 use mathlib.Core.Path.{refl}
 use Rattle.floats.specs.Fold.{all_to}
-use Rattle.floats.specs.Vector.{at, fill}
-use Rattle.jet.specs.Planes.{twos}
-use Rattle.excess.specs.Steps.{s_in, r_in, GammasTo}
+use Rattle.floats.specs.Vector.{fill}
 use Rattle.excess.proofs.Steps.{gammas_done}
-use Rattle.wilson.specs.Sums.{wilson_from}
 use Rattle.wilson.proofs.Turns.{gammas_two, gammas_last}
-use borrow.Author.Rules.{rules}
 use native.Mathlib.Omega.{arith}
 use Rattle.wilson.proofs.ln_gammas.Goals as goal
 

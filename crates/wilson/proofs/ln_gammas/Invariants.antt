@@ -1,15 +1,9 @@
 -- `wilson::ln_gammas` meets its contract. Assumes nothing.
 use Prim.Native.Nat.{◌≤◌, ◌-◌, ◌*◌, ◌/◌}
-use mathlib.Core.Path.{refl}
-use Rattle.floats.specs.Fold.{all_to}
-use Rattle.floats.specs.Vector.{at, fill}
+use Rattle.floats.specs.Vector.{at}
 use Rattle.jet.specs.Planes.{twos}
 use Rattle.excess.specs.Steps.{s_in, r_in, GammasTo}
-use Rattle.excess.proofs.Steps.{gammas_done}
 use Rattle.wilson.specs.Sums.{wilson_from}
-use Rattle.wilson.proofs.Turns.{gammas_two, gammas_last}
-use borrow.Author.Rules.{rules}
-use native.Mathlib.Omega.{arith}
 use Rattle.wilson.proofs.ln_gammas.Given as goal
 
 abbrev pub invariant-loop-h : goal.invariant-loop-h

@@ -1,6 +1,4 @@
 -- `wilson::quotient_at` meets its contract. Assumes nothing.
-use native.Mathlib.Omega.{arith}
-use borrow.Author.Rules.{rules}
 use Rattle.wilson.proofs.quotient_at.Goals as goal
 
 pub returns : goal.returns

@@ -1,14 +1,10 @@
 -- `wilson::quotient_pair` meets its contract. Assumes nothing.
 use Prim.Native.Nat.{◌≤◌, ◌-◌, ◌+◌}
 use mathlib.Core.Path.{◌≡◌}
-use Rattle.floats.specs.Fold.{fold_to}
 use Rattle.floats.specs.Vector.{at}
 use Rattle.jet.specs.Planes.{twos}
-use Rattle.jet.proofs.Sums.{sum_jet_turn, sum_jet_done}
 use Rattle.excess.specs.Steps.{s_in}
 use Rattle.wilson.specs.Sums.{quotients}
-use borrow.Author.Rules.{rules}
-use native.Mathlib.Omega.{arith}
 use Rattle.wilson.proofs.quotient_pair.Given as goal
 
 abbrev pub invariant-loop-k : goal.invariant-loop-k

@@ -1,10 +1,5 @@
-use Prim.Native.Nat.{◌≤◌, ◌-◌}
-use mathlib.Core.Path.{◌≡◌}
 use native.Mathlib.Omega.{arith}
-use borrow.Author.Rules.{rules}
 use Rattle.floats.specs.Fold.{fold_to}
-use Rattle.floats.specs.Vector.{at}
-use Rattle.jet.specs.Planes.{jets}
 use Rattle.jet.proofs.Sums.{sum_jet_turn, sum_jet_done}
 use Rattle.wilson.specs.Sums.{row_s}
 use Rattle.wilson.proofs.row_sum.Goals as goal

@@ -1,12 +1,8 @@
 -- `wilson::row_sum` meets its contract. Assumes nothing.
 use Prim.Native.Nat.{◌≤◌, ◌-◌}
 use mathlib.Core.Path.{◌≡◌}
-use native.Mathlib.Omega.{arith}
-use borrow.Author.Rules.{rules}
-use Rattle.floats.specs.Fold.{fold_to}
 use Rattle.floats.specs.Vector.{at}
 use Rattle.jet.specs.Planes.{jets}
-use Rattle.jet.proofs.Sums.{sum_jet_turn, sum_jet_done}
 use Rattle.wilson.specs.Sums.{row_s}
 use Rattle.wilson.proofs.row_sum.Given as goal
 

@@ -1,5 +1,4 @@
 -- `wilson::state` meets its contract. Assumes nothing.
-use borrow.Author.Rules.{rules}
 use Rattle.wilson.proofs.Whole.{state_yes, state-no}
 use Rattle.wilson.proofs.state.Goals as goal
 

@@ -1,6 +1,4 @@
 -- `wilson::sum_at` meets its contract. Assumes nothing.
-use native.Mathlib.Omega.{arith}
-use borrow.Author.Rules.{rules}
 use Rattle.excess.proofs.Steps.{sum-turn}
 use Rattle.wilson.proofs.sum_at.Goals as goal
 

@@ -1,10 +1,6 @@
-use Prim.Native.Nat.{◌≤◌, ◌-◌}
-use mathlib.Core.Path.{◌≡◌, refl}
+use mathlib.Core.Path.{refl}
 use Rattle.floats.proofs.Folds.{fold_turn, fold_done}
 use Rattle.floats.specs.Fold.{fold_to}
-use Rattle.wilson_tables.specs.Pair.{lambda_ij}
-use Rattle.wilson_tables.specs.Table.{lambda_pairs}
-use borrow.Author.Rules.{rules}
 use native.Mathlib.Omega.{arith}
 use Rattle.wilson_tables.proofs.border.Goals as goal
 

@@ -1,12 +1,8 @@
 -- `wilson_tables::border` meets its contract. Assumes nothing.
 use Prim.Native.Nat.{◌≤◌, ◌-◌}
-use mathlib.Core.Path.{◌≡◌, refl}
-use Rattle.floats.proofs.Folds.{fold_turn, fold_done}
-use Rattle.floats.specs.Fold.{fold_to}
+use mathlib.Core.Path.{◌≡◌}
 use Rattle.wilson_tables.specs.Pair.{lambda_ij}
 use Rattle.wilson_tables.specs.Table.{lambda_pairs}
-use borrow.Author.Rules.{rules}
-use native.Mathlib.Omega.{arith}
 use Rattle.wilson_tables.proofs.border.Given as goal
 
 abbrev pub invariant-loop-j : goal.invariant-loop-j

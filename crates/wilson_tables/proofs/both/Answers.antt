@@ -1,6 +1,5 @@
 -- `wilson_tables::both` meets its contract. Assumes nothing.
 use Rattle.wilson_tables.proofs.Stores.{both-made}
-use borrow.Author.Rules.{rules}
 use Rattle.wilson_tables.proofs.both.Goals as goal
 
 pub returns : goal.returns

@@ -1,6 +1,4 @@
 -- `wilson_tables::diagonal` meets its contract. Assumes nothing.
-use mathlib.Core.Path.{◌≡◌}
-use borrow.Author.Rules.{rules}
 use Rattle.wilson_tables.proofs.diagonal.Goals as goal
 
 pub returns : goal.returns

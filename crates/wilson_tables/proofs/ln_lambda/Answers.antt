@@ -1,6 +1,4 @@
 -- `wilson_tables::ln_lambda` meets its contract. Assumes nothing.
-use native.Mathlib.Omega.{arith}
-use borrow.Author.Rules.{rules}
 use Rattle.wilson_tables.specs.Pair.{ln_lambda_j}
 use Rattle.wilson_tables.proofs.ln_lambda.Goals as goal
 

@@ -1,13 +1,8 @@
 -- `wilson_tables::square` meets its contract. Assumes nothing.
 use Prim.Native.Nat.{◌≤◌, ◌-◌}
-use mathlib.Core.Path.{◌≡◌, refl}
-use Rattle.floats.specs.Fold.{fold_to}
-use Rattle.jet.proofs.Planes.{square_done}
+use mathlib.Core.Path.{◌≡◌}
 use Rattle.wilson_tables.specs.Pair.{lambda_ij}
 use Rattle.wilson_tables.specs.Table.{lambda_rows}
-use Rattle.wilson_tables.proofs.Stores.{square-more}
-use borrow.Author.Rules.{rules}
-use native.Mathlib.Omega.{arith}
 use Rattle.wilson_tables.proofs.square.Given as goal
 
 abbrev pub invariant-loop-i : goal.invariant-loop-i

@@ -1,5 +1,4 @@
 -- `wilson_tables::store` meets its contract. Assumes nothing.
-use native.Mathlib.Omega.{arith}
 use Rattle.wilson_tables.proofs.Stores.{stored}
 use Rattle.wilson_tables.proofs.store.Goals as goal
 

@@ -1,5 +1,4 @@
 -- `wilson_tables::tables` meets its contract. Assumes nothing.
-use borrow.Author.Rules.{rules}
 use Rattle.wilson_tables.specs.Table.{lambdas_of}
 use Rattle.wilson_tables.proofs.tables.Goals as goal
 

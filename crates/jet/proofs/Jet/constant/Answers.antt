@@ -1,5 +1,4 @@
 -- `jet::Jet::constant` meets its contract. Assumes nothing.
-use borrow.Author.Rules.{rules}
 use Rattle.jet.specs.Jets.{const_j, two_j}
 use Rattle.jet.proofs.Jet.constant.Goals as goal
 

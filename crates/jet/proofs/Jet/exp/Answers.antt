@@ -1,6 +1,5 @@
 -- `jet::Jet::exp` meets its contract. Assumes nothing.
 use mathlib.Core.Path.{◌∙◌, ap}
-use borrow.Author.Rules.{rules}
 use lib.Ieee.{Float}
 use Rattle.jet.specs.Jets.{exp_with}
 use Rattle.jet.proofs.Jet.exp.Goals as goal

@@ -1,6 +1,5 @@
 -- `jet::Jet::ln` meets its contract. Assumes nothing.
 use mathlib.Core.Path.{◌∙◌, ap}
-use borrow.Author.Rules.{rules}
 use lib.Ieee.{Float}
 use Rattle.jet.specs.Jets.{ln_with}
 use Rattle.jet.proofs.Jet.ln.Goals as goal

@@ -1,7 +1,6 @@
 use Rattle.thermo_types.specs.Quantities.{positive_of, new_pressure}
 use Rattle.floats.specs.Outcome.{need}
-use Rattle.floats.proofs.Folds.{as_tested, was_no, was_yes}
-use borrow.Author.Rules.{rules}
+use Rattle.floats.proofs.Folds.{as_tested}
 use Rattle.thermo_types.proofs.Pressure.new.Goals as goal
 
 pub returns-then-not-is_finite : goal.returns-then-not-is_finite
