@@ -66,16 +66,17 @@ fn reply(book: &[u8], question: &[u8], out: &mut [u8]) -> usize
     512
 }
 
-fn respond(rt: &impl Print, book: &[u8], question: &[u8]) -> io::Result<()> {
+// Whether anyone takes what is written changes nothing.
+fn respond(rt: &impl Print, book: &[u8], question: &[u8]) {
     let mut out = [0u8; ANSWER_ROOM];
     let n = reply(book, question, &mut out);
-    rt.write_all(&out[..n])
+    let _ = rt.write_all(&out[..n]);
 }
 
-fn main(rt: HostRuntime) -> io::Result<()> {
+fn main(rt: HostRuntime) {
     let mut book = [0u8; BOOK_BYTES];
     let n = read_book(&rt, &mut book);
     let mut question = [0u8; QUESTION_BYTES];
-    let m = read_full(&mut rt.reader(), &mut question);
-    respond(&rt, &book[..n], &question[..m])
+    let m = read_full(&mut rt.stdin(), &mut question);
+    respond(&rt, &book[..n], &question[..m]);
 }
