@@ -134,6 +134,22 @@ fn read(rt: &impl Files, name: &[u8], buffer: &mut [u8]) -> usize
     }
 }
 
+// The length of an array behind a reference needs no proof.
+fn replay_bytes(
+    rt: &impl Files,
+    name: &[u8],
+    buffer: &mut [u8; 524288],
+    replayed: &mut [u64; 32],
+    differ: &mut [u64; 32],
+) -> u64 {
+    let n = read(rt, name, buffer);
+    let unread = replay_lines(&buffer[..n], replayed, differ);
+    if (n == 0) | (n == 524288) {
+        return std::num::wrapping_add_u64(unread, 1);
+    }
+    unread
+}
+
 // A file that is missing or too long counts as an unread line.
 fn replay_file(
     rt: &impl Files,
@@ -142,12 +158,7 @@ fn replay_file(
     differ: &mut [u64; 32],
 ) -> u64 {
     let mut buffer = [0u8; 524288];
-    let n = read(rt, name, &mut buffer);
-    let unread = replay_lines(&buffer[..n], replayed, differ);
-    if (n == 0) | (n == 524288) {
-        return std::num::wrapping_add_u64(unread, 1);
-    }
-    unread
+    replay_bytes(rt, name, &mut buffer, replayed, differ)
 }
 
 fn replay_files(
