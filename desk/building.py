@@ -10,33 +10,43 @@ import time
 from pathlib import Path
 from typing import Dict, Iterable, List, Optional, TextIO
 
+from . import files
 from .core import PROGRAM, ROOT
 from .errors import DeskError
 
-STAMP = ROOT / "target" / "stamp" / "still"  # rt's record that the crate is proved
 CRATE = "still"
-PROVED = re.compile(r"rt: (\S+) proved\b")
+FOLDER = ROOT / "crates" / CRATE
+BUILT = FOLDER / "out" / CRATE  # where rt leaves the program
+STARTED = re.compile(r"rt: chose --jobs \d+ for (\S+)")
+PROVED = re.compile(r"logic=proved\b")
 BAR = 20  # columns
 PAUSE = 0.25  # s between two moves of the bar
 
 
-def is_stale(program: Path = PROGRAM) -> bool:
-    """Missing, or older than a source of the crates."""
-    if not program.exists():
+def is_stale(built: Path = PROGRAM, among: Iterable[str] = ("*",)) -> bool:
+    """Missing, or older than a source of these crates."""
+    if not built.exists():
         return True
-    built = program.stat().st_mtime
-    return any(path.stat().st_mtime > built for path in sources())
+    made = built.stat().st_mtime
+    return any(path.stat().st_mtime > made for path in sources(among))
 
 
-def sources() -> Iterable[Path]:
-    for folder in ("src", "specs", "proofs"):
-        yield from (path for path in (ROOT / "crates").glob(f"*/{folder}/**/*") if path.suffix in (".rt", ".antt"))
+def sources(among: Iterable[str] = ("*",)) -> Iterable[Path]:
+    yield ROOT / "crates.txt"
+    for crate in among:
+        for folder in ("src", "specs", "proofs"):
+            found = (ROOT / "crates").glob(f"{crate}/{folder}/**/*")
+            yield from (path for path in found if path.suffix in (".rt", ".antt"))
+
+
+def crates() -> Dict[str, List[str]]:
+    return dependencies((ROOT / "crates.txt").read_text(encoding="utf-8"))
 
 
 def dependencies(listing: str) -> Dict[str, List[str]]:
     """Crates and what they depend on, from crates.txt; what isn't listed there belongs to the toolchain."""
     lines = (line.partition(":") for line in listing.splitlines() if line.strip() and not line.startswith("#"))
-    found = {name.strip(): needs.split() for name, _, needs in lines}
+    found = {name.split()[0]: needs.split() for name, _, needs in lines}
     return {name: [need for need in needs if need in found] for name, needs in found.items()}
 
 
@@ -58,14 +68,19 @@ class Proving:
         self._crates, self._out, self._clock = crates, out or sys.stderr, clock
         self._due = needed(crates)
         self._done: List[str] = []
+        self._now = ""
         self._started = self._last = clock()
         self._turns = 0
         self.terminal = self._out.isatty()
 
     def heard(self, line: str) -> None:
-        match = PROVED.match(line)
-        if match and match.group(1) in self._due and match.group(1) not in self._done:
-            self._done.append(match.group(1))
+        """A crate that is begun stands on crates that are proved, by this run or an earlier one."""
+        match = STARTED.match(line)
+        if match:
+            self._now = match.group(1)
+            self._done += [name for name in needed(self._crates, self._now)[:-1] if name not in self._done]
+        elif PROVED.match(line) and self._now in self._due and self._now not in self._done:
+            self._done.append(self._now)
             self.show()
 
     def current(self) -> List[str]:
@@ -102,26 +117,32 @@ class Proving:
 
 
 def build(out: Optional[TextIO] = None) -> None:
-    """Proves and builds the program `still`. With its stamp left, rt would not write a missing program anew."""
-    if not PROGRAM.exists():
-        STAMP.unlink(missing_ok=True)
-    proving = Proving(dependencies((ROOT / "crates.txt").read_text(encoding="utf-8")), out)
+    """Proves and builds the program `still`, unless rt has left it so, and puts it where it is looked for."""
+    if is_stale(BUILT, needed(crates())):
+        prove(out)
+    PROGRAM.parent.mkdir(parents=True, exist_ok=True)
+    files.write_whole(str(PROGRAM), BUILT.read_bytes())
+    PROGRAM.chmod(0o755)
+
+
+def prove(out: Optional[TextIO] = None) -> None:
+    """Has rt prove and build the program, and run it once: on no book and no question, which it refuses."""
+    proving = Proving(crates(), out)
+    streams = {"stdin": subprocess.DEVNULL, "stdout": subprocess.DEVNULL, "stderr": subprocess.PIPE}
     try:
-        run = subprocess.Popen(
-            ["rt", "check", CRATE], cwd=ROOT, stdout=subprocess.PIPE, stderr=subprocess.STDOUT, bufsize=0
-        )
+        run = subprocess.Popen(["rt", "run"], cwd=FOLDER, bufsize=0, **streams)
     except OSError as error:
         raise DeskError(f"rt can't be run ({error.strerror}); the toolchain stands in /opt/rattle/bin") from None
     with run:
         last = _followed(run, proving)
     proving.ended()
     if run.returncode:
-        raise DeskError(f"rt check {CRATE} did not pass: {last or f'status {run.returncode}'}")
+        raise DeskError(f"rt run of {CRATE} did not pass: {last or f'status {run.returncode}'}")
 
 
 def _followed(run: subprocess.Popen, proving: Proving) -> str:
     """Each line as it comes, and the bar moved in between; the last line is handed on."""
-    handle, rest, last = run.stdout.fileno(), b"", ""
+    handle, rest, last = run.stderr.fileno(), b"", ""
     proving.show()
     while True:
         if not select.select([handle], [], [], PAUSE)[0]:

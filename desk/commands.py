@@ -328,7 +328,7 @@ def explain_numbers(arguments: argparse.Namespace) -> int:
 def demo(arguments: argparse.Namespace) -> int:
     if arguments.program == core.PROGRAM and building.is_stale():
         print(
-            "sheet: proving and building the program still (rt check still); the first time this takes minutes",
+            "sheet: proving and building the program still (scripts/program); the first time this takes minutes",
             file=sys.stderr,
         )
         building.build()

@@ -27,7 +27,7 @@ class Core:
 
     def __init__(self, book: bytes, program: Path = PROGRAM):
         if not os.access(program, os.X_OK) or program.is_dir():
-            raise DeskError(f"the program {program} is not there; ./sheet demo builds it (rt check still)")
+            raise DeskError(f"the program {program} is not there; ./sheet demo builds it (scripts/program)")
         self.program = program.resolve()
         self.book, self.rule = book, rule_of(book)
         self._folder = tempfile.TemporaryDirectory(prefix="sheet-")

@@ -11,7 +11,7 @@ fn main() {
     println!("cargo:rerun-if-changed={}", library.display());
     if !library.exists() {
         let missing = library.display();
-        println!("cargo:warning=the core's archive is not at {missing}; `rt staticlib zektonk` writes it, ZEKTONK_LIB");
+        println!("cargo:warning=the core's archive is not at {missing}; `scripts/archive` writes it, ZEKTONK_LIB");
         println!("cargo:warning=names its folder");
     }
     println!("cargo:rustc-link-search=native={}", folder.display());

@@ -36,7 +36,7 @@ class Build(InFolder):
         run = self.cargo("build")
         self.assertNotEqual(run.returncode, 0)
         self.assertIn("could not find native static library `zektonk`", run.stderr)
-        self.assertIn("`rt staticlib zektonk` writes it", run.stderr)
+        self.assertIn("`scripts/archive` writes it", run.stderr)
 
     def test_a_relative_folder_is_seen_from_where_the_user_stands(self):
         shutil.copy(ARCHIVE, self.folder / "lib")

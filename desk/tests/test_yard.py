@@ -125,22 +125,23 @@ class Demonstration(InFolder):
             if content:
                 Path(self.file("rt", content)).chmod(0o755)
             with mock.patch.dict(os.environ, PATH=str(self.folder)), self.assertRaises(DeskError) as caught:
-                building.build(io.StringIO())
+                building.prove(io.StringIO())
             self.assertIn(words, str(caught.exception))
 
     def proving(self, out: io.StringIO) -> None:
         """A stand-in for rt that proves what still needs, in its order."""
-        crates = building.dependencies((ROOT / "crates.txt").read_text(encoding="utf-8"))
-        lines = [f"echo 'rt: {name} proved (1 s)'" for name in building.needed(crates)]
+        crates = building.crates()
+        said = "echo 'rt: chose --jobs 2 for {}' >&2; echo logic=proved >&2"
+        lines = [said.format(name) for name in building.needed(crates)]
         Path(self.file("rt", "\n".join(["#!/bin/sh", *lines]) + "\n")).chmod(0o755)
         with mock.patch.dict(os.environ, PATH=f"{self.folder}:/bin:/usr/bin"):
-            building.build(out)
+            building.prove(out)
 
     def test_progress_names_the_crate_and_counts_those_left(self):
         out = io.StringIO()
         self.proving(out)
         lines = out.getvalue().splitlines()
-        count = len(building.needed(building.dependencies((ROOT / "crates.txt").read_text(encoding="utf-8"))))
+        count = len(building.needed(building.crates()))
         self.assertGreater(count, 15)
         self.assertEqual(len(lines), count)
         self.assertRegex(lines[0], rf"^sheet: floats proved, 1 of {count}; now numerics.*, {count - 1} left \(\d+ s\)$")

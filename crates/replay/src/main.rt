@@ -2,9 +2,11 @@
 // Writes a line for each function, and how many lines could not be read. A program has no result to state: what is proved is that it is safe and ends.
 #![tactic(auto)]
 
-ghost use Rattle.io.specs.Counts.{IsPrefixLen};
+ghost use Rattle.std.specs.Prelude.{◌≡◌, ◌≤◌, length, take};
 
-use libc::STDOUT_FILENO;
+use std::io::Read;
+use std::rt::Files;
+use std::{fs, io};
 
 mod calls;
 mod text;
@@ -85,22 +87,62 @@ fn replay_lines(file: &[u8], replayed: &mut [u64; 32], differ: &mut [u64; 32]) -
     unread
 }
 
-fn read(name: &[u8], buffer: &mut [u8]) -> usize
-    ensures { IsPrefixLen result buffer.new }
+// The bytes of one read; none where it fails.
+fn read_some<R: Read>(from: &mut R, buffer: &mut [u8]) -> usize
+    ensures fits { result ≤ length buffer.new }
+    ensures front { result ≡ length (take result buffer.new) }
 {
-    let fd = os::open_read(name);
-    if fd < 0 {
-        return 0;
+    match from.read(buffer) {
+        Ok(n) => n,
+        Err(_) => 0,
     }
-    let n = io::read_full(fd, buffer);
-    libc::close(fd);
-    n
 }
 
-// A file that is missing or too long counts as an unread line.
-fn replay_file(name: &[u8], replayed: &mut [u64; 32], differ: &mut [u64; 32]) -> u64 {
-    let mut buffer = [0u8; 524288];
-    let n = read(name, &mut buffer);
+// Reads until the buffer is full, the input ends or a read fails: how many bytes.
+fn read_full<R: Read>(from: &mut R, buffer: &mut [u8]) -> usize
+    ensures fits { result ≤ length buffer.new }
+    ensures front { result ≡ length (take result buffer.new) }
+{
+    let mut done = 0;
+    while done < buffer.len() {
+        let n = read_some(from, &mut buffer[done..]);
+        if n == 0 {
+            break;
+        }
+        done += n;
+    }
+    done
+}
+
+fn read_path(rt: &impl Files, path: &str, buffer: &mut [u8]) -> usize
+    ensures fits { result ≤ length buffer.new }
+    ensures front { result ≡ length (take result buffer.new) }
+{
+    match fs::open(rt, path) {
+        Ok(mut file) => read_full(&mut file, buffer),
+        Err(_) => 0,
+    }
+}
+
+fn read(rt: &impl Files, name: &[u8], buffer: &mut [u8]) -> usize
+    ensures fits { result ≤ length buffer.new }
+    ensures front { result ≡ length (take result buffer.new) }
+{
+    match std::str::from_utf8(name) {
+        Ok(path) => read_path(rt, path, buffer),
+        Err(_) => 0,
+    }
+}
+
+// The length of an array behind a reference needs no proof.
+fn replay_bytes(
+    rt: &impl Files,
+    name: &[u8],
+    buffer: &mut [u8; 524288],
+    replayed: &mut [u64; 32],
+    differ: &mut [u64; 32],
+) -> u64 {
+    let n = read(rt, name, buffer);
     let unread = replay_lines(&buffer[..n], replayed, differ);
     if (n == 0) | (n == 524288) {
         return std::num::wrapping_add_u64(unread, 1);
@@ -108,47 +150,71 @@ fn replay_file(name: &[u8], replayed: &mut [u64; 32], differ: &mut [u64; 32]) ->
     unread
 }
 
-fn replay_files(names: &[u8], replayed: &mut [u64; 32], differ: &mut [u64; 32]) -> u64 {
+// A file that is missing or too long counts as an unread line.
+fn replay_file(
+    rt: &impl Files,
+    name: &[u8],
+    replayed: &mut [u64; 32],
+    differ: &mut [u64; 32],
+) -> u64 {
+    let mut buffer = [0u8; 524288];
+    replay_bytes(rt, name, &mut buffer, replayed, differ)
+}
+
+fn replay_files(
+    rt: &impl Files,
+    names: &[u8],
+    replayed: &mut [u64; 32],
+    differ: &mut [u64; 32],
+) -> u64 {
     let mut unread = 0;
     let mut at = 0;
     while at < names.len() {
         let to = text::find(names, at, b' ');
-        unread = std::num::wrapping_add_u64(unread, replay_file(&names[at..to], replayed, differ));
+        unread = std::num::wrapping_add_u64(
+            unread,
+            replay_file(rt, &names[at..to], replayed, differ),
+        );
         at = to + 1;
     }
     unread
 }
 
-fn report_one(name: &[u8], replayed: u64, differ: u64) {
-    io::write_all(STDOUT_FILENO, name);
-    io::write_all(STDOUT_FILENO, b": ");
-    io::print_decimal(STDOUT_FILENO, replayed);
-    io::write_all(STDOUT_FILENO, b" replayed, ");
-    io::print_decimal(STDOUT_FILENO, differ);
-    io::write_all(STDOUT_FILENO, b" differ\n");
+fn report_one(rt: &impl Print, name: &[u8], replayed: u64, differ: u64) -> io::Result<()> {
+    rt.write_all(name)?;
+    println!(rt; ": {replayed} replayed, {differ} differ")
 }
 
-fn report(names: &[u8], replayed: &[u64; 32], differ: &[u64; 32]) {
+fn report(
+    rt: &impl Print,
+    names: &[u8],
+    replayed: &[u64; 32],
+    differ: &[u64; 32],
+) -> io::Result<()> {
     let mut k = 0;
     let mut at = 0;
     while at < names.len() {
         let to = text::find(names, at, b' ');
-        report_one(&names[at..to], count_at(replayed, k), count_at(differ, k));
+        report_one(
+            rt,
+            &names[at..to],
+            count_at(replayed, k),
+            count_at(differ, k),
+        )?;
         k += 1;
         at = to + 1;
     }
+    Ok(())
 }
 
-fn report_unread(unread: u64) {
-    io::write_all(STDOUT_FILENO, b"unread: ");
-    io::print_decimal(STDOUT_FILENO, unread);
-    io::write_all(STDOUT_FILENO, b"\n");
+fn report_unread(rt: &impl Print, unread: u64) -> io::Result<()> {
+    println!(rt; "unread: {unread}")
 }
 
-fn main() {
+fn main(rt: HostRuntime) -> io::Result<()> {
     let mut replayed = [0u64; 32];
     let mut differ = [0u64; 32];
-    let unread = replay_files(&FILES, &mut replayed, &mut differ);
-    report(&NAMES, &replayed, &differ);
-    report_unread(unread);
+    let unread = replay_files(&rt, &FILES, &mut replayed, &mut differ);
+    report(&rt, &NAMES, &replayed, &differ)?;
+    report_unread(&rt, unread)
 }

@@ -1,30 +1,56 @@
 // Reads book.bin and a question on standard input, and writes the answer's blocks, or one block with the refusal's number.
 #![tactic(auto)]
 
-ghost use Rattle.std.specs.Prelude.{◌≡◌, length};
-ghost use Rattle.io.specs.Counts.{IsPrefixLen};
+ghost use Rattle.std.specs.Prelude.{◌≡◌, ◌≤◌, length, take};
 ghost use Rattle.replies.specs.Blocks.{answer_room};
 ghost use Rattle.still.specs.Sent.{Sent};
 
-use libc::{STDIN_FILENO, STDOUT_FILENO};
 use replies::ANSWER_ROOM;
+use std::io::Read;
+use std::rt::Files;
+use std::{fs, io};
 
 // One block more than any book has, and one byte more than a question: what is longer shows.
 const BOOK_BYTES: usize = 19456;
 
 const QUESTION_BYTES: usize = 513;
 
-// As many bytes of book.bin as fit; none where it is missing, unreadable or a folder.
-fn read_book(buffer: &mut [u8]) -> usize
-    ensures { IsPrefixLen result buffer.new }
+// The bytes of one read; none where it fails.
+fn read_some<R: Read>(from: &mut R, buffer: &mut [u8]) -> usize
+    ensures fits { result ≤ length buffer.new }
+    ensures front { result ≡ length (take result buffer.new) }
 {
-    let fd = os::open_read(b"book.bin");
-    if fd < 0 {
-        return 0;
+    match from.read(buffer) {
+        Ok(n) => n,
+        Err(_) => 0,
     }
-    let n = io::read_full(fd, buffer);
-    libc::close(fd);
-    n
+}
+
+// Reads until the buffer is full, the input ends or a read fails: how many bytes.
+fn read_full<R: Read>(from: &mut R, buffer: &mut [u8]) -> usize
+    ensures fits { result ≤ length buffer.new }
+    ensures front { result ≡ length (take result buffer.new) }
+{
+    let mut done = 0;
+    while done < buffer.len() {
+        let n = read_some(from, &mut buffer[done..]);
+        if n == 0 {
+            break;
+        }
+        done += n;
+    }
+    done
+}
+
+// As many bytes of book.bin as fit; none where it is missing, unreadable or a folder.
+fn read_book(rt: &impl Files, buffer: &mut [u8]) -> usize
+    ensures fits { result ≤ length buffer.new }
+    ensures front { result ≡ length (take result buffer.new) }
+{
+    match fs::open(rt, "book.bin") {
+        Ok(mut file) => read_full(&mut file, buffer),
+        Err(_) => 0,
+    }
 }
 
 // The reply to the bytes that were read, at the front of `out`: how many bytes it has.
@@ -40,16 +66,17 @@ fn reply(book: &[u8], question: &[u8], out: &mut [u8]) -> usize
     512
 }
 
-fn respond(book: &[u8], question: &[u8]) {
+// Whether anyone takes what is written changes nothing.
+fn respond(rt: &impl Print, book: &[u8], question: &[u8]) {
     let mut out = [0u8; ANSWER_ROOM];
     let n = reply(book, question, &mut out);
-    io::write_all(STDOUT_FILENO, &out[..n]);
+    let _ = rt.write_all(&out[..n]);
 }
 
-fn main() {
+fn main(rt: HostRuntime) {
     let mut book = [0u8; BOOK_BYTES];
-    let n = read_book(&mut book);
+    let n = read_book(&rt, &mut book);
     let mut question = [0u8; QUESTION_BYTES];
-    let m = io::read_full(STDIN_FILENO, &mut question);
-    respond(&book[..n], &question[..m]);
+    let m = read_full(&mut rt.stdin(), &mut question);
+    respond(&rt, &book[..n], &question[..m]);
 }

@@ -3,7 +3,7 @@ use Rattle.std.proofs.Common.{◌-◌, length, rules}
 use Rattle.replay.proofs.replay_files.Given as goal
 
 abbrev pub invariant-loop-at : goal.invariant-loop-at
-invariant-loop-at l = Unit
+invariant-loop-at g l = Unit
 
 abbrev pub decreases-loop-at : goal.decreases-loop-at
-decreases-loop-at l = length l.names - l.at
+decreases-loop-at g l = length l.names - l.at
