@@ -1,5 +1,5 @@
 -- `replay::replay_files` meets its contract. The invariant: nothing: the loop's test bounds the place. Assumes nothing.
-use Rattle.std.proofs.Common.{◌-◌, length, rules}
+use Rattle.std.proofs.Common.{◌-◌, length}
 use Rattle.replay.proofs.replay_files.Given as goal
 
 abbrev pub invariant-loop-at : goal.invariant-loop-at

@@ -1,5 +1,5 @@
 -- `replay::report` meets its contract. The invariant: a name is counted for each place passed, so that the count fits. Assumes nothing.
-use Rattle.std.proofs.Common.{◌-◌, ◌≤◌, length, rules}
+use Rattle.std.proofs.Common.{◌-◌, ◌≤◌, length}
 use Rattle.replay.proofs.report.Given as goal
 
 abbrev pub invariant-loop-at : goal.invariant-loop-at

@@ -1,5 +1,4 @@
 -- `still::reply` meets its contract. Assumes nothing.
-use borrow.Author.Rules.{rules}
 use Rattle.still.proofs.Laws.{sent_answer, sent_refusal}
 use Rattle.still.proofs.reply.Goals as goal
 

@@ -1,5 +1,5 @@
 -- `replay::calls::equal` meets its contract. The invariant: both indices lie in their arrays. Assumes nothing.
-use Rattle.std.proofs.Common.{◌+◌, ◌-◌, ◌≤◌, rules}
+use Rattle.std.proofs.Common.{◌+◌, ◌-◌, ◌≤◌}
 use Rattle.replay.proofs.calls.equal.Given as goal
 
 abbrev pub invariant-loop-i : goal.invariant-loop-i

@@ -1,5 +1,5 @@
 -- `replay::calls::fill_bytes` meets its contract. The invariant: the index is at most the count, so that the sum fits. Assumes nothing.
-use Rattle.std.proofs.Common.{◌+◌, ◌-◌, ◌≤◌, rules}
+use Rattle.std.proofs.Common.{◌+◌, ◌-◌, ◌≤◌}
 use Rattle.replay.proofs.calls.fill_bytes.Given as goal
 
 abbrev pub invariant-loop-i : goal.invariant-loop-i

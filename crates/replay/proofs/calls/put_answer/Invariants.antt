@@ -1,5 +1,5 @@
 -- `replay::calls::put_answer` meets its contract. The invariant: the index is at most the parts, so that the product fits. Assumes nothing.
-use Rattle.std.proofs.Common.{◌-◌, ◌≤◌, arith, rules}
+use Rattle.std.proofs.Common.{◌-◌, ◌≤◌}
 use Rattle.replay.proofs.calls.put_answer.Given as goal
 
 abbrev pub invariant-loop-k : goal.invariant-loop-k

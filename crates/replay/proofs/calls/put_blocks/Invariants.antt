@@ -1,5 +1,5 @@
 -- `replay::calls::put_blocks` meets its contract. The invariant: the index is at most the count, and both places fit. Assumes nothing.
-use Rattle.std.proofs.Common.{◌-◌, ◌≤◌, arith, rules}
+use Rattle.std.proofs.Common.{◌-◌, ◌≤◌}
 use Rattle.replay.proofs.calls.put_blocks.Given as goal
 
 abbrev pub invariant-loop-i : goal.invariant-loop-i

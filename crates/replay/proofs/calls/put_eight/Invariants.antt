@@ -1,5 +1,5 @@
 -- `replay::calls::put_eight` meets its contract. The invariant: the index is at most 8. Assumes nothing.
-use Rattle.std.proofs.Common.{◌-◌, ◌≤◌, rules}
+use Rattle.std.proofs.Common.{◌-◌, ◌≤◌}
 use Rattle.replay.proofs.calls.put_eight.Given as goal
 
 abbrev pub invariant-loop-i : goal.invariant-loop-i

@@ -1,5 +1,5 @@
 -- `replay::text::find` meets its contract. The invariant: the place lies between `from` and the end. Assumes nothing.
-use Rattle.std.proofs.Common.{◌-◌, ◌≤◌, length, rules}
+use Rattle.std.proofs.Common.{◌-◌, ◌≤◌, length}
 use Rattle.replay.proofs.text.find.Given as goal
 
 abbrev pub invariant-loop-at : goal.invariant-loop-at

@@ -1,5 +1,5 @@
 -- `replay::text::same` meets its contract. The invariant: the two lengths are equal. Assumes nothing.
-use Rattle.std.proofs.Common.{◌≡◌, ◌-◌, ◌≤◌, length, rules}
+use Rattle.std.proofs.Common.{◌≡◌, ◌-◌, ◌≤◌, length}
 use Rattle.replay.proofs.text.same.Given as goal
 
 abbrev pub invariant-loop-i : goal.invariant-loop-i
