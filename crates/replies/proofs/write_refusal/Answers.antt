@@ -4,4 +4,4 @@ use Rattle.replies.proofs.write_refusal.Goals as goal
 
 pub returns : goal.returns
 unfolding refusal_bytes
-returns c = rw (← c.refusal_words-ws.ensures) c.write_block.ensures
+returns c = cc
