@@ -4,9 +4,8 @@
 
 ghost use Rattle.std.specs.Prelude.{◌≡◌, ◌≤◌, length, take};
 
-use std::io::Read;
+use std::io;
 use std::rt::Files;
-use std::{fs, io};
 
 mod calls;
 mod text;
@@ -87,49 +86,12 @@ fn replay_lines(file: &[u8], replayed: &mut [u64; 32], differ: &mut [u64; 32]) -
     unread
 }
 
-// The bytes of one read; none where it fails.
-fn read_some<R: Read>(from: &mut R, buffer: &mut [u8]) -> usize
-    ensures fits { result ≤ length buffer.new }
-    ensures front { result ≡ length (take result buffer.new) }
-{
-    match from.read(buffer) {
-        Ok(n) => n,
-        Err(_) => 0,
-    }
-}
-
-// Reads until the buffer is full, the input ends or a read fails: how many bytes.
-fn read_full<R: Read>(from: &mut R, buffer: &mut [u8]) -> usize
-    ensures fits { result ≤ length buffer.new }
-    ensures front { result ≡ length (take result buffer.new) }
-{
-    let mut done = 0;
-    while done < buffer.len() {
-        let n = read_some(from, &mut buffer[done..]);
-        if n == 0 {
-            break;
-        }
-        done += n;
-    }
-    done
-}
-
-fn read_path(rt: &impl Files, path: &str, buffer: &mut [u8]) -> usize
-    ensures fits { result ≤ length buffer.new }
-    ensures front { result ≡ length (take result buffer.new) }
-{
-    match fs::open(rt, path) {
-        Ok(mut file) => read_full(&mut file, buffer),
-        Err(_) => 0,
-    }
-}
-
 fn read(rt: &impl Files, name: &[u8], buffer: &mut [u8]) -> usize
     ensures fits { result ≤ length buffer.new }
     ensures front { result ≡ length (take result buffer.new) }
 {
     match std::str::from_utf8(name) {
-        Ok(path) => read_path(rt, path, buffer),
+        Ok(path) => reading::read_path(rt, path, buffer),
         Err(_) => 0,
     }
 }

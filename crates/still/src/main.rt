@@ -6,51 +6,19 @@ ghost use Rattle.replies.specs.Blocks.{answer_room};
 ghost use Rattle.still.specs.Sent.{Sent};
 
 use replies::ANSWER_ROOM;
-use std::io::Read;
 use std::rt::Files;
-use std::{fs, io};
 
 // One block more than any book has, and one byte more than a question: what is longer shows.
 const BOOK_BYTES: usize = 19456;
 
 const QUESTION_BYTES: usize = 513;
 
-// The bytes of one read; none where it fails.
-fn read_some<R: Read>(from: &mut R, buffer: &mut [u8]) -> usize
-    ensures fits { result ≤ length buffer.new }
-    ensures front { result ≡ length (take result buffer.new) }
-{
-    match from.read(buffer) {
-        Ok(n) => n,
-        Err(_) => 0,
-    }
-}
-
-// Reads until the buffer is full, the input ends or a read fails: how many bytes.
-fn read_full<R: Read>(from: &mut R, buffer: &mut [u8]) -> usize
-    ensures fits { result ≤ length buffer.new }
-    ensures front { result ≡ length (take result buffer.new) }
-{
-    let mut done = 0;
-    while done < buffer.len() {
-        let n = read_some(from, &mut buffer[done..]);
-        if n == 0 {
-            break;
-        }
-        done += n;
-    }
-    done
-}
-
 // As many bytes of book.bin as fit; none where it is missing, unreadable or a folder.
 fn read_book(rt: &impl Files, buffer: &mut [u8]) -> usize
     ensures fits { result ≤ length buffer.new }
     ensures front { result ≡ length (take result buffer.new) }
 {
-    match fs::open(rt, "book.bin") {
-        Ok(mut file) => read_full(&mut file, buffer),
-        Err(_) => 0,
-    }
+    reading::read_path(rt, "book.bin", buffer)
 }
 
 // The reply to the bytes that were read, at the front of `out`: how many bytes it has.
@@ -77,6 +45,6 @@ fn main(rt: HostRuntime) {
     let mut book = [0u8; BOOK_BYTES];
     let n = read_book(&rt, &mut book);
     let mut question = [0u8; QUESTION_BYTES];
-    let m = read_full(&mut rt.stdin(), &mut question);
+    let m = reading::read_full(&mut rt.stdin(), &mut question);
     respond(&rt, &book[..n], &question[..m]);
 }
