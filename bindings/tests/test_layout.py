@@ -124,9 +124,9 @@ class Definitions(unittest.TestCase):
         a, b = PAIR["ALPHA_IJ"], PAIR["ALPHA_JI"]
         both = f"eq (float w {a}) (float w {b}) && eq (float w {a + 1}) (float w {b + 1})"
         self.assertIn(f"alphas_equal Nrtl w = {both} alphas_equal Wilson w = true", stated("alphas_equal"))
-        bounds = f"(float w {PAIR['LOW']}) (float w {PAIR['HIGH']})"
-        stated_interval = f"Interval {bounds} (not (eqb (w {inferred}) 0))"
-        self.assertEqual(body("regression_of"), f"cond (eqb (w {interval}) 0) None ({stated_interval})")
+        bounds = f"low = float w {PAIR['LOW']}; high = float w {PAIR['HIGH']}"
+        held = f"record {{ {bounds}; inferred = not (eqb (w {inferred}) 0) }}"
+        self.assertEqual(body("regression_of"), f"cond (eqb (w {interval}) 0) None (Some ({held}))")
 
     def test_question(self):
         asked = first("task_in", "question_of")

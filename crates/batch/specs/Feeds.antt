@@ -1,9 +1,10 @@
 -- Many feeds at one temperature: the call that puts one question to each of up to 64 feeds. Numbers before 11 end the call; 11 and all after it are met feed by feed. Assumes nothing.
-use Rattle.std.specs.Prelude.{ℕ, ◌+◌, ◌*◌, ◌/◌, ◌%◌, ◌≡◌, Bool, ◌&&◌, List, eqb, leb, Float, length}
+use Rattle.std.specs.Prelude.{ℕ, ◌+◌, ◌*◌, ◌/◌, ◌%◌, ◌≡◌, Bool, ◌&&◌, List, eqb, leb, Float, length, Option, Some, None, Result}
 use Rattle.floats.specs.Fold.{fold_to}
 use Rattle.floats.specs.Small.{float}
 use Rattle.floats.specs.Vector.{vec}
 use Rattle.floats.specs.Outcome.{Out, ok, no, bind, need}
+use Rattle.outcome.specs.declared.Refusal.{Refusal}
 use Rattle.blocks.specs.Words.{word}
 use Rattle.blocks.specs.Bytes.{put}
 use Rattle.book.specs.Places.{words}
@@ -11,12 +12,10 @@ use Rattle.book.specs.Book.{molar_mass, book_of, rule_of}
 use Rattle.question.specs.Inputs.{within, needs_temperature}
 use Rattle.question.specs.Asked.{task_in, kind_right, rest_of}
 use Rattle.replies.specs.Blocks.{answer_room}
+use Rattle.thermo_models.specs.declared.Tabled.{Tabled}
 use Rattle.thermo_models.specs.Mixture.{Mixture}
-use Rattle.sheet.specs.declared.Ready.{Ready}
 use Rattle.sheet.specs.Ready.{Readied}
 use Rattle.sheet.specs.Sheet.{answer_to, reply_of}
-use Rattle.batch.specs.declared.Kept.{Kept}
-use Rattle.batch.specs.declared.Kept.TheVariants.{Nothing, Made}
 
 -- ---- feeds: 64 bytes each, eight floats that stand in for words 4 to 11 of the question
 
@@ -70,6 +69,6 @@ slice_of (ok new) old = new
 slice_of (no r) old = old
 
 -- what is kept from feed to feed: a table to fill; once made, it is ready for the question's task, T and p
-pub record Keeps (m : Mixture) (question : List ℕ) (kept : Kept) (table ps : List Float) : Type 0 where
-  pub room : kept ≡ Nothing → length table ≡ 512
-  pub made : (r : Ready) → kept ≡ Made r → Readied m (word question 1) (float (word question) 2) (float (word question) 3) r table ps
+pub record Keeps (m : Mixture) (question : List ℕ) (kept : Option (Result Tabled Refusal)) (table ps : List Float) : Type 0 where
+  pub room : kept ≡ None → length table ≡ 512
+  pub made : (r : Result Tabled Refusal) → kept ≡ Some r → Readied m (word question 1) (float (word question) 2) (float (word question) 3) r table ps

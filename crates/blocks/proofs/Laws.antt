@@ -1,9 +1,11 @@
 -- Laws of words, sums and rows of bytes, which the proofs of reading and writing cite. Assumes nothing.
-use Rattle.std.proofs.Common.{◌≡◌, ℕ, zero, suc, ◌+◌, ◌-◌, ◌*◌, ◌/◌, ◌%◌, ◌^◌, ◌<◌, ◌≤◌, List, [], ◌++◌, length, get_or, take, drop, set, sym, refl, ap, ◌∙◌, ⊎_elim, append_assoc, append-nil, add-zero, suc-mul, eq-or-lt_of_le, add-one, arith, length-append, length-drop, drop_of_length-le, length-take, take_all, drop-drop, take_at, get_or-append-add, le-leb}
+use Rattle.std.proofs.Common.{◌≡◌, ℕ, zero, suc, ◌+◌, ◌-◌, ◌*◌, ◌/◌, ◌%◌, ◌^◌, ◌<◌, ◌≤◌, List, [], ◌++◌, length, get_or, take, drop, set, sym, refl, ap, ◌∙◌, ⊎_elim, append_assoc, append-nil, add-zero, suc-mul, eq-or-lt_of_le, add-one, arith, length-append, length-drop, drop_of_length-le, length-take, take_all, drop-drop, take_at, get_or-append-add, get_or-take, get_or-drop, le-leb}
 use lib.ListN.{get_or-eq_default}
 use borrow.Author.Tests.{lt-leb}
 use lib.Seq.{sets-eq, take-nil, drop-append-add}
 use borrow.Rule.Slice.PartMut.{put_mid}
+use Rattle.std.specs.Int.{w64, from_le_bytes, to_le_bytes}
+use Rattle.std.proofs.lemmas.Nat.{from_le_bytes-to_le_bytes_8}
 use Rattle.blocks.specs.Words.{check_sum, running_sum, sum_by, byte, word_from, word, block}
 use Rattle.blocks.specs.Bytes.{bytes, row_to, block_bytes, put, stored}
 use Rattle.blocks.specs.declared.Rule.{Rule}
@@ -36,6 +38,18 @@ word-past s k h =
     let z : get_or s (8 * k) 0 ≡ 0 = get_or-eq_default s 0 l in
     rw (z, g 1, g 2, g 3, g 4, g 5, g 6, g 7)
 
+-- a word of eight bytes that were gathered one by one
+pub word-gathered : (s ys : List ℕ) (at : ℕ) {r : ℕ} → ((j : ℕ) → j < 8 → get_or ys j 0 ≡ byte s (at + j)) → r ≡ from_le_bytes w64 ys → r ≡ word_from s at
+word-gathered s ys at h e =
+    let z : at + 0 ≡ at = omega arith in
+    omega (arith, e, h 0 (omega arith) ∙ ap (byte s) z, h 1 (omega arith), h 2 (omega arith), h 3 (omega arith), h 4 (omega arith), h 5 (omega arith), h 6 (omega arith), h 7 (omega arith))
+
+-- a word of the eight bytes that stand at an index
+pub word-read : (s : List ℕ) (at : ℕ) {ys : List ℕ} {r : ℕ} → ys ≡ take (at + 8 - at) (drop at s) → r ≡ from_le_bytes w64 ys → r ≡ word_from s at
+word-read s at {ys} e h =
+    let n : at + 8 - at ≡ 8 = omega arith in
+    word-gathered s ys at (λ j l. rw (e, n) (get_or-take 8 (drop at s) j 0 l ∙ get_or-drop at s j 0)) h
+
 pub block_none : (s : List ℕ) (k : ℕ) → length s ≤ 512 * k → block s k ≡ []
 unfolding block
 block_none s k l = rw (drop_of_length-le s l, take-nil)
@@ -53,21 +67,6 @@ block-end-part s k h =
     let a : length (drop (512 * k) s) ≤ length s - 512 * k = simp length-drop (omega arith) in
     let b : length (drop (512 * k) s) ≤ 512 = simp length-drop (omega arith) in
     take_all (length s - 512 * k) (drop (512 * k) s) a ∙ sym (take_all 512 (drop (512 * k) s) b)
-
-pub put-bytes : (l : List ℕ) (i w : ℕ) → i + 8 ≤ length l
-    → set (set (set (set (set (set (set (set l i (w % 256)) (i + 1) (w / 256 % 256)) (i + 2) (w / 65536 % 256)) (i + 3) (w / 16777216 % 256))
-    (i + 4) (w / 4294967296 % 256)) (i + 5) (w / 1099511627776 % 256)) (i + 6) (w / 281474976710656 % 256)) (i + 7) (w / 72057594037927936 % 256)
-    ≡ put l i (bytes w)
-unfolding bytes
-put-bytes l i w h =
-    let e1 : i + 1 ≡ suc i = omega arith in
-    let e2 : i + 2 ≡ suc (suc i) = omega arith in
-    let e3 : i + 3 ≡ suc (suc (suc i)) = omega arith in
-    let e4 : i + 4 ≡ suc (suc (suc (suc i))) = omega arith in
-    let e5 : i + 5 ≡ suc (suc (suc (suc (suc i)))) = omega arith in
-    let e6 : i + 6 ≡ suc (suc (suc (suc (suc (suc i))))) = omega arith in
-    let e7 : i + 7 ≡ suc (suc (suc (suc (suc (suc (suc i)))))) = omega arith in
-    rw (e1, e2, e3, e4, e5, e6, e7) (sets-eq (bytes w) l i h)
 
 pub length_bytes : (w : ℕ) → length (bytes w) ≡ 8
 unfolding bytes
@@ -112,6 +111,17 @@ words-end w old check {out} {out'} {k} a b o o' =
     let e : k ≡ 63 = omega arith in
     o' ∙ rw (o, e) (put-more (row_to (λ i. bytes (w i)) 63) old (bytes check) 504 (length_words w 63) ∙ rw length_bytes)
 
+-- the bytes of a word, and these in the place of eight others
+bytes_of : (w : ℕ) → to_le_bytes w64 w ≡ bytes w
+unfolding bytes
+bytes_of w = refl
+
+pub word-put : (l : List ℕ) (w from : ℕ) {x : List ℕ} → x ≡ to_le_bytes w64 w → put_mid from (from + 8 - from) l x ≡ put l from (bytes w)
+word-put l w from {x} e =
+    let n : from + 8 - from ≡ 8 = omega arith in
+    let b : x ≡ bytes w = e ∙ bytes_of w in
+    rw (b, n, drop-drop, ← append_assoc, length_bytes)
+
 -- a part from an index on, with its first bytes replaced
 pub part-put : (l bs : List ℕ) (from : ℕ) → take from l ++ (bs ++ drop (length bs) (drop from l)) ≡ put l from bs
 part-put l bs from = rw (drop-drop, ← append_assoc)
@@ -130,46 +140,10 @@ pub block-put : (l : List ℕ) (rule : Rule) (w : ℕ → ℕ) (from : ℕ) {x :
 unfolding block_bytes
 block-put l rule w from s e = tail_put l (block_bytes rule w) from (length_block-bytes rule w) (e ∙ rw s)
 
--- what was written is read back: four bytes, eight bytes
-four : (x : ℕ) → x < 4294967296 → x % 256 + x / 256 % 256 * 256 + x / 65536 % 256 * 65536 + x / 16777216 % 256 * 16777216 ≡ x
-four x h =
-    let a : x / 256 / 256 ≡ x / 65536 = omega arith in
-    let b : x / 65536 / 256 ≡ x / 16777216 = omega arith in
-    let c : x / 16777216 % 256 ≡ x / 16777216 = omega arith in
-    let d : x / 16777216 * 256 + x / 65536 % 256 ≡ x / 65536 = omega arith in
-    let e : x / 65536 * 256 + x / 256 % 256 ≡ x / 256 = omega arith in
-    let f : x / 256 * 256 + x % 256 ≡ x = omega arith in
-    rw c (sums (x % 256) (x / 256 % 256) (x / 65536 % 256) (x / 16777216) (x / 65536) (x / 256) x d e f)
-  where
-    sums : (a b c d e f x : ℕ) → d * 256 + c ≡ e → e * 256 + b ≡ f → f * 256 + a ≡ x → a + b * 256 + c * 65536 + d * 16777216 ≡ x
-    sums a b c d e f x p q r = omega arith
-
-carried : (a b : ℕ) → (a * 256 + b) % 256 ≡ b % 256
-carried a b = omega arith
-
-low : (w : ℕ) → w % 4294967296 < 4294967296
-low w = omega arith
-
-high : (w : ℕ) → w < 2 ^ 64 → w / 4294967296 < 4294967296
-high w h = omega arith
-
-whole : (w : ℕ) → w % 4294967296 + w / 4294967296 * 4294967296 ≡ w
-whole w = omega arith
-
+-- what was written is read back
 pub word_bytes : (w : ℕ) → w < 2 ^ 64 → word_from (bytes w) 0 ≡ w
 unfolding bytes
-word_bytes w h =
-    let a : w % 256 ≡ w % 4294967296 % 256 = omega arith in
-    let b' : w / 256 ≡ w / 4294967296 * 65536 * 256 + w % 4294967296 / 256 = omega arith in
-    let b : w / 256 % 256 ≡ w % 4294967296 / 256 % 256 = ap (λ (x : ℕ). x % 256) b' ∙ carried (w / 4294967296 * 65536) (w % 4294967296 / 256) in
-    let c' : w / 65536 ≡ w / 4294967296 * 256 * 256 + w % 4294967296 / 65536 = omega arith in
-    let c : w / 65536 % 256 ≡ w % 4294967296 / 65536 % 256 = ap (λ (x : ℕ). x % 256) c' ∙ carried (w / 4294967296 * 256) (w % 4294967296 / 65536) in
-    let d' : w / 16777216 ≡ w / 4294967296 * 1 * 256 + w % 4294967296 / 16777216 = omega arith in
-    let d : w / 16777216 % 256 ≡ w % 4294967296 / 16777216 % 256 = ap (λ (x : ℕ). x % 256) d' ∙ carried (w / 4294967296 * 1) (w % 4294967296 / 16777216) in
-    let e : w / 1099511627776 ≡ w / 4294967296 / 256 = omega arith in
-    let f : w / 281474976710656 ≡ w / 4294967296 / 65536 = omega arith in
-    let g : w / 72057594037927936 ≡ w / 4294967296 / 16777216 = omega arith in
-    rw (a, b, c, d, e, f, g, four (w % 4294967296) (low w), four (w / 4294967296) (high w h)) (whole w)
+word_bytes w h = omega (arith, from_le_bytes-to_le_bytes_8 w h)
 
 -- a word that stands behind other bytes
 word-behind : (p q : List ℕ) (n : ℕ) → length p ≡ n → word_from (p ++ q) n ≡ word_from q 0

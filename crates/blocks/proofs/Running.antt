@@ -102,28 +102,6 @@ lanes_end w = ends (runs w 63) (total w 64) _ _ _ _ _ (lanes-runs w 16) (lanes-t
     ends : (x y t a b c d : ℕ) → x + y ≡ 4 * t + 4 * a + 3 * b + 2 * c + d → y ≡ a + b + c + d → x ≡ 4 * t + 3 * a + 2 * b + c
     ends x y t a b c d e h = omega arith
 
--- what each step of `lanes_sum` gives
-both : (a b : ℕ) {x y z : ℕ} → x ≡ a % 2 ^ 64 → y ≡ b % 2 ^ 64 → z ≡ (x + y) % 2 ^ 64 → z ≡ (a + b) % 2 ^ 64
-both a b e f h = h ∙ rw (e, f) (carry-both a b)
-
-right : (x b : ℕ) {y z : ℕ} → y ≡ b % 2 ^ 64 → z ≡ (x + y) % 2 ^ 64 → z ≡ (x + b) % 2 ^ 64
-right x b e h = h ∙ rw e (carry-right x b)
-
-pub lanes_joined : (a b c x y z u : ℕ) {low high t twice two three mid ends four v : ℕ} → low ≡ (x + y) % 2 ^ 64 → high ≡ (z + u) % 2 ^ 64
-    → t ≡ (low + high) % 2 ^ 64 → twice ≡ (t + t) % 2 ^ 64 → two ≡ (a + b) % 2 ^ 64 → three ≡ (two + c) % 2 ^ 64 → mid ≡ (two + three) % 2 ^ 64
-    → ends ≡ (a + mid) % 2 ^ 64 → four ≡ (twice + twice) % 2 ^ 64 → v ≡ (four + ends) % 2 ^ 64
-    → v ≡ (4 * (x + y + z + u) + 3 * a + 2 * b + c) % 2 ^ 64
-lanes_joined a b c x y z u {low} {high} {t} {twice} {two} {three} {mid} {ends} {four} {v} e1 e2 e3 e4 e5 e6 e7 e8 e9 e0 =
-    let s : t ≡ (x + y + (z + u)) % 2 ^ 64 = both (x + y) (z + u) e1 e2 e3 in
-    let d : twice ≡ (x + y + (z + u) + (x + y + (z + u))) % 2 ^ 64 = both _ _ s s e4 in
-    let q : four ≡ (x + y + (z + u) + (x + y + (z + u)) + (x + y + (z + u) + (x + y + (z + u)))) % 2 ^ 64 = both _ _ d d e9 in
-    let n : three ≡ (a + b + c) % 2 ^ 64 = e6 ∙ rw e5 (carry-left (a + b) c) in
-    let m : mid ≡ (a + b + (a + b + c)) % 2 ^ 64 = both _ _ e5 n e7 in
-    let l : ends ≡ (a + (a + b + (a + b + c))) % 2 ^ 64 = right a _ m e8 in
-    let g : x + y + (z + u) + (x + y + (z + u)) + (x + y + (z + u) + (x + y + (z + u))) + (a + (a + b + (a + b + c)))
-    ≡ 4 * (x + y + z + u) + 3 * a + 2 * b + c = omega arith in
-    rw g at (both _ _ q l e0)
-
 modulo : (x y z u a b c : ℕ) → (4 * (x % 2 ^ 64 + y % 2 ^ 64 + z % 2 ^ 64 + u % 2 ^ 64) + 3 * (a % 2 ^ 64) + 2 * (b % 2 ^ 64) + c % 2 ^ 64) % 2 ^ 64
     ≡ (4 * (x + y + z + u) + 3 * a + 2 * b + c) % 2 ^ 64
 modulo x y z u a b c =

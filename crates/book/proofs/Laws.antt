@@ -2,39 +2,22 @@
 use Rattle.std.proofs.Common.{◌≡◌, ℕ, zero, suc, ◌+◌, ◌-◌, ◌*◌, ◌%◌, ◌<◌, ◌≤◌, Bool, true, false, cond, not, ◌&&◌, eqb, ltb, leb, List, length, sym, refl, ◌∙◌, true≢false, add-one, arith, le-ltb, lt-ltb, eq-eqb, ne_eqb, leb-true}
 use Rattle.blocks.specs.declared.Rule.TheVariants.{Plain, Running}
 use Rattle.floats.specs.Fold.{all_to}
-use Rattle.floats.specs.Outcome.{Out, ok, no, need}
+use Rattle.floats.specs.Outcome.{no, need}
 use Rattle.floats.proofs.Folds.{all_at}
-use Rattle.book.specs.declared.Head.{Head}
-use Rattle.book.specs.declared.Opened.{Opened}
-use Rattle.book.specs.declared.Opened.TheVariants.{Book, No}
 use Rattle.book.specs.Places.{words, pair_count, block_count, row_from, pair_place}
-use Rattle.book.specs.Book.{head_right, rule_in, rule_of, opened_of}
+use Rattle.book.specs.Book.{head_right, rule_in, rule_of, book_of}
 
-pub opened-ok : (o : Out Head) {h : Head} → Book h ≡ opened_of o → o ≡ ok h
-unfolding opened_of
-opened-ok (ok m) e = cc
-opened-ok (no r) e = let z : ◌≡◌ {A = ℕ} 0 1 = cc in absurd (omega arith)
+-- question 1
+pub length_none : (s : List ℕ) → length s ≡ 0 → no 1 ≡ book_of s
+unfolding book_of need
+length_none s e = rw e
 
-pub opened-no : (o : Out Head) {r : ℕ} → No r ≡ opened_of o → o ≡ no r
-unfolding opened_of
-opened-no (ok m) e = let z : ◌≡◌ {A = ℕ} 0 1 = cc in absurd (omega arith)
-opened-no (no r) e = cc
+pub length-cut : (s : List ℕ) → (length s % 512 ≡ 0 → ⊥) → no 1 ≡ book_of s
+unfolding book_of need
+length-cut s f = rw (ne_eqb (length s % 512) 0 f)
 
--- a question that is answered no, and one that is answered yes
-pub says-no : (r : ℕ) (o : Out Head) {b : Bool} → b ≡ false → No r ≡ opened_of (need b r o)
-unfolding need opened_of
-says-no r o e = rw e
-
-pub says_yes : (r : ℕ) (o : Out Head) {b : Bool} {x : Opened} → b ≡ true → x ≡ opened_of o → x ≡ opened_of (need b r o)
-unfolding need
-says_yes r o e h = rw e h
-
--- question 1's second test
-pub none : {l : ℕ} → l ≡ 0 → ltb 0 l ≡ false
-none {l} e = le-ltb 0 l (omega arith)
-
-pub some : {l : ℕ} → (l ≡ 0 → ⊥) → ltb 0 l ≡ true
-some {l} f = lt-ltb 0 l (omega arith)
+pub some : (l : ℕ) → (l ≡ 0 → ⊥) → ltb 0 l ≡ true
+some l f = lt-ltb 0 l (omega arith)
 
 -- the rule: of what is no book by question 1, and of whole blocks
 pub rule-cut : (s : List ℕ) → (length s % 512 ≡ 0 → ⊥) → Plain ≡ rule_of s
@@ -47,7 +30,7 @@ rule-none s e = rw e
 
 pub rule-whole : (s : List ℕ) → length s % 512 ≡ 0 → (length s ≡ 0 → ⊥) → rule_of s ≡ rule_in (words s 0)
 unfolding rule_of
-rule-whole s e f = rw (eq-eqb (length s % 512) 0 e, some f)
+rule-whole s e f = rw (eq-eqb (length s % 512) 0 e, some (length s) f)
 
 pub rule-sized : (s : List ℕ) (n : ℕ) → length s ≡ 512 * block_count n → rule_of s ≡ rule_in (words s 0)
 rule-sized s n e = rule-whole s (omega arith) (λ (z : length s ≡ 0). omega arith)

@@ -7,15 +7,14 @@ use Rattle.blocks.specs.Words.{word, block}
 use lib.Ieee.{Float, nan, inf, fin, up, down, eq}
 use Rattle.floats.specs.Small.{is_finite, float}
 use Rattle.floats.specs.Fold.{all_to}
-use Rattle.floats.proofs.Folds.{all_at, all_done, was_yes}
-use Rattle.book.proofs.Laws.{says_yes, says-no}
+use Rattle.floats.proofs.Folds.{all_at, all_done}
+use Rattle.floats.specs.Outcome.{ok, no, need}
 use Rattle.book.specs.declared.Model.{Model}
 use Rattle.book.specs.declared.Model.TheVariants.{Nrtl, Wilson}
 use Rattle.book.specs.declared.Head.{Head}
-use Rattle.book.specs.declared.Opened.TheVariants.{Book, No}
 use Rattle.book.specs.Places.{words, pair_count, row_from}
 use Rattle.book.specs.Book.{floats_finite, range_right, term_count, record_right, records_right, pair_right, row_right, offered_right}
-use Rattle.book.specs.Book.{parameters_finite, bounds_finite, pair_finite, alphas_equal, pairs_of, opened_of}
+use Rattle.book.specs.Book.{parameters_finite, bounds_finite, pair_finite, alphas_equal, pairs_of}
 
 first : (a b : Bool) → a && b ≡ true → a ≡ true
 first true b e = refl
@@ -120,36 +119,30 @@ finite_at w h d = pair_finite h.model (w (1 + h.n + d))
 abbrev equal-at : (ℕ → ℕ → ℕ) → Head → ℕ → Bool
 equal-at w h d = alphas_equal h.model (w (1 + h.n + d))
 
-module _ (w : ℕ → ℕ → ℕ) (h : Head) {count : ℕ} {b : Bool} (e : count ≡ pair_count h.n)
-    (rows : all_to (λ i. row_right w i (row_from h.n i) (h.n - i - 1)) h.n ≡ true)
-    (sound : b ≡ all_to (λ d. finite_at w h d && equal-at w h d) count) where
-  due : b ≡ all_to (λ d. finite_at w h d && equal-at w h d) (pair_count h.n)
-  due = all_done _ count (pair_count h.n) e sound
+module _ (w : ℕ → ℕ → ℕ) (h : Head) {count : ℕ} (e : count ≡ pair_count h.n)
+    (rows : all_to (λ i. row_right w i (row_from h.n i) (h.n - i - 1)) h.n ≡ true) where
+  counted : (p : ℕ → Bool) {b : Bool} → b ≡ all_to p count → all_to p (pair_count h.n) ≡ b
+  counted p s = sym (all_done p count (pair_count h.n) e s)
 
-  pub pairs_pass : b ≡ true → Book h ≡ opened_of (pairs_of w h)
-  unfolding pairs_of opened_of
-  pairs_pass t =
-      let finite = all_first (finite_at w h) (equal-at w h) (pair_count h.n) (sym due ∙ t) in
-      let equal = all_second (finite_at w h) (equal-at w h) (pair_count h.n) (sym due ∙ t) in
-      says_yes 7 _ rows (says_yes 8 _ finite (says_yes 9 _ equal refl))
+  pub pairs_pass : true ≡ all_to (λ d. finite_at w h d && equal-at w h d) count → ok h ≡ pairs_of w h
+  unfolding pairs_of need
+  pairs_pass sound =
+      let both = counted (λ d. finite_at w h d && equal-at w h d) sound in
+      rw (rows, all_first (finite_at w h) (equal-at w h) (pair_count h.n) both, all_second (finite_at w h) (equal-at w h) (pair_count h.n) both)
 
-  pub pairs_infinite : {c : Bool} → c ≡ all_to (finite_at w h) count → c ≡ false → No 8 ≡ opened_of (pairs_of w h)
-  unfolding pairs_of
-  pairs_infinite f t = says_yes 7 _ rows (says-no 8 _ (sym (all_done _ count (pair_count h.n) e f) ∙ t))
+  pub pairs_infinite : false ≡ all_to (finite_at w h) count → no 8 ≡ pairs_of w h
+  unfolding pairs_of need
+  pairs_infinite f = rw (rows, counted (finite_at w h) f)
 
-  pub pairs-unequal : {c : Bool} → c ≡ all_to (finite_at w h) count → c ≡ true → b ≡ false → No 9 ≡ opened_of (pairs_of w h)
-  unfolding pairs_of
-  pairs-unequal f t u =
-      let finite = sym (all_done _ count (pair_count h.n) e f) ∙ t in
-      let unequal = second-no (finite_at w h) (equal-at w h) (pair_count h.n) (sym due ∙ u) finite in
-      says_yes 7 _ rows (says_yes 8 _ finite (says-no 9 _ unequal))
+  pub pairs-unequal : true ≡ all_to (finite_at w h) count → false ≡ all_to (λ d. finite_at w h d && equal-at w h d) count → no 9 ≡ pairs_of w h
+  unfolding pairs_of need
+  pairs-unequal f u =
+      let finite = counted (finite_at w h) f in
+      rw (rows, finite, second-no (finite_at w h) (equal-at w h) (pair_count h.n) (counted (λ d. finite_at w h d && equal-at w h d) u) finite)
 
--- a pair offered: i < j below n, and the alphas of one that is finite
-pub offered_named : (n : ℕ) (w : ℕ → ℕ) {i j : ℕ} {b : Bool} → i ≡ w 1 → j ≡ w 2 → b ≡ pair_right w i j → (ltb i j && ltb j n && b) ≡ offered_right n w
-offered_named n w p q e = rw (e, p, q)
-
-pub finite_equal : (m : Model) (w : ℕ → ℕ) {a b : Bool} → not a ≡ false → a ≡ pair_finite m w → b ≡ (pair_finite m w && alphas_equal m w) → b ≡ alphas_equal m w
-finite_equal m w n e h = rw (was_yes n e) at h
+-- the alphas of a pair that is finite
+pub finite_equal : (m : Model) (w : ℕ → ℕ) {b : Bool} → true ≡ pair_finite m w → b ≡ (pair_finite m w && alphas_equal m w) → b ≡ alphas_equal m w
+finite_equal m w f h = rw (sym f) at h
 
 -- a block by itself is its own block 0
 of_one : (s : List ℕ) (f : (ℕ → ℕ) → Bool) {b : Bool} → length s ≡ 512 → b ≡ all_to (λ d. f (words s (0 + d))) 1 → b ≡ f (word s)

@@ -9,13 +9,11 @@ use Rattle.floats.specs.Arithmetic.{0f}
 use Rattle.floats.specs.Small.{is_finite, positive, float}
 use Rattle.floats.specs.Fold.{all_to}
 use Rattle.floats.specs.Vector.{places}
-use Rattle.floats.specs.Outcome.{Out, ok, no, need}
+use Rattle.floats.specs.Outcome.{Out, ok, need}
 use Rattle.book.specs.Places.{words, pair_count, block_count, row_from}
 use Rattle.book.specs.declared.Model.{Model}
 use Rattle.book.specs.declared.Model.TheVariants.{Nrtl, Wilson}
 use Rattle.book.specs.declared.Head.{Head}
-use Rattle.book.specs.declared.Opened.{Opened}
-use Rattle.book.specs.declared.Opened.TheVariants.{Book, No}
 
 -- words f to f + n - 1 are finite floats
 unfoldable pub floats_finite : (ℕ → ℕ) → ℕ → ℕ → Bool
@@ -160,8 +158,3 @@ offered_of rule h offered =
     (need (offered_right h.n (word offered)) 7
     (need (pair_finite h.model (word offered)) 8
     (need (alphas_equal h.model (word offered)) 9 (ok h)))))
-
--- as the code answers
-unfoldable pub opened_of : Out Head → Opened
-opened_of (ok h) = Book h
-opened_of (no r) = No r

@@ -1,24 +1,23 @@
 -- One turn of each loop of a model and its end, and what the array of sums then holds of each solvent. Assumes nothing.
 use Prim.Native.Nat.{ℕ, zero, suc, ◌+◌, ◌*◌, ◌<◌, ◌≤◌}
 use mathlib.Core.Path.{◌≡◌, refl, ◌∙◌, ap}
-use mathlib.Core.Bool.{Bool, ◌&&◌}
 use mathlib.Core.Logic.{⊎_elim}
 use mathlib.Core.List.{List}
 use native.Mathlib.Nat.{eq-or-lt_of_le}
 use native.Mathlib.Omega.{arith}
-use lib.ListN.{set, length}
+use lib.ListN.{set, length, replicate, length-set, length-replicate, get_or-replicate}
+use lib.Seq.{get_or-set_same, get_or-set_other}
 use lib.Ieee.{Float, nan}
-use Rattle.floats.specs.Small.{is_finite}
 use Rattle.floats.specs.Fold.{fold_to}
-use Rattle.floats.specs.Vector.{at, fill_from}
-use Rattle.floats.proofs.Folds.{fold_turn, all_next}
-use Rattle.floats.proofs.Fills.{fill-turn, fill_from_length, fill_from-at, fill_from_before}
+use Rattle.floats.specs.Vector.{at, fill, fill_from}
+use Rattle.floats.proofs.Folds.{fold_turn}
+use Rattle.floats.proofs.Fills.{fill_from_length, fill_from-at, fill_from_before}
 use Rattle.jet.specs.declared.Jet.{Jet}
 use Rattle.jet.specs.Jets.{add_j, scale_j}
 use Rattle.jet.specs.Planes.{first_two}
 use Rattle.jet.proofs.Sums.{sum_jet_turn}
 use Rattle.jet.proofs.Planes.{two_is}
-use Rattle.excess.specs.Steps.{sums_kept, sums_in, s_in, r_in, SumTurn, SumsTo, GammasTo}
+use Rattle.excess.specs.Steps.{sums_kept, sums_in, s_in, r_in, SumTurn, SumsTo, jet_of, Side, GammasTo}
 
 -- ---- the sums
 
@@ -43,18 +42,56 @@ sums-turn S R x k old p q = record {
 pub sums_done : (S R : ℕ → Jet) (x : ℕ → Float) (k n : ℕ) {e : Jet} {old new : List Float} → k ≡ n → SumsTo S R x k e old new → SumsTo S R x n e old new
 sums_done S R x k n e p = rw e at p
 
+-- ---- Jets side by side
+
+module _ {F : ℕ → Jet} {i W : ℕ} where
+  pub side-same : {z : Jet} → ((v : ℕ) → v < W → z ≡ F (i + v)) → Side F i W (replicate W z)
+  side-same {z} e = record { long = length-replicate W z; jet = λ v l. get_or-replicate W v z _ l ∙ e v l }
+
+-- those before w are those of G already, the others of F still
+pub record Turning (F G : ℕ → Jet) (i w W : ℕ) (l : List Jet) : Type 0 where
+  pub long : length l ≡ W
+  pub turned : (v : ℕ) → v < w → jet_of l v ≡ G (i + v)
+  pub left : (v : ℕ) → w ≤ v → v < W → jet_of l v ≡ F (i + v)
+
+module _ {F G : ℕ → Jet} {i W : ℕ} {l : List Jet} where
+  pub turning-start : Side F i W l → Turning F G i 0 W l
+  turning-start s = record { long = s.long; turned = λ v l. absurd (omega arith); left = λ v z l. s.jet v l }
+
+  pub turning-next : (w : ℕ) {j : Jet} → w < W → j ≡ G (i + w) → Turning F G i w W l → Turning F G i (w + 1) W (set l w j)
+  turning-next w {j} h e t = record {
+    long = length-set l w j ∙ t.long;
+    turned = λ v q. ⊎_elim
+        (λ (p : v ≡ w). rw p (get_or-set_same l w j _ (omega (arith, t.long)) ∙ e))
+        (λ (p : v < w). get_or-set_other l w v j _ (omega arith) ∙ t.turned v p)
+        (eq-or-lt_of_le (omega arith));
+    left = λ v q r. get_or-set_other l w v j _ (omega arith) ∙ t.left v (omega arith) r;
+  }
+
+  pub turning-done : (w : ℕ) → W ≤ w → Turning F G i w W l → Side G i W l
+  turning-done w h t = record { long = t.long; jet = λ v q. t.turned v (omega arith) }
+
 -- ---- ln γ
 
--- the code stores value and slope of L k, and joins whether both are finite
-pub gammas_turn : (L : ℕ → Jet) (k : ℕ) {l : Jet} {f v d : Bool} {lg₀ sl₀ lg sl : List Float} → l ≡ L k → v ≡ is_finite l.v → d ≡ is_finite l.d
-    → GammasTo L k f lg₀ sl₀ lg sl → GammasTo L (k + 1) (f && (v && d)) lg₀ sl₀ (set lg k l.v) (set sl k l.d)
-gammas_turn L k e pv pd q = record {
-  right = all_next _ k refl (rw (pv, pd, e)) q.right;
-  values = fill-turn _ k _ (ap (λ (j : Jet). j.v) e) q.values;
-  slopes = fill-turn _ k _ (ap (λ (j : Jet). j.d) e) q.slopes;
+-- f from i on, behind what stands to there
+fill_more : (f h : ℕ → Float) (i n : ℕ) (old : List Float) → ((w : ℕ) → w < n → h w ≡ f (i + w)) → fill_from h i n (fill f i old) ≡ fill f (i + n) old
+unfolding fill fill_from
+fill_more f h i zero old e = let z : i + 0 ≡ i = omega arith in rw z
+fill_more f h i (suc n) old e =
+    let z : i + suc n ≡ suc (i + n) = omega arith in
+    let p : fill_from h i n (fill f i old) ≡ fill f (i + n) old = fill_more f h i n old (λ w l. e w (omega arith)) in
+    let q : h n ≡ f (i + n) = e n (omega arith) in
+    rw (z, p, q)
+
+-- W solvents more, stored one array after the other
+pub gammas_more : (L : ℕ → Jet) (i W : ℕ) (l : List Jet) {lg₀ sl₀ lg sl lg' sl' : List Float} → Side L i W l → lg' ≡ fill_from (λ w. (jet_of l w).v) i W lg
+    → sl' ≡ fill_from (λ w. (jet_of l w).d) i W sl → GammasTo L i lg₀ sl₀ lg sl → GammasTo L (i + W) lg₀ sl₀ lg' sl'
+gammas_more L i W l {lg₀} {sl₀} p v d g = record {
+  values = v ∙ ap (fill_from (λ w. (jet_of l w).v) i W) g.values ∙ fill_more (λ k. (L k).v) (λ w. (jet_of l w).v) i W lg₀ (λ w h. ap (λ (j : Jet). j.v) (p.jet w h));
+  slopes = d ∙ ap (fill_from (λ w. (jet_of l w).d) i W) g.slopes ∙ fill_more (λ k. (L k).d) (λ w. (jet_of l w).d) i W sl₀ (λ w h. ap (λ (j : Jet). j.d) (p.jet w h));
 }
 
-pub gammas_done : (L : ℕ → Jet) (k n : ℕ) {f : Bool} {lg₀ sl₀ lg sl : List Float} → k ≡ n → GammasTo L k f lg₀ sl₀ lg sl → GammasTo L n f lg₀ sl₀ lg sl
+pub gammas_done : (L : ℕ → Jet) (k n : ℕ) {lg₀ sl₀ lg sl : List Float} → k ≡ n → GammasTo L k lg₀ sl₀ lg sl → GammasTo L n lg₀ sl₀ lg sl
 gammas_done L k n e p = rw e at p
 
 -- ---- the array of sums

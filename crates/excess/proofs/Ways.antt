@@ -1,78 +1,28 @@
--- The ways out of a model: its loop's one test of ln γ and slopes is the definition's two, and the questions ahead of it. Assumes nothing.
-use Prim.Native.Nat.{ℕ, zero, suc, ◌<◌}
-use mathlib.Core.Path.{◌≡◌, refl, ◌∙◌, ap, sym}
-use mathlib.Core.Bool.{Bool, true, false, ◌&&◌}
+-- What a model leaves in its arrays is the state of its definition. Assumes nothing.
+use Prim.Native.Nat.{ℕ, ◌<◌, ◌≤◌}
+use mathlib.Core.Path.{◌≡◌, ◌∙◌, ap}
+use mathlib.Core.Bool.{Bool}
 use mathlib.Core.List.{List}
 use lib.Ieee.{Float}
-use Rattle.floats.specs.Small.{is_finite}
-use Rattle.floats.specs.Fold.{all_to}
-use Rattle.floats.specs.Vector.{places, zeros8}
-use Rattle.floats.specs.Outcome.{Out, ok, no, need}
+use Rattle.floats.specs.Vector.{at, vec, zeros8}
 use Rattle.floats.proofs.Folds.{all_cong}
-use Rattle.floats.proofs.Fills.{fill_cong}
-use Rattle.floats.proofs.Outcomes.{need_yes, need-no}
-use Rattle.thermo_types.specs.declared.Verdict.{Verdict}
-use Rattle.thermo_types.specs.declared.Verdict.TheVariants.{Passed, Refused}
-use Rattle.thermo_types.specs.Verdicts.{verdict_of}
+use Rattle.floats.proofs.Fills.{fill_cong, vec-at}
 use Rattle.thermo_types.specs.Composition.{all_finite}
 use Rattle.jet.specs.declared.Jet.{Jet}
 use Rattle.jet.proofs.Near.{◌≃◌}
-use Rattle.excess.specs.declared.Energies.{Energies}
-use Rattle.excess.specs.State.{Excess, state_with, state_from, with_state}
-use Rattle.excess.specs.Answers.{Gives}
+use Rattle.excess.specs.State.{state_from, finite_state}
 use Rattle.excess.specs.Steps.{GammasTo}
-use Rattle.excess.proofs.Passing.{gives, state-passed, state-refused}
 
--- ---- question 25
-exchange : (a b p q : Bool) → ((a && b) && (p && q)) ≡ ((a && p) && (b && q))
-exchange true true p q = refl
-exchange true false true q = refl
-exchange true false false q = refl
-exchange false b p q = refl
-
-all_both : (p q : ℕ → Bool) (n : ℕ) → all_to (λ i. p i && q i) n ≡ (all_to p n && all_to q n)
-unfolding all_to
-all_both p q zero = refl
-all_both p q (suc n) = rw (all_both p q n) (exchange (all_to p n) (all_to q n) (p n) (q n))
-
-need-both : {A : Type 0} (a b : Bool) (r : ℕ) (o : Out A) → need a r (need b r o) ≡ need (a && b) r o
-unfolding need
-need-both true b r o = refl
-need-both false b r o = refl
-
--- the code's L, lg and sl; e and M are the definition's g^E / RT and ln γ
-module _ (e : Jet) (M : ℕ → Jet) (n : ℕ) (t : Float) (L : ℕ → Jet) (same : (i : ℕ) → i < n → L i ≡ M i) {f : Bool} {lg sl : List Float}
-    (pl : GammasTo L n f zeros8 zeros8 lg sl) where
-  test : f ≡ (all_finite (λ i. (M i).v) n && all_finite (λ i. (M i).d) n)
-  test = pl.right ∙ all_cong n (λ i l. rw (same i l)) ∙ all_both (λ i. is_finite (M i).v) (λ i. is_finite (M i).d) n
-
-  asked : {A : Type 0} (o : Out A) → need (all_finite (λ i. (M i).v) n) 25 (need (all_finite (λ i. (M i).d) n) 25 o) ≡ need f 25 o
-  asked o = need-both (all_finite (λ i. (M i).v) n) (all_finite (λ i. (M i).d) n) 25 o ∙ rw (← test)
-
-  pub all_finite_lem : {g : Jet} → g ≡ e → f ≡ true → {r : Energies} {lg' sl' : List Float} → Gives (state_with g t lg sl) r lg' sl'
-      → Gives (state_from e M n t) r lg' sl'
-  unfolding state_from
-  all_finite_lem p q g =
-      gives (asked _ ∙ need_yes 25 _ q)
-      (rw (
-        p,
-        pl.values ∙ fill_cong _ _ n zeros8 (λ i l. ap (λ (j : Jet). j.v) (same i l)),
-        pl.slopes ∙ fill_cong _ _ n zeros8 (λ i l. ap (λ (j : Jet). j.d) (same i l)),
-      ) at g)
-
-  pub not_all_finite : f ≡ false → {r : Energies} {lg' sl' : List Float} → Gives (no 25) r lg' sl' → Gives (state_from e M n t) r lg' sl'
-  unfolding state_from
-  not_all_finite q g = gives (asked _ ∙ need-no 25 _ q) g
-
--- ---- the questions ahead of a model F
-module _ (t : Float) (x : ℕ → Float) (n : ℕ) (F : ℕ → Out Excess) {v : Verdict} {k : ℕ} {r : Energies} {lg sl : List Float} where
-  pub asked-passed : v ≡ verdict_of (with_state t x (places n) (ok (places n))) → v ≡ Passed → k ≡ places n → Gives (F k) r lg sl
-      → Gives (with_state t x (places n) (F (places n))) r lg sl
-  asked-passed p q e g = gives (state-passed t x (places n) _ (sym q ∙ p)) (rw e at g)
-
-  pub asked-refused : v ≡ verdict_of (with_state t x (places n) (ok (places n))) → v ≡ Refused k → Gives (no k) r lg sl
-      → Gives (with_state t x (places n) (F (places n))) r lg sl
-  asked-refused p q g = gives (state-refused t x (places n) _ (sym q ∙ p)) g
+-- the code's L, lg, sl and g; e and M are the definition's g^E / RT and ln γ
+pub state-filled : (e : Jet) (M : ℕ → Jet) (n : ℕ) (t : Float) (L : ℕ → Jet) {g : Jet} {lg sl : List Float} → n ≤ 8 → ((i : ℕ) → i < n → L i ≡ M i)
+    → g ≡ e → GammasTo L n zeros8 zeros8 lg sl → state_from e M n t ≡ finite_state g n t lg sl
+unfolding state_from finite_state
+state-filled e M n t L {g} {lg} {sl} n8 same pg pl =
+    let v : lg ≡ vec (λ i. (M i).v) n = pl.values ∙ fill_cong _ _ n zeros8 (λ i l. ap (λ (j : Jet). j.v) (same i l)) in
+    let d : sl ≡ vec (λ i. (M i).d) n = pl.slopes ∙ fill_cong _ _ n zeros8 (λ i l. ap (λ (j : Jet). j.d) (same i l)) in
+    let a : all_finite (at lg) n ≡ all_finite (λ i. (M i).v) n = all_cong n (λ i l. rw (v, vec-at (λ i. (M i).v) n i n8 l)) in
+    let b : all_finite (at sl) n ≡ all_finite (λ i. (M i).d) n = all_cong n (λ i l. rw (d, vec-at (λ i. (M i).d) n i n8 l)) in
+    rw (pg, a, b, v, d)
 
 -- ---- a state has values and slopes of ln γ alone
 pub state-near : {e e' : Jet} (L L' : ℕ → Jet) (n : ℕ) (t : Float) → e ≡ e' → ((i : ℕ) → i < n → L i ≃ L' i) → state_from e L n t ≡ state_from e' L' n t

@@ -3,7 +3,7 @@ use Rattle.std.specs.Prelude.{ℕ, List, Float}
 use Rattle.std.specs.Float.Ieee.{neg, lt}
 use Rattle.floats.specs.Arithmetic.{◌⊕◌, ◌⊖◌, ◌⊗◌, ◌⊘◌, #, 0f, 2f}
 use Rattle.floats.specs.Small.{is_finite}
-use Rattle.floats.specs.Vector.{vec}
+use Rattle.floats.specs.Vector.{at, vec}
 use Rattle.floats.specs.Outcome.{Out, ok, need}
 use Rattle.thermo_types.specs.Composition.{all_finite, with_fractions}
 use Rattle.jet.specs.declared.Jet.{Jet}
@@ -56,6 +56,10 @@ state_with e t lg sl =
       entropy = entropy_of e t;
       heat_capacity = heat_capacity_of e t;
     })))))
+
+-- the same where the first n ln γ and slopes are finite (25)
+unfoldable pub finite_state : Jet → ℕ → Float → List Float → List Float → Out Excess
+finite_state e n t lg sl = need (all_finite (at lg) n) 25 (need (all_finite (at sl) n) 25 (state_with e t lg sl))
 
 -- the state of e and ln γ as jets: every ln γ and every slope is finite too (25)
 unfoldable pub state_from : Jet → (ℕ → Jet) → ℕ → Float → Out Excess

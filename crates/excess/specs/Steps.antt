@@ -1,7 +1,7 @@
--- What a model's private functions leave: of each solvent a sum S and a Jet R in one array of 32, and the partial sums of x_i R_i. Assumes nothing.
-use Rattle.std.specs.Prelude.{ℕ, ◌+◌, ◌*◌, ◌≡◌, Bool, ◌&&◌, List, [], ◌∷◌, Float}
-use Rattle.floats.specs.Small.{is_finite}
-use Rattle.floats.specs.Fold.{fold_to, all_to}
+-- What a model's private functions leave: Jets side by side; of each solvent a sum S and a Jet R in one array of 32, and the partial sums of x_i R_i. Assumes nothing.
+use Rattle.std.specs.Prelude.{ℕ, ◌+◌, ◌*◌, ◌<◌, ◌≡◌, List, [], ◌∷◌, length, get_or, Float}
+use Rattle.std.specs.Float.{nan}
+use Rattle.floats.specs.Fold.{fold_to}
 use Rattle.floats.specs.Vector.{at, fill, fill_from}
 use Rattle.jet.specs.declared.Jet.{Jet}
 use Rattle.jet.specs.Jets.{add_j, scale_j, two_j, sum_jet_to}
@@ -33,8 +33,16 @@ pub record SumsTo (S R : ℕ → Jet) (x : ℕ → Float) (k : ℕ) (r : Jet) (o
   pub total : r ≡ sum_jet_to (λ i. scale_j (R i) (x i)) k
   pub kept : new ≡ sums_in S R k old
 
--- ln γ up to k, and whether all of it is finite
-pub record GammasTo (L : ℕ → Jet) (k : ℕ) (finite : Bool) (lg₀ sl₀ lg sl : List Float) : Type 0 where
-  pub right : finite ≡ all_to (λ i. is_finite (L i).v && is_finite (L i).d) k
+-- Jet w of an array; past the end NaNs, as the code's own reading has it
+abbrev pub jet_of : List Jet → ℕ → Jet
+jet_of l w = get_or l w (record { v = nan; d = nan; dd = nan })
+
+-- the W Jets of an array are F i to F (i + W - 1)
+pub record Side (F : ℕ → Jet) (i W : ℕ) (l : List Jet) : Type 0 where
+  pub long : length l ≡ W
+  pub jet : (w : ℕ) → w < W → jet_of l w ≡ F (i + w)
+
+-- ln γ up to k, value and slope
+pub record GammasTo (L : ℕ → Jet) (k : ℕ) (lg₀ sl₀ lg sl : List Float) : Type 0 where
   pub values : lg ≡ fill (λ i. (L i).v) k lg₀
   pub slopes : sl ≡ fill (λ i. (L i).d) k sl₀

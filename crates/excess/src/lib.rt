@@ -3,19 +3,19 @@
 #![tactic(auto)]
 
 ghost use Rattle.std.specs.Prelude.{◌≡◌};
-ghost use Rattle.floats.specs.Vector.{at, places};
-ghost use Rattle.floats.specs.Outcome.{ok, no};
-ghost use Rattle.thermo_types.specs.Verdicts.{verdict_of};
-ghost use Rattle.excess.specs.State.{state_with, with_state};
+ghost use Rattle.floats.specs.Vector.{at, places, zeros8};
+ghost use Rattle.floats.specs.Outcome.{ok};
+ghost use Rattle.outcome.specs.Refused.{outcome_of};
+ghost use Rattle.excess.specs.State.{state_with, finite_state, with_state};
 ghost use Rattle.excess.specs.Answers.{Gives, energies_at, energies_finite};
 
 use jet::Jet;
-use thermo_types::{Temperature, Verdict};
+use outcome::Refusal;
+use thermo_types::Temperature;
 
-// g^E/RT; g^E and h^E in J/mol, s^E and c_p^E in J/(mol K). All 0.0 where the verdict is a refusal.
+// g^E/RT; g^E and h^E in J/mol, s^E and c_p^E in J/(mol K).
 #[derive(Clone, Copy)]
 pub struct Energies {
-    pub verdict: Verdict,
     pub reduced: f64,
     pub gibbs: f64,
     pub enthalpy: f64,
@@ -27,15 +27,11 @@ pub struct Energies {
 const GAS_CONSTANT: f64 = 8.31446261815324;
 
 // T is finite and positive (13), and the first n of x are mole fractions (15, 16, 18).
-pub fn with_state(t: Temperature, x: &[f64; 8], n: usize) -> Verdict
-    ensures { result ≡ verdict_of (with_state t.0 (at x.now) (places n) (ok (places n))) }
+pub fn with_state(t: Temperature, x: &[f64; 8], n: usize) -> Result<(), Refusal>
+    ensures { outcome_of result ≡ with_state t.0 (at x.now) (places n) (ok tt) }
 {
-    let v = t.value();
-    if !floats::is_finite(v) {
-        return Verdict::Refused(13);
-    }
-    if !(0.0 < v) {
-        return Verdict::Refused(13);
+    if !floats::positive(t.value()) {
+        return Err(Refusal::Temperature);
     }
     thermo_types::with_fractions(x, n)
 }
@@ -46,10 +42,9 @@ fn energies_at(e: Jet, t: f64) -> Energies
     let gibbs = GAS_CONSTANT * t * e.v;
     let enthalpy = -GAS_CONSTANT * t * t * e.d;
     Energies {
-        verdict: Verdict::Passed,
         reduced: e.v,
-        gibbs: gibbs,
-        enthalpy: enthalpy,
+        gibbs,
+        enthalpy,
         entropy: (enthalpy - gibbs) / t,
         heat_capacity: -GAS_CONSTANT * (2.0 * t * e.d + t * t * e.dd),
     }
@@ -64,29 +59,45 @@ fn energies_finite(e: Energies) -> bool
         & floats::is_finite(e.entropy)
 }
 
-// The refusal `number`: all 0.0.
-pub fn refuse(number: u64, values: &mut [f64; 8], slopes: &mut [f64; 8]) -> Energies
-    ensures { Gives (no number) result values.new slopes.new }
+// What the arrays of a refusal hold: 0.0 everywhere.
+pub fn clear(values: &mut [f64; 8], slopes: &mut [f64; 8])
+    ensures cleared_values { values.new ≡ zeros8 }
+    ensures cleared_slopes { slopes.new ≡ zeros8 }
 {
     *values = [0.0; 8];
     *slopes = [0.0; 8];
-    Energies {
-        verdict: Verdict::Refused(number),
-        reduced: 0.0,
-        gibbs: 0.0,
-        enthalpy: 0.0,
-        entropy: 0.0,
-        heat_capacity: 0.0,
-    }
 }
 
 // The state of e = g^E/(RT) and of the ln γ and slopes in the arrays; 25 where an energy isn't finite.
-pub fn state(e: Jet, t: Temperature, values: &mut [f64; 8], slopes: &mut [f64; 8]) -> Energies
+pub fn state(
+    e: Jet,
+    t: Temperature,
+    values: &mut [f64; 8],
+    slopes: &mut [f64; 8],
+) -> Result<Energies, Refusal>
     ensures { Gives (state_with e t.0 values.old slopes.old) result values.new slopes.new }
 {
     let r = energies_at(e, t.value());
-    if energies_finite(r) {
-        return r;
+    if !energies_finite(r) {
+        clear(values, slopes);
+        return Err(Refusal::ResultNotFinite);
     }
-    refuse(25, values, slopes)
+    Ok(r)
+}
+
+// The same where the first n ln γ and slopes are finite, else 25.
+pub fn finite_state(
+    e: Jet,
+    n: usize,
+    t: Temperature,
+    values: &mut [f64; 8],
+    slopes: &mut [f64; 8],
+) -> Result<Energies, Refusal>
+    ensures { Gives (finite_state e (places n) t.0 values.old slopes.old) result values.new slopes.new }
+{
+    if !(thermo_types::all_finite(values, n) && thermo_types::all_finite(slopes, n)) {
+        clear(values, slopes);
+        return Err(Refusal::ResultNotFinite);
+    }
+    state(e, t, values, slopes)
 }

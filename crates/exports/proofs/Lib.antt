@@ -1,2 +1,3 @@
 -- Laws of exports. Assumes nothing.
-pub mod Ways
+mod Ways
+mod States

@@ -1,112 +1,72 @@
--- What the exports learn from a temperature, a book and a verdict, and what each of their ways out gives. Assumes nothing.
-use Prim.Native.Nat.{ℕ, ◌≤◌, ◌<◌}
-use mathlib.Core.Path.{◌≡◌, refl, ap, ◌∙◌}
-use mathlib.Core.List.{List, []}
+-- The first eight entries of a slice, and the numbers of results. Assumes nothing.
+use Prim.Native.Nat.{ℕ, ◌+◌, ◌-◌, ◌≤◌, ◌<◌, min}
+use mathlib.Core.Path.{◌≡◌, refl, sym, ◌∙◌, ap}
+use mathlib.Core.Bool.{Bool, true, false}
+use mathlib.Core.List.{List, ◌++◌}
 use native.Mathlib.Omega.{arith}
-use borrow.Author.Tests.{le-leb, lt-leb}
-use lib.ListN.{set, replicate, length}
-use lib.Ieee.{Float}
-use Rattle.floats.specs.Arithmetic.{0f}
-use Rattle.floats.specs.Vector.{at, fill, fill_from, places}
+use borrow.Author.Tests.{ltb-true, ltb-false}
+use lib.Dec.{ltb}
+use lib.Ieee.{Float, nan}
+use lib.ListN.{length, take, drop, get_or, replicate, length-append, length-drop, length-replicate, get_or-eq_default}
+use lib.Seq.{ext_get_or, length-take-le}
+use Rattle.std.proofs.lemmas.List.{get_or_append_left, get_or-append_right, get_or-take, get_or-drop, get_or-replicate}
+use Rattle.std.specs.Prelude.{Result, Ok, Err}
+use Rattle.floats.specs.Vector.{at, vec, zeros8, places}
 use Rattle.floats.specs.Outcome.{Out, ok, no, bind}
-use Rattle.thermo_types.specs.declared.Verdict.TheVariants.{Passed, Refused}
-use Rattle.thermo_types.specs.declared.Normalized.{Normalized}
+use Rattle.floats.proofs.Fills.{vec-at, fill_length}
+use Rattle.floats.proofs.Outcomes.{refused}
+use Rattle.outcome.specs.declared.Refusal.{Refusal}
+use Rattle.outcome.specs.Refused.{outcome_of, number_in}
 use Rattle.thermo_types.specs.declared.Temperature.{Temperature}
-use Rattle.thermo_types.specs.Verdicts.{normalized_answer}
-use Rattle.thermo_types.specs.Composition.{normalize_of}
-use Rattle.thermo_types.proofs.Normalizing.{normalized_passed, normalized_refused}
-use Rattle.liquid.specs.declared.VaporPressure.{VaporPressure}
-use Rattle.liquid.specs.Vapor.{Vapor, vapor_answer}
-use Rattle.records.specs.Offered.{with_pair}
-use Rattle.records.specs.Parameters.{parameters_of}
-use Rattle.records.proofs.Offered.{copy-nothing}
-use Rattle.excess.specs.declared.Energies.{Energies}
-use Rattle.excess.specs.State.{Excess}
-use Rattle.excess.specs.Answers.{energies_of, excess_ln_gammas, excess_slopes, Gives}
-use Rattle.thermo_models.specs.declared.Tabled.{Tabled}
-use Rattle.thermo_models.specs.Activity.{excess_of, excess_on, Stands}
-use Rattle.thermo_models.specs.Mixture.{mixture_of}
-use Rattle.thermo_models.specs.Validity.{validity_of}
-use Rattle.thermo_models.proofs.Answers.{excess_fresh}
-use Rattle.thermo_models.specs.declared.Assessment.{Assessment}
-use Rattle.exports.specs.Slices.{eight_of, filled_front, outcome_number, fractions_written, NormalizedGives}
-use Rattle.exports.specs.Models.{vapor_written, VaporGives, Assessed, energies_stored, excess_written, ExcessGives, excess_in, excess_from}
+use Rattle.thermo_types.specs.Quantities.{kelvin}
+use Rattle.exports.specs.Slices.{eight_of, outcome_number, repeated}
 
--- ---- `normalize` of the first eight entries of a slice x
-module _ (x : List Float) (n : ℕ) {a : List Float} {y : Normalized} (ea : a ≡ eight_of x) (ey : y ≡ normalized_answer (normalize_of (at a) (places n))) where
-  same : y ≡ normalized_answer (normalize_of (at (eight_of x)) (places n))
-  same = rw ea at ey
+-- ---- the entries that a slice has, then NaN
+module _ (s : List Float) {m : ℕ} (e : m ≡ places (length s)) {f : List Float} (h : f ≡ take m s) where
+  abbrev all : List Float
+  all = f ++ drop m (replicate 8 nan)
 
-  pub normalize-no : {m : ℕ} → y.verdict ≡ Refused m → NormalizedGives (normalize_of (at (eight_of x)) (places n)) m x x
-  unfolding outcome_number fractions_written
-  normalize-no q = let e = normalized_refused _ same q in record { number = rw e; fractions = rw e }
+  few : length f ≡ m
+  few = ap (length {A = Float}) h ∙ length-take-le m s (omega arith)
 
-  module _ (q : y.verdict ≡ Passed) where
-    pub normalize-short : length x < 8 → NormalizedGives (normalize_of (at (eight_of x)) (places n)) 0 x x
-    unfolding outcome_number fractions_written filled_front
-    normalize-short h = let e = normalized_passed _ same q in record { number = rw e; fractions = rw (e, lt-leb 8 _ h) }
+  entry : (i : ℕ) → i < 8 → get_or all i nan ≡ at s i
+  entry i q = pick (ltb i m) refl
+    where
+      pick : (b : Bool) → ltb i m ≡ b → get_or all i nan ≡ at s i
+      pick true t =
+          let l : i < m = ltb-true i m t in
+          get_or_append_left f _ nan i (omega (arith, few)) ∙ ap (λ (z : List Float). get_or z i nan) h ∙ get_or-take m s i nan l
+      pick false t =
+          let l : m ≤ i = ltb-false i m t in
+          let past : length s ≤ i = omega arith in
+          get_or-append_right f _ m i nan few l ∙ get_or-drop m (replicate 8 nan) (i - m) nan
+          ∙ get_or-replicate 8 (m + (i - m)) nan nan (omega arith) ∙ sym (get_or-eq_default s nan past)
 
-    pub normalize-stored : {z : List Float} → 8 ≤ length x → z ≡ fill (at y.fractions) 8 x → NormalizedGives (normalize_of (at (eight_of x)) (places n)) 0 x z
-    unfolding outcome_number fractions_written filled_front
-    normalize-stored h s = let e = normalized_passed _ same q in record { number = rw e; fractions = rw (e, le-leb 8 _ h) s }
+  long : length all ≡ 8
+  long = omega (arith, length-append f (drop m (replicate 8 nan)), length-drop m (replicate 8 nan), length-replicate 8 nan, few)
 
--- ---- vapor pressure
-pub vapor_as : {o o' : Out Vapor} {r : ℕ} {old new : List Float} → o ≡ o' → VaporGives o' r old new → VaporGives o r old new
-vapor_as e h = rw e h
+  pub eight_is : all ≡ eight_of s
+  unfolding eight_of
+  eight_is = ext_get_or nan all (vec (at s) 8) (long ∙ sym (fill_length (at s) 8 zeros8)) (λ i q. entry i (omega (arith, long)) ∙ sym (vec-at (at s) 8 i (omega arith) (omega (arith, long))))
 
-pub vapor-none : {o : Out Vapor} {r : ℕ} {old : List Float} → o ≡ no r → VaporGives o r old old
-unfolding outcome_number vapor_written
-vapor-none e = rw e (record { number = refl; floats = refl })
+-- ---- numbers
+pub number_then : {A B : Type 0} (r : Result A Refusal) (b : B) → number_in r ≡ outcome_number (bind (outcome_of r) (λ _. ok b))
+unfolding outcome_number bind
+number_then (Ok a) b = refl
+number_then (Err r) b = refl
 
-pub vapor-refused : (o : Out Vapor) {v : VaporPressure} {r : ℕ} {old : List Float} → v ≡ vapor_answer o → v.verdict ≡ Refused r → VaporGives o r old old
-unfolding vapor_answer outcome_number vapor_written
-vapor-refused (ok a) e q = let z : ◌≡◌ {A = ℕ} 0 1 = cc (ap (λ (v : VaporPressure). v.verdict) e) in absurd (omega arith)
-vapor-refused (no r) e q = record { number = cc (ap (λ (v : VaporPressure). v.verdict) e); floats = refl }
+pub number-no : {A : Type 0} (r : Result A Refusal) {m : ℕ} → outcome_of r ≡ no m → number_in r ≡ m
+unfolding outcome_number
+number-no (Ok a) e = absurd (refused (sym e))
+number-no (Err r) e = cc
 
-pub vapor-given : (o : Out Vapor) {v : VaporPressure} {old new : List Float} → v ≡ vapor_answer o → v.verdict ≡ Passed
-    → new ≡ set (set (set (set old 0 v.pressure) 1 v.ln_pressure) 2 v.d_ln_pressure_dt) 3 v.d2_ln_pressure_dt2 → VaporGives o 0 old new
-unfolding vapor_answer outcome_number vapor_written
-vapor-given (ok a) e q w = record { number = refl; floats = w ∙ rw e }
-vapor-given (no r) e q w = let z : ◌≡◌ {A = ℕ} 0 1 = cc (ap (λ (v : VaporPressure). v.verdict) e) in absurd (omega arith)
+-- how often, with a temperature and without
+pub repeated-ok : (o : Out Float) {t : Temperature} (count : ℕ) → ok t ≡ bind o (λ x. ok (kelvin x)) → repeated o count ≡ count
+unfolding bind repeated
+repeated-ok (ok x) count e = refl
+repeated-ok (no r) count e = absurd (refused (sym e))
 
--- ---- excess
-pub excess_as : {o o' : Out Assessed} {r : ℕ} {old new : List Float} → o ≡ o' → ExcessGives o' r old new → ExcessGives o r old new
-excess_as e h = rw e h
-
-pub excess-none : {o : Out Assessed} {r : ℕ} {old : List Float} → o ≡ no r → ExcessGives o r old old
-unfolding outcome_number excess_written
-excess-none e = rw e (record { number = refl; floats = refl })
-
-abbrev outcome : Out Excess → Assessment → Out Assessed
-outcome o a = bind o (λ (s : Excess). ok (record { excess = s; assessment = a }))
-
-module _ {e : Energies} {lg sl : List Float} (a : Assessment) where
-  excess-refused : (o : Out Excess) {r : ℕ} {old : List Float} → Gives o e lg sl → e.verdict ≡ Refused r → ExcessGives (outcome o a) r old old
-  unfolding bind energies_of outcome_number excess_written
-  excess-refused (ok s) g q = let z : ◌≡◌ {A = ℕ} 0 1 = cc (ap (λ (e : Energies). e.verdict) g.energies) in absurd (omega arith)
-  excess-refused (no r) g q = record { number = cc (ap (λ (e : Energies). e.verdict) g.energies); floats = refl }
-
-  excess-given : (o : Out Excess) {old new : List Float} → Gives o e lg sl → e.verdict ≡ Passed
-      → new ≡ energies_stored e a (fill_from (at sl) 8 8 (fill_from (at lg) 0 8 old)) → ExcessGives (outcome o a) 0 old new
-  unfolding bind energies_of excess_ln_gammas excess_slopes outcome_number excess_written
-  excess-given (ok s) g q w = record { number = refl; floats = w ∙ rw (g.energies, g.values, g.slopes) }
-  excess-given (no r) g q w = let z : ◌≡◌ {A = ℕ} 0 1 = cc (ap (λ (e : Energies). e.verdict) g.energies) in absurd (omega arith)
-
--- from the book's parameters, no pair offered, by a table made for t
-module _ (book : List ℕ) (n : ℕ) (x : List Float) {P : List Float} {t : Temperature} {s : Tabled} {table : List Float} (p : P ≡ parameters_of (with_pair n book []) n) (h : Stands book P n t s (replicate 512 0f) table)
-    {e : Energies} {lg sl : List Float} (g : Gives (excess_on table s x) e lg sl) where
-  known : Gives (excess_of book (parameters_of book n) n t.0 x) e lg sl
-  known = let k = ap (λ (E : List Float → Out Excess). E x) (excess_fresh h) in rw (p, copy-nothing) at (rw k at g)
-
-  pub excess-no : {r : ℕ} {old : List Float} → e.verdict ≡ Refused r → ExcessGives (excess_in (mixture_of book n) t.0 x) r old old
-  unfolding excess_in
-  excess-no q = excess-refused _ _ known q
-
-  pub excess-ok : {a : Assessment} {old new : List Float} → e.verdict ≡ Passed → a ≡ validity_of (with_pair n book []) n t.0 x
-      → new ≡ energies_stored e a (fill_from (at sl) 8 8 (fill_from (at lg) 0 8 old)) → ExcessGives (excess_in (mixture_of book n) t.0 x) 0 old new
-  unfolding excess_in
-  excess-ok q v w = excess-given _ _ known q (rw (v, copy-nothing) at w)
-
--- a book has at most eight solvents
-pub excess-few : (book : List ℕ) (n : ℕ) (t : Float) (x : List Float) {r : ℕ} {old new : List Float} → n ≤ 8 → ExcessGives (excess_from book (places n) t x) r old new → ExcessGives (excess_from book n t x) r old new
-excess-few book n t x l h = let e : places n ≡ n = omega arith in rw e at h
+pub repeated-no : (o : Out Float) {r : ℕ} (count : ℕ) → no r ≡ bind o (λ x. ok (kelvin x)) → repeated o count ≡ 0
+unfolding bind repeated
+repeated-no (ok x) count e = absurd (refused e)
+repeated-no (no r) count e = refl

@@ -3,12 +3,12 @@ use Rattle.std.specs.Prelude.{ℕ, ◌≡◌, Bool, cond, List, set, Float}
 use Rattle.floats.specs.Arithmetic.{0f, 1f, 2f}
 use Rattle.floats.specs.Vector.{at, fill_from}
 use Rattle.floats.specs.Outcome.{Out, ok, no, bind}
-use Rattle.thermo_types.specs.Quantities.{positive_of}
+use Rattle.thermo_types.specs.Quantities.{temperature_of}
 use Rattle.book.specs.Book.{book_of}
 use Rattle.liquid.specs.Vapor.{Vapor, vapor_pressure_of}
 use Rattle.excess.specs.declared.Energies.{Energies}
 use Rattle.excess.specs.State.{Excess}
-use Rattle.excess.specs.Answers.{energies_of}
+use Rattle.excess.specs.Answers.{energies_in}
 use Rattle.thermo_models.specs.declared.Assessment.{Assessment}
 use Rattle.thermo_models.specs.declared.ValidityStatus.{ValidityStatus}
 use Rattle.thermo_models.specs.declared.ValidityStatus.TheVariants.{Unassessed, WithinDeclaredDomain, Extrapolated}
@@ -20,7 +20,7 @@ use Rattle.exports.specs.Slices.{eight_of, outcome_number}
 
 -- t (13), then the correlation's (22, 25)
 unfoldable pub vapor_from : List ℕ → ℕ → Float → Out Vapor
-vapor_from book i t = bind (positive_of t 13) (λ v. vapor_pressure_of (vapor_record book i) v)
+vapor_from book i t = bind (temperature_of t) (λ T. vapor_pressure_of (vapor_record book i) T.0)
 
 -- the book's questions first
 unfoldable pub vapor_at : List ℕ → ℕ → Float → Out Vapor
@@ -28,7 +28,7 @@ vapor_at book i t = bind (book_of book) (λ h. vapor_from book i t)
 
 -- p, ln p and its two derivatives in the first four entries; a refusal leaves the slice as it was
 unfoldable pub vapor_written : Out Vapor → List Float → List Float
-vapor_written (ok v) old = set (set (set (set old 0 v.pressure) 1 v.ln_pressure) 2 v.slope) 3 v.curvature
+vapor_written (ok v) old = set (set (set (set old 0 v.pressure) 1 v.ln_pressure) 2 v.d_ln_pressure_dt) 3 v.d2_ln_pressure_dt2
 vapor_written (no r) old = old
 
 pub record VaporGives (o : Out Vapor) (r : ℕ) (old new : List Float) : Type 0 where
@@ -47,7 +47,7 @@ excess_in m t x = bind (m.excess t x) (λ e. ok (record { excess = e; assessment
 
 -- t (13) first
 unfoldable pub excess_from : List ℕ → ℕ → Float → List Float → Out Assessed
-excess_from book n t x = bind (positive_of t 13) (λ v. excess_in (mixture_of book n) v (eight_of x))
+excess_from book n t x = bind (temperature_of t) (λ T. excess_in (mixture_of book n) T.0 (eight_of x))
 
 -- the book's questions first
 unfoldable pub excess_at : List ℕ → Float → List Float → Out Assessed
@@ -71,7 +71,7 @@ energies_stored e a l =
 -- ln γ in entries 0 to 7, its slopes in 8 to 15, then the rest; a refusal leaves the slice as it was
 unfoldable pub excess_written : Out Assessed → List Float → List Float
 excess_written (ok s) old =
-    energies_stored (energies_of (ok s.excess)) s.assessment (fill_from (at s.excess.slopes) 8 8 (fill_from (at s.excess.ln_gamma) 0 8 old))
+    energies_stored (energies_in s.excess) s.assessment (fill_from (at s.excess.slopes) 8 8 (fill_from (at s.excess.ln_gamma) 0 8 old))
 excess_written (no r) old = old
 
 pub record ExcessGives (o : Out Assessed) (r : ℕ) (old new : List Float) : Type 0 where

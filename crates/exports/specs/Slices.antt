@@ -2,9 +2,7 @@
 use Rattle.std.specs.Prelude.{ℕ, ◌+◌, ◌≡◌, cond, List, leb, length, Float}
 use Rattle.floats.specs.Vector.{at, vec, fill}
 use Rattle.floats.specs.Outcome.{Out, ok, no}
-use Rattle.thermo_types.specs.declared.Verdict.{Verdict}
 use Rattle.book.specs.declared.Head.{Head}
-use Rattle.thermo_types.specs.declared.Verdict.TheVariants.{Passed, Refused}
 
 -- the first eight entries, NaN past the end
 unfoldable pub eight_of : List Float → List Float
@@ -18,10 +16,6 @@ filled_front f count old = cond (leb count (length old)) (fill f count old) old
 unfoldable pub outcome_number : {A : Type 0} → Out A → ℕ
 outcome_number (ok a) = 0
 outcome_number (no r) = r
-
-unfoldable pub verdict_number : Verdict → ℕ
-verdict_number Passed = 0
-verdict_number (Refused r) = r
 
 -- normalised fractions in a slice; a refusal leaves it as it was
 unfoldable pub fractions_written : Out (List Float) → List Float → List Float

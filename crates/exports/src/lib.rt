@@ -1,26 +1,25 @@
 // The functions under C names, for the comparison with the reference and for benchmarks. A slice passes as a pointer and a length.
 #![tactic(auto)]
 
-ghost use Rattle.std.specs.Prelude.{◌≡◌, cond, ◌≤◌, ◌+◌, leb, length, set};
+ghost use Rattle.std.specs.Prelude.{◌≡◌, cond, ◌≤◌, leb, length, set};
 ghost use Rattle.floats.specs.Small.{is_finite, max_of, min_of, abs_of, bits_of, float_of};
-ghost use Rattle.floats.specs.Vector.{at, fill, fill_from, places};
+ghost use Rattle.floats.specs.Vector.{at, fill_from, places};
 ghost use Rattle.floats.specs.Outcome.{ok, need};
+ghost use Rattle.outcome.specs.Refused.{number_in, outcome_of};
 ghost use Rattle.numerics.specs.Numerics.{exp_of, ln_of, powf_of};
 ghost use Rattle.thermo_types.specs.Composition.{with_fractions, normalize_of};
 ghost use Rattle.thermo_types.specs.Quantities.{positive_of};
-ghost use Rattle.liquid.specs.Vapor.{vapor_pressure_of};
-ghost use Rattle.thermo_models.specs.Domain.{vapor_record};
 ghost use Rattle.thermo_models.specs.Mixture.{mixture_of};
 ghost use Rattle.book.specs.Book.{book_of};
 ghost use Rattle.rice_exports.specs.Splits.{split_number, split_written, sized, constrained_of, negative_of};
-ghost use Rattle.exports.specs.Slices.{eight_of, NormalizedGives, outcome_number, verdict_number, book_number, repeated};
-ghost use Rattle.exports.specs.Models.{vapor_from, vapor_at, VaporGives, excess_in, excess_from, excess_at, ExcessGives, status_float, flag_float, energies_stored};
+ghost use Rattle.exports.specs.Slices.{eight_of, NormalizedGives, outcome_number, book_number, repeated};
+ghost use Rattle.exports.specs.Models.{vapor_at, VaporGives, excess_in, excess_at, ExcessGives, energies_stored};
 
-use book::Opened;
 use excess::Energies;
 use liquid::VaporPressure;
-use thermo_models::{Assessment, Tabled, ValidityStatus};
-use thermo_types::{NewTemperature, Temperature, Verdict};
+use outcome::Refusal;
+use thermo_models::{Assessment, Tabled};
+use thermo_types::Temperature;
 
 #[unsafe(no_mangle)]
 pub extern "C" fn zektonk_exp(v: f64) -> f64
@@ -85,30 +84,14 @@ pub extern "C" fn zektonk_float_of(bits: u64) -> f64
     floats::float_of(bits)
 }
 
-fn entry(s: &[f64], i: usize) -> f64
-    ensures { result ≡ at s.now i }
-{
-    if i < s.len() { s[i] } else { 0.0 / 0.0 }
-}
-
 // The first eight entries of a slice, NaN past its end.
 fn eight(s: &[f64]) -> [f64; 8]
     ensures { result ≡ eight_of s.now }
 {
-    let mut a = [0.0; 8];
-    for i in 0usize..8 {
-        a[i] = entry(s, i);
-    }
+    let mut a = [f64::NAN; 8];
+    let m = floats::places(s.len());
+    a[..m].copy_from_slice(&s[..m]);
     a
-}
-
-fn refusal(v: Verdict) -> u64
-    ensures { result ≡ verdict_number v }
-{
-    match v {
-        Verdict::Passed => 0,
-        Verdict::Refused(r) => r,
-    }
 }
 
 // 0, or 15, 16, 18.
@@ -116,17 +99,7 @@ fn refusal(v: Verdict) -> u64
 pub extern "C" fn zektonk_fractions(x: &[f64], n: usize) -> u64
     ensures { result ≡ outcome_number (with_fractions (at (eight_of x.now)) (places n) (ok (places n))) }
 {
-    let a = eight(x);
-    refusal(thermo_types::with_fractions(&a, n))
-}
-
-fn store(a: &[f64; 8], out: &mut [f64])
-    requires { 8 ≤ length out.old }
-    ensures { out.new ≡ fill (at a.now) 8 out.old }
-{
-    for i in 0usize..8 {
-        out[i] = a[i];
-    }
+    outcome::number_in(thermo_types::with_fractions(&eight(x), n))
 }
 
 // 0, and the first n of eight entries over their sum, 0.0 past them; or 34. With 34 the slice stays, as does one shorter than eight.
@@ -134,18 +107,15 @@ fn store(a: &[f64; 8], out: &mut [f64])
 pub extern "C" fn zektonk_normalize(x: &mut [f64], n: usize) -> u64
     ensures { NormalizedGives (normalize_of (at (eight_of x.old)) (places n)) result x.old x.new }
 {
-    let a = eight(x);
-    let y = thermo_types::normalize(&a, n);
-    let verdict = y.verdict;
-    if let Verdict::Refused(number) = verdict {
-        return number;
+    match thermo_types::normalize(&eight(x), n) {
+        Ok(fractions) => {
+            if x.len() >= 8 {
+                x[..8].copy_from_slice(&fractions);
+            }
+            0
+        }
+        Err(refusal) => u64::from(refusal),
     }
-    if x.len() < 8 {
-        return 0;
-    }
-    let fractions = y.fractions;
-    store(&fractions, x);
-    0
 }
 
 // ---- vapor pressure
@@ -160,28 +130,13 @@ fn store_vapor(v: VaporPressure, out: &mut [f64])
     out[3] = v.d2_ln_pressure_dt2;
 }
 
-fn vapor_in(book: &[u8], i: usize, t: Temperature, out: &mut [f64]) -> u64
-    requires { 4 ≤ length out.old }
-    ensures { VaporGives (vapor_pressure_of (vapor_record book.now i) t.0) result out.old out.new }
+#[tactic(auto, unfolding(crate::specs::Models::vapor_at, crate::specs::Models::vapor_from, floats::specs::Outcome::bind))]
+fn vapor_at(book: &[u8], i: usize, t: f64) -> Result<VaporPressure, Refusal>
+    ensures { outcome_of result ≡ vapor_at book.now i t }
 {
-    let v = liquid::vapor_pressure(records::vapor_pressure_record(book, i), t);
-    let verdict = v.verdict;
-    if let Verdict::Refused(r) = verdict {
-        return r;
-    }
-    store_vapor(v, out);
-    0
-}
-
-fn vapor_of(book: &[u8], i: usize, t: f64, out: &mut [f64]) -> u64
-    requires { 4 ≤ length out.old }
-    ensures { VaporGives (vapor_from book.now i t) result out.old out.new }
-{
-    let made = Temperature::new(t);
-    match made {
-        NewTemperature::Valid(v) => vapor_in(book, i, v, out),
-        NewTemperature::No(r) => r,
-    }
+    book::open_book(book)?;
+    let kelvin = Temperature::new(t)?;
+    liquid::vapor_pressure(records::vapor_pressure_record(book, i), kelvin)
 }
 
 // 0, with p (Pa), ln p and its two derivatives by T in the first four entries; or 100 for a slice shorter than that, one of the book, 13, 22, 25.
@@ -192,68 +147,48 @@ pub extern "C" fn zektonk_vapor_pressure(book: &[u8], i: usize, t: f64, out: &mu
     if out.len() < 4 {
         return 100;
     }
-    let opened = book::open_book(book);
-    match opened {
-        Opened::Book(_head) => vapor_of(book, i, t, out),
-        Opened::No(r) => r,
+    match vapor_at(book, i, t) {
+        Ok(v) => {
+            store_vapor(v, out);
+            0
+        }
+        Err(refusal) => u64::from(refusal),
     }
 }
 
 // ---- excess
 
-fn status_float(s: ValidityStatus) -> f64
-    ensures { result ≡ status_float s }
-{
-    match s {
-        ValidityStatus::Unassessed => 0.0,
-        ValidityStatus::WithinDeclaredDomain => 1.0,
-        ValidityStatus::Extrapolated => 2.0,
-    }
-}
-
-fn flag_float(b: bool) -> f64
-    ensures { result ≡ flag_float b }
-{
-    if b { 1.0 } else { 0.0 }
-}
-
-fn store_from(a: &[f64; 8], from: usize, out: &mut [f64])
-    requires { from + 8 ≤ length out.old }
-    ensures { out.new ≡ fill_from (at a.now) from 8 out.old }
-{
-    for i in 0usize..8 {
-        out[from + i] = a[i];
-    }
-}
-
 fn store_energies(e: Energies, a: Assessment, out: &mut [f64])
     requires { 23 ≤ length out.old }
     ensures { out.new ≡ energies_stored e a out.old }
 {
-    let status = a.status;
-    let validity = status_float(status);
-    let inferred = flag_float(a.inferred);
     out[16] = e.reduced;
     out[17] = e.gibbs;
     out[18] = e.enthalpy;
     out[19] = e.entropy;
     out[20] = e.heat_capacity;
-    out[21] = validity;
-    out[22] = inferred;
+    out[21] = f64::from(a.status as u8);
+    out[22] = f64::from(a.inferred);
 }
 
 fn store_state(lg: &[f64; 8], sl: &[f64; 8], e: Energies, a: Assessment, out: &mut [f64])
     requires { 23 ≤ length out.old }
     ensures { out.new ≡ energies_stored e a (fill_from (at sl.now) 8 8 (fill_from (at lg.now) 0 8 out.old)) }
 {
-    store_from(lg, 0, out);
-    store_from(sl, 8, out);
+    out[..8].copy_from_slice(lg);
+    out[8..16].copy_from_slice(sl);
     store_energies(e, a, out);
 }
 
-fn excess_in(book: &[u8], n: usize, t: Temperature, x: &[f64; 8], out: &mut [f64]) -> u64
+fn excess_in(
+    book: &[u8],
+    n: usize,
+    t: Temperature,
+    x: &[f64; 8],
+    out: &mut [f64],
+) -> Result<(), Refusal>
     requires { 23 ≤ length out.old }
-    ensures { ExcessGives (excess_in (mixture_of book.now (places n)) t.0 x.now) result out.old out.new }
+    ensures { ExcessGives (excess_in (mixture_of book.now (places n)) t.0 x.now) (number_in result) out.old out.new }
 {
     let mut parameters = [0.0; 384];
     let mut table = [0.0; 512];
@@ -261,28 +196,19 @@ fn excess_in(book: &[u8], n: usize, t: Temperature, x: &[f64; 8], out: &mut [f64
     let mut sl = [0.0; 8];
     records::parameters(book, b"", n, &mut parameters);
     let s = thermo_models::tables(book, &parameters, n, t, &mut table);
-    let e = thermo_models::excess(&table, s, x, &mut lg, &mut sl);
-    let verdict = e.verdict;
-    if let Verdict::Refused(r) = verdict {
-        return r;
-    }
+    let e = thermo_models::excess(&table, s, x, &mut lg, &mut sl)?;
     let a = thermo_models::validity(book, b"", n, t, x);
     store_state(&lg, &sl, e, a, out);
-    0
+    Ok(())
 }
 
-fn excess_of(book: &[u8], n: usize, t: f64, x: &[f64], out: &mut [f64]) -> u64
+fn excess_at(book: &[u8], t: f64, x: &[f64], out: &mut [f64]) -> Result<(), Refusal>
     requires { 23 ≤ length out.old }
-    ensures { ExcessGives (excess_from book.now (places n) t x.now) result out.old out.new }
+    ensures { ExcessGives (excess_at book.now t x.now) (number_in result) out.old out.new }
 {
-    let made = Temperature::new(t);
-    match made {
-        NewTemperature::Valid(v) => {
-            let a = eight(x);
-            excess_in(book, n, v, &a, out)
-        }
-        NewTemperature::No(r) => r,
-    }
+    let head = book::open_book(book)?;
+    let kelvin = Temperature::new(t)?;
+    excess_in(book, head.n, kelvin, &eight(x), out)
 }
 
 // 0, with ln γ (8), slopes (8), the reduced and the plain Gibbs energy, enthalpy, entropy, heat capacity, validity (0, 1, 2) and inferred (0, 1) in
@@ -294,11 +220,7 @@ pub extern "C" fn zektonk_excess(book: &[u8], t: f64, x: &[f64], out: &mut [f64]
     if out.len() < 23 {
         return 100;
     }
-    let opened = book::open_book(book);
-    match opened {
-        Opened::Book(head) => excess_of(book, head.n, t, x, out),
-        Opened::No(r) => r,
-    }
+    outcome::number_in(excess_at(book, t, x, out))
 }
 
 // 1 liquid, 2 vapor, 3 both with `out` filled, or 100 + the refusal's number; 0 where a slice is too short.
@@ -337,8 +259,8 @@ pub extern "C" fn zektonk_open_book(book: &[u8]) -> u64
     ensures { result ≡ book_number (book_of book.now) }
 {
     match book::open_book(book) {
-        Opened::Book(head) => 100 + (head.n as u64),
-        Opened::No(r) => r,
+        Ok(head) => 100 + head.n as u64,
+        Err(refusal) => u64::from(refusal),
     }
 }
 
@@ -348,12 +270,10 @@ fn repeat(table: &[f64; 512], s: Tabled, x: &[f64; 8], count: u64) -> u64
 {
     let mut lg = [0.0; 8];
     let mut sl = [0.0; 8];
-    let mut k = 0;
-    while k < count {
-        thermo_models::activity(table, s, x, &mut lg, &mut sl);
-        k += 1;
+    for _ in 0..count {
+        let _ = thermo_models::activity(table, s, x, &mut lg, &mut sl);
     }
-    k
+    count
 }
 
 fn repeat_from(book: &[u8], n: usize, t: Temperature, x: &[f64; 8], count: u64) -> u64
@@ -377,12 +297,8 @@ pub extern "C" fn zektonk_repeat_activity(
 ) -> u64
     ensures { result ≡ repeated (positive_of t 13) count }
 {
-    let made = Temperature::new(t);
-    match made {
-        NewTemperature::Valid(v) => {
-            let a = eight(x);
-            repeat_from(book, n, v, &a, count)
-        }
-        NewTemperature::No(_r) => 0,
+    match Temperature::new(t) {
+        Ok(kelvin) => repeat_from(book, n, kelvin, &eight(x), count),
+        Err(_) => 0,
     }
 }

@@ -1,12 +1,11 @@
 -- Laws of folds, sums and tests over an index: one turn of a loop, its end, and equal steps. Assumes nothing.
 use Prim.Native.Nat.{ℕ, zero, suc, ◌+◌, ◌<◌, ◌≤◌}
 use mathlib.Core.Path.{◌≡◌, refl, sym, ◌∙◌, ap}
-use mathlib.Core.Bool.{Bool, true, false, not, ◌&&◌, true≢false}
+use mathlib.Core.Bool.{Bool, true, false, ◌&&◌, true≢false}
 use mathlib.Core.Logic.{⊎_elim}
 use native.Mathlib.Nat.{eq-or-lt_of_le}
 use native.Mathlib.Numerals.{add-one}
 use native.Mathlib.Omega.{arith}
-use borrow.Author.Tests.{not-true, not-false}
 use lib.Ieee.{Float}
 use Rattle.floats.specs.Arithmetic.{◌⊕◌}
 use Rattle.floats.specs.Fold.{fold_to, sum_from, all_to}
@@ -37,9 +36,6 @@ fold_map f g p s (suc n) e = e n (fold_to f s n) ∙ ap (g n) (fold_map f g p s 
 pub sum-turn : (a : Float) (f : ℕ → Float) (k : ℕ) {r s t : Float} → r ≡ s ⊕ t → t ≡ f k → s ≡ sum_from a f k → r ≡ sum_from a f (k + 1)
 unfolding fold_to
 sum-turn a f k p q h = rw (add-one, p, q, h)
-
-pub sum_done : (a : Float) (f : ℕ → Float) (k n : ℕ) {s : Float} → k ≡ n → s ≡ sum_from a f k → s ≡ sum_from a f n
-sum_done a f k n e h = h ∙ ap (sum_from a f) e
 
 pub sum_cong : (a : Float) {f g : ℕ → Float} (n : ℕ) → ((k : ℕ) → k < n → f k ≡ g k) → sum_from a f n ≡ sum_from a g n
 sum_cong a n e = fold_cong a n (λ k s l. ap (λ (t : Float). s ⊕ t) (e k l))
@@ -83,22 +79,3 @@ all_cong {p} {q} (suc n) e =
     let a : all_to p n ≡ all_to q n = all_cong n (λ k l. e k (omega arith)) in
     let b : p n ≡ q n = e n (omega arith) in
     rw (a, b)
-
--- what a test found its argument to be, the definition that it equals is too
-pub as_tested : {b t r : Bool} → b ≡ r → b ≡ t → t ≡ r
-as_tested h e = sym e ∙ h
-
-pub not_of_false : {b : Bool} → b ≡ false → not b ≡ true
-unfolding not
-not_of_false e = rw e
-
-pub not_of_true : {b : Bool} → b ≡ true → not b ≡ false
-unfolding not
-not_of_true e = rw e
-
--- a test `if !f(..)`: what f ensures of its result says what the test found
-pub was_no : {b t : Bool} → not b ≡ true → b ≡ t → t ≡ false
-was_no {b} n e = sym e ∙ not-true b n
-
-pub was_yes : {b t : Bool} → not b ≡ false → b ≡ t → t ≡ true
-was_yes {b} n e = sym e ∙ not-false b n

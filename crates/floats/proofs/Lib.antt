@@ -4,3 +4,5 @@ pub mod Folds
 pub mod Fills
 pub mod Outcomes
 pub mod Squares
+pub mod Chains
+pub mod Copies

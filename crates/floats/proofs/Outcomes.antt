@@ -1,6 +1,6 @@
 -- Laws of outcomes: what a test found, taken apart and put together. Assumes nothing.
 use mathlib.Core.Path.{◌≡◌, refl, sym, ap}
-use mathlib.Core.Bool.{Bool, true, false, true≢false}
+use mathlib.Core.Bool.{Bool, true, false, true≢false, ◌&&◌}
 use Prim.Native.Nat.{ℕ}
 use lib.Dec.{T}
 use Rattle.floats.specs.Outcome.{Out, ok, no, bind, need, choose}
@@ -28,6 +28,18 @@ choose_yes a b e = rw e
 pub choose_no : {A : Type 0} (a b : Out A) {t : Bool} → t ≡ false → choose t a b ≡ b
 unfolding choose
 choose_no a b e = rw e
+
+-- a test, and then what follows
+pub need_then : {A B : Type 0} (b : Bool) (r : ℕ) (o : Out A) (k : A → Out B) → bind (need b r o) k ≡ need b r (bind o k)
+unfolding need bind
+need_then true r o k = refl
+need_then false r o k = refl
+
+-- two tests with one refusal
+pub need_both : {A : Type 0} (a b : Bool) (r : ℕ) (o : Out A) → need a r (need b r o) ≡ need (a && b) r o
+unfolding need
+need_both true b r o = refl
+need_both false b r o = refl
 
 -- an accepted outcome is no refusal
 is_ok : {A : Type 0} → Out A → Bool

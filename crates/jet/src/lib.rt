@@ -1,8 +1,11 @@
 // A value with its first and second temperature derivatives (the Rust's `Jet`); each method equals its definition in specs/Jets.antt.
+// Tables of ordered pairs: planes of 64, entry (i, j) of plane k at k * 64 + i * 8 + j.
 #![tactic(auto)]
 
-ghost use Rattle.std.specs.Prelude.{◌≡◌};
+ghost use Rattle.std.specs.Prelude.{◌≡◌, ℕ, ◌≤◌, ◌<◌, ◌+◌, ◌*◌, ◌%◌, List, Float};
+ghost use Rattle.floats.specs.Vector.{at, places};
 ghost use Rattle.jet.specs.Jets.{const_j, two_j, add_j, sub_j, neg_j, mul_j, scale_j, div_j, exp_with, exp_j, ln_with, ln_j};
+ghost use Rattle.jet.specs.Planes.{Holds, six, cell_of, spread, plane_pairs, plane_rows};
 
 // A quantity with its derivatives by the temperature, 1/K and 1/K².
 #[derive(Clone, Copy)]
@@ -122,5 +125,81 @@ impl Jet {
         ensures { result ≡ ln_j self }
     {
         self.ln_with(numerics::ln(self.v))
+    }
+}
+
+// ---- tables of ordered pairs
+
+// What a table keeps of each ordered pair, in M planes.
+pub trait Pairs<const M: usize> {
+    ghost cells: { Self → List Float → ℕ → Float };
+
+    ghost own_cells: { Self → ℕ → Float };
+
+    // Of the pairs (i, j) and (j, i), from six parameters each: their exponentials side by side.
+    fn both(&self, p: [f64; 6], q: [f64; 6]) -> ([f64; M], [f64; M])
+        ensures first { Holds (cells self.now p) M result.0 }
+        ensures second { Holds (cells self.now q) M result.1 };
+
+    // Of a solvent with itself.
+    fn own(&self) -> [f64; M]
+        ensures { Holds (own_cells self.now) M result };
+
+    ghost few: { M ≤ 8 };
+}
+
+// The six parameters of the pair (i, j), from (i * 8 + j) * 6 on; indices modulo 8.
+pub fn pair(parameters: &[f64; 384], i: usize, j: usize) -> [f64; 6]
+    ensures { result ≡ six parameters.now (i % 8 * 8 + j % 8) }
+{
+    let e = (i % 8 * 8 + j % 8) * 6;
+    [
+        parameters[e],
+        parameters[e + 1],
+        parameters[e + 2],
+        parameters[e + 3],
+        parameters[e + 4],
+        parameters[e + 5],
+    ]
+}
+
+fn keep<const M: usize>(cells: [f64; M], e: usize, table: &mut [f64; 512])
+    requires { (M ≤ 8) × (e < 64) }
+    ensures { table.new ≡ spread (at cells.entry) e M table.old }
+{
+    for k in 0..M {
+        table[k * 64 + e] = cells[k];
+    }
+}
+
+// Row i up to the diagonal, and column i.
+fn fill_border<const M: usize, P: Pairs<M>>(
+    pairs: &P,
+    parameters: &[f64; 384],
+    i: usize,
+    table: &mut [f64; 512],
+)
+    requires { i < 8 }
+    ensures { table.new ≡ plane_pairs (cell_of (P.cells pairs.now) (P.own_cells pairs.now) parameters.now) M i i table.old }
+{
+    for j in 0..i {
+        let (a, b) = pairs.both(pair(parameters, i, j), pair(parameters, j, i));
+        keep(a, i * 8 + j, table);
+        keep(b, j * 8 + i, table);
+    }
+}
+
+// All ordered pairs of n solvents; the table's other places stay as they are.
+pub fn fill_pairs<const M: usize, P: Pairs<M>>(
+    pairs: &P,
+    parameters: &[f64; 384],
+    n: usize,
+    table: &mut [f64; 512],
+)
+    ensures { table.new ≡ plane_rows (cell_of (P.cells pairs.now) (P.own_cells pairs.now) parameters.now) M (places n) (places n) table.old }
+{
+    for i in 0..floats::places(n) {
+        fill_border(pairs, parameters, i, table);
+        keep(pairs.own(), i * 8 + i, table);
     }
 }

@@ -1,4 +1,4 @@
--- A term more, two terms more, the last of them, and the ways out of `vapor_pressure` and `tested`. Assumes nothing.
+-- A term more, two terms more, the last of them; the tests of the four numbers as one. Assumes nothing.
 use Prim.Native.Nat.{ℕ, ◌+◌, ◌*◌}
 use native.Mathlib.Omega.{arith}
 use mathlib.Core.Path.{◌≡◌, refl, ap, ◌∙◌}
@@ -9,13 +9,12 @@ use Rattle.floats.specs.Arithmetic.{◌⊕◌, ◌⊖◌, ◌⊗◌, ◌⊘◌, 
 use Rattle.floats.specs.Small.{is_finite}
 use Rattle.floats.specs.Fold.{fold_to}
 use Rattle.floats.specs.Vector.{at, places}
-use Rattle.floats.specs.Outcome.{Out, ok, no, need}
-use Rattle.floats.proofs.Folds.{sum-turn, was_no, was_yes}
+use Rattle.floats.specs.Outcome.{Out, ok, need}
+use Rattle.floats.proofs.Folds.{sum-turn}
 use Rattle.numerics.specs.Numerics.{exp_of, ln_of}
 use Rattle.records.specs.declared.Ancillary.{Ancillary}
 use Rattle.liquid.specs.declared.Sums.{Sums}
-use Rattle.liquid.specs.declared.VaporPressure.{VaporPressure}
-use Rattle.liquid.specs.Vapor.{Vapor, vapor, in_range, term, slope_term, curvature_term, sums_of, vapor_from, vapor_of, representable, vapor_pressure_of, vapor_answer}
+use Rattle.liquid.specs.Vapor.{Vapor, vapor, term, slope_term, curvature_term, sums_of, vapor_from, vapor_of, representable}
 
 abbrev pub sums : Float → Float → Float → Sums
 sums s ds d2s = record { s = s; ds = ds; d2s = d2s }
@@ -59,28 +58,22 @@ module _ (n e : List Float) (tr θ : Float) where
   pub terms_done : (k count : ℕ) {w : Sums} → k ≡ count → w ≡ sums_of n e tr θ k → w ≡ sums_of n e tr θ count
   terms_done k count p h = h ∙ ap (sums_of n e tr θ) p
 
--- the code's v is T
-module _ (a : Ancillary) (t : Float) {v : Float} {b : Bool} {x : VaporPressure} where
-  pub range_no : v ≡ t → b ≡ in_range a.low a.high v → not b ≡ true → x ≡ vapor_answer (no 22) → x ≡ vapor_answer (vapor_pressure_of a t)
-  unfolding vapor_pressure_of need
-  range_no e p q h = rw (← e, was_no q p) h
-
-  pub range_yes : {p l d c : Float} → v ≡ t → b ≡ in_range a.low a.high v → not b ≡ false → p ≡ exp_of l
-      → (l ≡ (vapor_of a v).ln_pressure) × (d ≡ (vapor_of a v).slope) × (c ≡ (vapor_of a v).curvature)
-      → x ≡ vapor_answer (representable (vapor p l d c)) → x ≡ vapor_answer (vapor_pressure_of a t)
-  unfolding vapor_pressure_of vapor_of vapor_from need
-  range_yes e r q ep h hx = rw (← e, was_yes q r) (rw (ep, h.0, h.1, h.2) at hx)
-
 -- ln p and its derivatives, from the sums
 pub logarithm_is : (a : Ancillary) (t : Float) {m : ℕ} {S : Sums} {l d c : Float} → m ≡ places a.count → S ≡ sums_of a.n a.t a.t_r (1f ⊖ t ⊘ a.t_r) m
-    → (let v = vapor_from a.t_r a.reducing_value t S in (l ≡ v.ln_pressure) × (d ≡ v.slope) × (c ≡ v.curvature))
-    → (l ≡ (vapor_of a t).ln_pressure) × (d ≡ (vapor_of a t).slope) × (c ≡ (vapor_of a t).curvature)
+    → (let v = vapor_from a.t_r a.reducing_value t S in (l ≡ v.ln_pressure) × (d ≡ v.d_ln_pressure_dt) × (c ≡ v.d2_ln_pressure_dt2))
+    → (l ≡ (vapor_of a t).ln_pressure) × (d ≡ (vapor_of a t).d_ln_pressure_dt) × (c ≡ (vapor_of a t).d2_ln_pressure_dt2)
 unfolding vapor_of
 logarithm_is a t em es h = rw (← em, ← es) h
 
+-- the four numbers of the answer, from the logarithm
+pub vapor_is : (a : Ancillary) (t : Float) {p l d c : Float} → p ≡ exp_of l
+    → (l ≡ (vapor_of a t).ln_pressure) × (d ≡ (vapor_of a t).d_ln_pressure_dt) × (c ≡ (vapor_of a t).d2_ln_pressure_dt2) → vapor_of a t ≡ vapor p l d c
+unfolding vapor_of vapor_from
+vapor_is a t ep h = rw (ep, h.0, h.1, h.2)
+
 -- ---- the tests of the four numbers
 abbrev pub sound_of : Vapor → Bool
-sound_of v = is_finite v.pressure && is_finite v.ln_pressure && is_finite v.slope && is_finite v.curvature && not (le v.pressure 0f)
+sound_of v = is_finite v.pressure && is_finite v.ln_pressure && is_finite v.d_ln_pressure_dt && is_finite v.d2_ln_pressure_dt2 && not (le v.pressure 0f)
 
 -- two needs with one number are one
 both_needed : {A : Type 0} (a b : Bool) (r : ℕ) (o : Out A) → need a r (need b r o) ≡ need (a && b) r o
@@ -90,13 +83,4 @@ both_needed false b r o = refl
 
 pub sound_is : (v : Vapor) → representable v ≡ need (sound_of v) 25 (ok v)
 unfolding representable
-sound_is v = both_needed (is_finite v.pressure && is_finite v.ln_pressure && is_finite v.slope && is_finite v.curvature) (not (le v.pressure 0f)) 25 (ok v)
-
-module _ (p l d d2 : Float) {b : Bool} {x : VaporPressure} (e : b ≡ sound_of (vapor p l d d2)) where
-  pub numbers_no : not b ≡ true → x ≡ vapor_answer (no 25) → x ≡ vapor_answer (representable (vapor p l d d2))
-  unfolding need
-  numbers_no q h = rw (sound_is (vapor p l d d2), was_no q e) h
-
-  pub numbers_yes : not b ≡ false → x ≡ vapor_answer (ok (vapor p l d d2)) → x ≡ vapor_answer (representable (vapor p l d d2))
-  unfolding need
-  numbers_yes q h = rw (sound_is (vapor p l d d2), was_yes q e) h
+sound_is v = both_needed (is_finite v.pressure && is_finite v.ln_pressure && is_finite v.d_ln_pressure_dt && is_finite v.d2_ln_pressure_dt2) (not (le v.pressure 0f)) 25 (ok v)

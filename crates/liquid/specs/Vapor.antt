@@ -6,9 +6,8 @@ use Rattle.floats.specs.Arithmetic.{◌⊕◌, ◌⊖◌, ◌⊗◌, ◌⊘◌, 
 use Rattle.floats.specs.Small.{is_finite}
 use Rattle.floats.specs.Fold.{sum_to}
 use Rattle.floats.specs.Vector.{at, places}
-use Rattle.floats.specs.Outcome.{Out, ok, no, need}
+use Rattle.floats.specs.Outcome.{Out, ok, need}
 use Rattle.numerics.specs.Numerics.{exp_of, ln_of, powf_of}
-use Rattle.thermo_types.specs.declared.Verdict.TheVariants.{Passed, Refused}
 use Rattle.records.specs.declared.Ancillary.{Ancillary}
 use Rattle.liquid.specs.declared.Sums.{Sums}
 use Rattle.liquid.specs.declared.VaporPressure.{VaporPressure}
@@ -18,14 +17,11 @@ unfoldable pub in_range : Float → Float → Float → Bool
 in_range low high t = le low t && le t high
 
 -- p in Pa, ln p, d ln p / dT in 1/K, d² ln p / dT² in 1/K²
-pub record Vapor : Type 0 where
-  pub pressure : Float
-  pub ln_pressure : Float
-  pub slope : Float
-  pub curvature : Float
+abbrev pub Vapor : Type 0
+Vapor = VaporPressure
 
 abbrev pub vapor : Float → Float → Float → Float → Vapor
-vapor p lnP d d2 = record { pressure = p; ln_pressure = lnP; slope = d; curvature = d2 }
+vapor p lnP d d2 = record { pressure = p; ln_pressure = lnP; d_ln_pressure_dt = d; d2_ln_pressure_dt2 = d2 }
 
 -- the terms of S, and of its first and second derivative by T (dθ/dT = -1 / T_r), from n_k and t_k
 unfoldable pub term : Float → Float → Float → Float
@@ -61,21 +57,10 @@ vapor_of a t = vapor_from a.t_r a.reducing_value t (sums_of a.n a.t a.t_r (1f �
 -- all four finite and the pressure positive, else 25
 unfoldable pub representable : Vapor → Out Vapor
 representable v =
-    need (is_finite v.pressure && is_finite v.ln_pressure && is_finite v.slope && is_finite v.curvature) 25
+    need (is_finite v.pressure && is_finite v.ln_pressure && is_finite v.d_ln_pressure_dt && is_finite v.d2_ln_pressure_dt2) 25
     (need (not (le v.pressure 0f)) 25
     (ok v))
 
 -- `vapor_pressure`: T in the correlation's range (22), then its numbers (25)
 unfoldable pub vapor_pressure_of : Ancillary → Float → Out Vapor
 vapor_pressure_of a t = need (in_range a.low a.high t) 22 (representable (vapor_of a t))
-
--- as the code answers; zeros with a refusal
-unfoldable pub vapor_answer : Out Vapor → VaporPressure
-vapor_answer (ok v) = record {
-  verdict = Passed;
-  pressure = v.pressure;
-  ln_pressure = v.ln_pressure;
-  d_ln_pressure_dt = v.slope;
-  d2_ln_pressure_dt2 = v.curvature;
-}
-vapor_answer (no r) = record { verdict = Refused r; pressure = 0f; ln_pressure = 0f; d_ln_pressure_dt = 0f; d2_ln_pressure_dt2 = 0f }

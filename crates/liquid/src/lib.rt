@@ -7,16 +7,16 @@ ghost use Rattle.std.specs.Float.Ieee.{neg, le};
 ghost use Rattle.floats.specs.Arithmetic.{◌⊕◌, ◌⊖◌, ◌⊗◌, ◌⊘◌, 0f, 1f};
 ghost use Rattle.floats.specs.Small.{is_finite};
 ghost use Rattle.numerics.specs.Numerics.{ln_of};
-ghost use Rattle.liquid.specs.Vapor.{in_range, term, slope_term, curvature_term, sums_of, vapor_of, vapor_from, representable, vapor_pressure_of, vapor_answer, vapor};
-ghost use Rattle.floats.specs.Outcome.{no};
+ghost use Rattle.liquid.specs.Vapor.{in_range, term, slope_term, curvature_term, sums_of, vapor_of, vapor_from, vapor_pressure_of};
+ghost use Rattle.outcome.specs.Refused.{outcome_of};
 
+use outcome::Refusal;
 use records::Ancillary;
-use thermo_types::{Temperature, Verdict};
+use thermo_types::Temperature;
 
-// p in Pa, ln p, d ln p/dT in 1/K, d² ln p/dT² in 1/K²; zeros where the verdict is a refusal.
+// p in Pa, ln p, d ln p/dT in 1/K, d² ln p/dT² in 1/K².
 #[derive(Clone, Copy)]
 pub struct VaporPressure {
-    pub verdict: Verdict,
     pub pressure: f64,
     pub ln_pressure: f64,
     pub d_ln_pressure_dt: f64,
@@ -95,18 +95,6 @@ fn sum_terms(n: &[f64; 8], e: &[f64; 8], t_r: f64, theta: f64, count: usize) -> 
     add_term(z, t_r, n[count - 1], a, p.0, p.1, r)
 }
 
-fn refused(number: u64) -> VaporPressure
-    ensures { result ≡ vapor_answer (no number) }
-{
-    VaporPressure {
-        verdict: Verdict::Refused(number),
-        pressure: 0.0,
-        ln_pressure: 0.0,
-        d_ln_pressure_dt: 0.0,
-        d2_ln_pressure_dt2: 0.0,
-    }
-}
-
 // All four finite and the pressure positive.
 pub fn is_representable(pressure: f64, ln_p: f64, d1: f64, d2: f64) -> bool
     ensures { result ≡ (is_finite pressure && is_finite ln_p && is_finite d1 && is_finite d2 && not (le pressure 0f)) }
@@ -118,24 +106,9 @@ pub fn is_representable(pressure: f64, ln_p: f64, d1: f64, d2: f64) -> bool
         & !(pressure <= 0.0)
 }
 
-fn tested(pressure: f64, ln_p: f64, d1: f64, d2: f64) -> VaporPressure
-    ensures { result ≡ vapor_answer (representable (vapor pressure ln_p d1 d2)) }
-{
-    if !is_representable(pressure, ln_p, d1, d2) {
-        return refused(25);
-    }
-    VaporPressure {
-        verdict: Verdict::Passed,
-        pressure: pressure,
-        ln_pressure: ln_p,
-        d_ln_pressure_dt: d1,
-        d2_ln_pressure_dt2: d2,
-    }
-}
-
 // ln p from S, and its two derivatives by T.
 fn from_sums(t_r: f64, reducing_value: f64, t: f64, sums: Sums) -> Logarithm
-    ensures { (result.value ≡ (vapor_from t_r reducing_value t sums).ln_pressure) × (result.slope ≡ (vapor_from t_r reducing_value t sums).slope) × (result.curvature ≡ (vapor_from t_r reducing_value t sums).curvature) }
+    ensures { (result.value ≡ (vapor_from t_r reducing_value t sums).ln_pressure) × (result.slope ≡ (vapor_from t_r reducing_value t sums).d_ln_pressure_dt) × (result.curvature ≡ (vapor_from t_r reducing_value t sums).d2_ln_pressure_dt2) }
 {
     let s = sums.s;
     let ds = sums.ds;
@@ -151,7 +124,7 @@ fn from_sums(t_r: f64, reducing_value: f64, t: f64, sums: Sums) -> Logarithm
 
 // ln p at T, in the correlation's range or not: p is its exponential.
 pub fn ln_pressure(a: Ancillary, t: f64) -> Logarithm
-    ensures { (result.value ≡ (vapor_of a t).ln_pressure) × (result.slope ≡ (vapor_of a t).slope) × (result.curvature ≡ (vapor_of a t).curvature) }
+    ensures { (result.value ≡ (vapor_of a t).ln_pressure) × (result.slope ≡ (vapor_of a t).d_ln_pressure_dt) × (result.curvature ≡ (vapor_of a t).d2_ln_pressure_dt2) }
 {
     let t_r = a.t_r;
     let n = a.n;
@@ -161,13 +134,22 @@ pub fn ln_pressure(a: Ancillary, t: f64) -> Logarithm
 }
 
 // Outside the correlation's range: 22; not representable: 25.
-pub fn vapor_pressure(a: Ancillary, t: Temperature) -> VaporPressure
-    ensures { result ≡ vapor_answer (vapor_pressure_of a t.0) }
+pub fn vapor_pressure(a: Ancillary, t: Temperature) -> Result<VaporPressure, Refusal>
+    ensures { outcome_of result ≡ vapor_pressure_of a t.0 }
 {
     let v = t.value();
     if !in_range(a.low, a.high, v) {
-        return refused(22);
+        return Err(Refusal::TemperatureOutside);
     }
     let l = ln_pressure(a, v);
-    tested(numerics::exp(l.value), l.value, l.slope, l.curvature)
+    let pressure = numerics::exp(l.value);
+    if !is_representable(pressure, l.value, l.slope, l.curvature) {
+        return Err(Refusal::ResultNotFinite);
+    }
+    Ok(VaporPressure {
+        pressure,
+        ln_pressure: l.value,
+        d_ln_pressure_dt: l.slope,
+        d2_ln_pressure_dt2: l.curvature,
+    })
 }

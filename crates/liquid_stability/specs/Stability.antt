@@ -9,8 +9,6 @@ use Rattle.floats.specs.Fold.{fold_to, active}
 use Rattle.floats.specs.Vector.{at, vec, zeros8}
 use Rattle.floats.specs.Outcome.{Out, ok, no, bind, need, choose}
 use Rattle.numerics.specs.Numerics.{exp_of, ln_of}
-use Rattle.thermo_types.specs.declared.Verdict.{Verdict}
-use Rattle.thermo_types.specs.declared.Verdict.TheVariants.{Passed, Refused}
 use Rattle.thermo_types.specs.declared.ActivityOptions.{ActivityOptions}
 use Rattle.thermo_models.specs.Model.{Activity}
 use Rattle.liquid_stability.specs.declared.LiquidStabilityTrial.{LiquidStabilityTrial}
@@ -83,11 +81,9 @@ trial_with j tm w iteration trivial = record { component = j; distance = tm; com
 unfoldable pub no_trial : LiquidStabilityTrial
 no_trial = trial_with 0 0f zeros8 0 false
 
--- whether the liquid is stable in the trials so far, their number, and the trials in order
-pub record Trials : Type 0 where
-  pub stable : Bool
-  pub count : ℕ
-  pub trials : List LiquidStabilityTrial
+-- the code's struct: whether the liquid is stable in the trials so far, their number, and the trials in order
+abbrev pub Trials : Type 0
+Trials = LiquidStability
 
 unfoldable pub no_trials : Trials
 no_trials = record { stable = true; count = 0; trials = replicate 8 no_trial }
@@ -136,12 +132,3 @@ module _ (E : List Float → Out Activity) (n : ℕ) (o : ActivityOptions) (x : 
       choose (ltb (present_count x n) 2)
       (ok no_trials)
       (trials_to (tangent x a.ln_gamma n) n))
-
--- ---- as the code answers
-abbrev pub without_trials : Verdict → Bool → LiquidStability
-without_trials v stable = record { verdict = v; stable = stable; count = 0; trials = no_trials.trials }
-
--- a refusal is given no trials
-unfoldable pub stability_answer : Out Trials → LiquidStability
-stability_answer (ok s) = record { verdict = Passed; stable = s.stable; count = s.count; trials = s.trials }
-stability_answer (no r) = without_trials (Refused r) false

@@ -2,7 +2,6 @@
 use Prim.Native.Nat.{ℕ, zero, suc, ◌+◌, ◌*◌, ◌%◌, ◌<◌, ◌≤◌}
 use mathlib.Core.Path.{◌≡◌, refl, sym, ◌∙◌, ap}
 use mathlib.Core.Logic.{⊎_elim}
-use mathlib.Core.Bool.{Bool, ◌&&◌}
 use mathlib.Core.List.{List}
 use native.Mathlib.Nat.{eq-or-lt_of_le}
 use native.Mathlib.Omega.{arith}
@@ -10,11 +9,9 @@ use lib.ListN.{set, length, replicate, length-set, length-replicate, get_or-repl
 use lib.Seq.{get_or-set_same, get_or-set_other, set-set, set-get_or}
 use lib.Ieee.{Float, nan}
 use Rattle.floats.specs.Arithmetic.{0f}
-use Rattle.floats.specs.Small.{is_finite}
-use Rattle.floats.specs.Fold.{fold_to, all_to}
+use Rattle.floats.specs.Fold.{fold_to}
 use Rattle.floats.specs.Vector.{at, fill, zeros8}
-use Rattle.floats.proofs.Folds.{all_cong}
-use Rattle.floats.proofs.Fills.{fill-turn, vec-at}
+use Rattle.floats.proofs.Fills.{fill-turn}
 use Rattle.jet.specs.declared.Jet.{Jet}
 use Rattle.jet.specs.Jets.{div_j}
 use Rattle.jet.specs.Planes.{first_two}
@@ -187,20 +184,6 @@ module _ (f : ℕ → Float) (n : ℕ) (n8 : n ≤ 8) {l l' : List Float} (p : l
           c.odd h ∙ ap (λ a. set a n 0f) (p ∙ ap (λ w. fill f w zeros8) e) ∙ set-set (fill f n zeros8) n (f n) 0f
           ∙ ap (λ v. set (fill f n zeros8) n v) (sym (zero_there h)) ∙ set-get_or (fill f n zeros8) n nan
 
--- ---- ln γ of the loops, cleared and tested
-pub gammas_all : (L : ℕ → Jet) (n : ℕ) {f : Bool} {lg lg' sl sl' : List Float} → n ≤ 8
-    → lg ≡ fill (λ k. (L k).v) (evened n) zeros8 → sl ≡ fill (λ k. (L k).d) (evened n) zeros8 → Cleared n lg lg' → Cleared n sl sl'
-    → f ≡ all_to (λ i. is_finite (at lg' i) && is_finite (at sl' i)) n → GammasTo L n f zeros8 zeros8 lg' sl'
-gammas_all L n {f} {lg} {lg'} {sl} {sl'} n8 pv pd cv cd pf = record { right = pf ∙ all_cong n (λ i h. rw (v-at i h, d-at i h)); values = v; slopes = d }
-  where
-    v : lg' ≡ fill (λ k. (L k).v) n zeros8
-    v = cleared (λ k. (L k).v) n n8 pv cv
-
-    d : sl' ≡ fill (λ k. (L k).d) n zeros8
-    d = cleared (λ k. (L k).d) n n8 pd cd
-
-    v-at : (i : ℕ) → i < n → at lg' i ≡ (L i).v
-    v-at i h = rw v (vec-at (λ k. (L k).v) n i n8 h)
-
-    d-at : (i : ℕ) → i < n → at sl' i ≡ (L i).d
-    d-at i h = rw d (vec-at (λ k. (L k).d) n i n8 h)
+pub gammas_cleared : (L : ℕ → Jet) (n : ℕ) {lg lg' sl sl' : List Float} → n ≤ 8 → GammasTo L (evened n) zeros8 zeros8 lg sl → Cleared n lg lg' → Cleared n sl sl'
+    → GammasTo L n zeros8 zeros8 lg' sl'
+gammas_cleared L n n8 g v d = record { values = cleared (λ k. (L k).v) n n8 g.values v; slopes = cleared (λ k. (L k).d) n n8 g.slopes d }

@@ -7,9 +7,10 @@ use mathlib.Core.List.{List}
 use native.Mathlib.Omega.{arith}
 use lib.ListN.{length}
 use lib.Ieee.{Float}
+use Rattle.std.specs.Prelude.{Ok, Err}
 use Rattle.floats.specs.Vector.{at}
-use Rattle.floats.specs.Outcome.{need}
-use Rattle.thermo_types.specs.declared.Verdict.TheVariants.{Passed, Refused}
+use Rattle.floats.specs.Outcome.{need, bind}
+use Rattle.outcome.specs.declared.Refusal.TheVariants.{AlphaNotPositive}
 use Rattle.jet.specs.declared.Jet.{Jet}
 use Rattle.jet.specs.Jets.{scale_j, mul_j, two_j}
 use Rattle.jet.specs.Planes.{jet_at, jets, twos, first_two}
@@ -81,14 +82,14 @@ module _ (P : List Float) (n : ℕ) (t : Float) (old : List Float) (len : length
       state-near _ _ n t (reduced-is (tau_at P t) (g_at P t) n _ s x) (ln-near (tau_at P t) (g_at P t) n _ s x)
 
   inner : (b : Bool)
-      → passing (cond b Passed (Refused 24))
+      → passing (cond b (Ok tt) (Err AlphaNotPositive))
       (state_from (reduced_on (cond b (table_rows (tau_at P t) (g_at P t) n n old) old) x n) (ln_gamma_on (cond b (table_rows (tau_at P t) (g_at P t) n n old) old) x n) n t)
       ≡ need b 24 (state_from (reduced_j (tau_at P t) (g_at P t) x n) (ln_gamma_j (tau_at P t) (g_at P t) x n) n t)
-  unfolding passing need
+  unfolding passing need bind
   inner true = filled
   inner false = refl
 
-  -- the law: a table and a verdict of `tables` carry the parameters
+  -- the law: a table and a result of `tables` carry the parameters
   pub nrtl_filled : nrtl_on (table_of P n t old) (table_verdict P n t) n t x ≡ nrtl_of P n t x
   unfolding nrtl_on nrtl_of table_of table_verdict
   nrtl_filled = rw (inner (alphas_right P t n))

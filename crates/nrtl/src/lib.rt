@@ -5,24 +5,24 @@
 // Where n is odd the lane past it is worked out too, and not read.
 #![tactic(auto)]
 
-ghost use Rattle.std.specs.Prelude.{◌≡◌, ◌&&◌, ◌≤◌, ◌<◌, ◌+◌, ◌*◌, set};
-ghost use Rattle.floats.specs.Small.{is_finite};
-ghost use Rattle.floats.specs.Fold.{all_to};
-ghost use Rattle.floats.specs.Vector.{at, fill, places, zeros8};
+ghost use Rattle.std.specs.Prelude.{◌≡◌, ◌≤◌, ◌<◌, ◌+◌, ◌*◌, set};
+ghost use Rattle.floats.specs.Vector.{at, places, zeros8};
 ghost use Rattle.excess.specs.State.{state_from};
 ghost use Rattle.excess.specs.Answers.{Gives};
 ghost use Rattle.excess.specs.Steps.{GammasTo};
 ghost use Rattle.jet.specs.Jets.{add_j, scale_j};
+ghost use Rattle.jet.specs.declared.Jet.{Jet};
 ghost use Rattle.jet.specs.Planes.{jet_at, two_at, jets, twos};
 ghost use Rattle.nrtl_tables.specs.Table.{g_plane, tau_plane};
 ghost use Rattle.nrtl.specs.Columns.{col_s, term_j, ln_from, gibbs_from};
 ghost use Rattle.nrtl.specs.Lanes.{lane, lanes, two_in, jet_in, pair_of, quad_of, div_pair, lane_pair, pair_in, quad_in, set_two, set_four, evened, Cleared};
-ghost use Rattle.nrtl.specs.On.{s_on, r_on, ln_gamma_on, reduced_on, passing, nrtl_on};
+ghost use Rattle.nrtl.specs.On.{s_on, r_on, ln_gamma_on, reduced_on, nrtl_on};
 
 use excess::Energies;
 use jet::Jet;
 use nrtl_tables::{G_PLANE, H_PLANE, TAU_PLANE};
-use thermo_types::{Temperature, Verdict};
+use outcome::Refusal;
+use thermo_types::Temperature;
 
 // ---- lanes: Jets of the solvents side by side, entry i of plane k at k * 8 + i
 
@@ -138,8 +138,8 @@ fn quad_sums(table: &[f64; 512], b: usize, x: &[f64; 8], n: usize, i: usize) -> 
 // S and R = C / S of the pair i.
 fn keep_sums(c: Pair, s: Pair, i: usize, sums: &mut [f64; 24], ratios: &mut [f64; 24])
     requires { i < 7 }
-    ensures sums_after { sums.new ≡ lane_pair s i 2 sums.old }
-    ensures ratios_after { ratios.new ≡ lane_pair (div_pair c s) i 3 ratios.old }
+    ensures sums { sums.new ≡ lane_pair s i 2 sums.old }
+    ensures ratios { ratios.new ≡ lane_pair (div_pair c s) i 3 ratios.old }
 {
     keep_two(s.a, i, sums);
     keep_two(s.b, i + 1, sums);
@@ -156,8 +156,8 @@ fn sum_pair(
     ratios: &mut [f64; 24],
 )
     requires { (n ≤ 8) × (i < 7) }
-    ensures sums_after { sums.new ≡ pair_in (s_on table.now (at x.now) n) 2 i sums.old }
-    ensures ratios_after { ratios.new ≡ pair_in (r_on table.now (at x.now) n) 3 i ratios.old }
+    ensures sums { sums.new ≡ pair_in (s_on table.now (at x.now) n) 2 i sums.old }
+    ensures ratios { ratios.new ≡ pair_in (r_on table.now (at x.now) n) 3 i ratios.old }
 {
     let s = pair_sums(table, G_PLANE, x, n, i);
     let c = pair_sums(table, H_PLANE, x, n, i);
@@ -173,8 +173,8 @@ fn sum_quad(
     ratios: &mut [f64; 24],
 )
     requires { (n ≤ 8) × (i < 5) }
-    ensures sums_after { sums.new ≡ quad_in (s_on table.now (at x.now) n) 2 i sums.old }
-    ensures ratios_after { ratios.new ≡ quad_in (r_on table.now (at x.now) n) 3 i ratios.old }
+    ensures sums { sums.new ≡ quad_in (s_on table.now (at x.now) n) 2 i sums.old }
+    ensures ratios { ratios.new ≡ quad_in (r_on table.now (at x.now) n) 3 i ratios.old }
 {
     let s = quad_sums(table, G_PLANE, x, n, i);
     let c = quad_sums(table, H_PLANE, x, n, i);
@@ -190,9 +190,10 @@ fn fill_sums(
     ratios: &mut [f64; 24],
 )
     requires { n ≤ 8 }
-    ensures sums_after { sums.new ≡ lanes (s_on table.now (at x.now) n) 2 (evened n) sums.old }
-    ensures ratios_after { ratios.new ≡ lanes (r_on table.now (at x.now) n) 3 (evened n) ratios.old }
+    ensures sums { sums.new ≡ lanes (s_on table.now (at x.now) n) 2 (evened n) sums.old }
+    ensures ratios { ratios.new ≡ lanes (r_on table.now (at x.now) n) 3 (evened n) ratios.old }
 {
+    // Kept: a `for` over the fours takes an activity of four solvents a fifth longer.
     let mut i = 0;
     while i + 2 < n {
         sum_quad(table, x, n, i, sums, ratios);
@@ -296,8 +297,8 @@ fn quad_lns(
 // One array after the other: that way both entries of one are one store.
 fn keep_lns(l: Pair, i: usize, ln_gamma: &mut [f64; 8], slopes: &mut [f64; 8])
     requires { i < 7 }
-    ensures ln_gamma_after { ln_gamma.new ≡ set (set ln_gamma.old i l.a.v) (i + 1) l.b.v }
-    ensures slopes_after { slopes.new ≡ set (set slopes.old i l.a.d) (i + 1) l.b.d }
+    ensures values { ln_gamma.new ≡ set (set ln_gamma.old i l.a.v) (i + 1) l.b.v }
+    ensures slopes { slopes.new ≡ set (set slopes.old i l.a.d) (i + 1) l.b.d }
 {
     let p = l.a;
     let q = l.b;
@@ -318,8 +319,8 @@ fn ln_pair(
     slopes: &mut [f64; 8],
 )
     requires { (n ≤ 8) × (i < 7) }
-    ensures ln_gamma_after { ln_gamma.new ≡ set_two (λ k. (ln_from (twos table.now tau_plane) (twos table.now g_plane) (two_in sums.now) (two_in ratios.now) (at x.now) n k).v) i ln_gamma.old }
-    ensures slopes_after { slopes.new ≡ set_two (λ k. (ln_from (twos table.now tau_plane) (twos table.now g_plane) (two_in sums.now) (two_in ratios.now) (at x.now) n k).d) i slopes.old }
+    ensures values { ln_gamma.new ≡ set_two (λ k. (ln_from (twos table.now tau_plane) (twos table.now g_plane) (two_in sums.now) (two_in ratios.now) (at x.now) n k).v) i ln_gamma.old }
+    ensures slopes { slopes.new ≡ set_two (λ k. (ln_from (twos table.now tau_plane) (twos table.now g_plane) (two_in sums.now) (two_in ratios.now) (at x.now) n k).d) i slopes.old }
 {
     let l = pair_lns(table, sums, ratios, x, n, i);
     keep_lns(l, i, ln_gamma, slopes);
@@ -336,8 +337,8 @@ fn ln_quad(
     slopes: &mut [f64; 8],
 )
     requires { (n ≤ 8) × (i < 5) }
-    ensures ln_gamma_after { ln_gamma.new ≡ set_four (λ k. (ln_from (twos table.now tau_plane) (twos table.now g_plane) (two_in sums.now) (two_in ratios.now) (at x.now) n k).v) i ln_gamma.old }
-    ensures slopes_after { slopes.new ≡ set_four (λ k. (ln_from (twos table.now tau_plane) (twos table.now g_plane) (two_in sums.now) (two_in ratios.now) (at x.now) n k).d) i slopes.old }
+    ensures values { ln_gamma.new ≡ set_four (λ k. (ln_from (twos table.now tau_plane) (twos table.now g_plane) (two_in sums.now) (two_in ratios.now) (at x.now) n k).v) i ln_gamma.old }
+    ensures slopes { slopes.new ≡ set_four (λ k. (ln_from (twos table.now tau_plane) (twos table.now g_plane) (two_in sums.now) (two_in ratios.now) (at x.now) n k).d) i slopes.old }
 {
     let l = quad_lns(table, sums, ratios, x, n, i);
     keep_lns(l.a, i, ln_gamma, slopes);
@@ -354,9 +355,9 @@ fn fill_lns(
     slopes: &mut [f64; 8],
 )
     requires { n ≤ 8 }
-    ensures ln_gamma_after { ln_gamma.new ≡ fill (λ k. (ln_from (twos table.now tau_plane) (twos table.now g_plane) (two_in sums.now) (two_in ratios.now) (at x.now) n k).v) (evened n) ln_gamma.old }
-    ensures slopes_after { slopes.new ≡ fill (λ k. (ln_from (twos table.now tau_plane) (twos table.now g_plane) (two_in sums.now) (two_in ratios.now) (at x.now) n k).d) (evened n) slopes.old }
+    ensures { GammasTo (ln_from (twos table.now tau_plane) (twos table.now g_plane) (two_in sums.now) (two_in ratios.now) (at x.now) n) (evened n) ln_gamma.old slopes.old ln_gamma.new slopes.new }
 {
+    // Kept: as in `fill_sums`.
     let mut i = 0;
     while i + 2 < n {
         ln_quad(table, sums, ratios, x, n, i, ln_gamma, slopes);
@@ -367,11 +368,11 @@ fn fill_lns(
     }
 }
 
-// 0.0 where the last pair went past n.
+// 0.0 where the last two went past n.
 fn clear_past(n: usize, ln_gamma: &mut [f64; 8], slopes: &mut [f64; 8])
     requires { n ≤ 8 }
-    ensures cleared { Cleared n ln_gamma.old ln_gamma.new }
-    ensures cleared_2 { Cleared n slopes.old slopes.new }
+    ensures values { Cleared n ln_gamma.old ln_gamma.new }
+    ensures slopes { Cleared n slopes.old slopes.new }
 {
     if n % 2 == 1 {
         ln_gamma[n] = 0.0;
@@ -379,38 +380,9 @@ fn clear_past(n: usize, ln_gamma: &mut [f64; 8], slopes: &mut [f64; 8])
     }
 }
 
-fn all_finite(n: usize, ln_gamma: &[f64; 8], slopes: &[f64; 8]) -> bool
-    requires { n ≤ 8 }
-    ensures { result ≡ all_to (λ i. is_finite (at ln_gamma.now i) && is_finite (at slopes.now i)) n }
-{
-    let mut finite = true;
-    for i in 0..n {
-        finite = finite & (floats::is_finite(ln_gamma[i]) & floats::is_finite(slopes[i]));
-    }
-    finite
-}
-
-fn ln_gammas(
-    table: &[f64; 512],
-    sums: &[f64; 24],
-    ratios: &[f64; 24],
-    x: &[f64; 8],
-    n: usize,
-    ln_gamma: &mut [f64; 8],
-    slopes: &mut [f64; 8],
-) -> bool
-    requires { n ≤ 8 }
-    ensures { GammasTo (ln_from (twos table.now tau_plane) (twos table.now g_plane) (two_in sums.now) (two_in ratios.now) (at x.now) n) n result zeros8 zeros8 ln_gamma.new slopes.new }
-{
-    *ln_gamma = [0.0; 8];
-    *slopes = [0.0; 8];
-    fill_lns(table, sums, ratios, x, n, ln_gamma, slopes);
-    clear_past(n, ln_gamma, slopes);
-    all_finite(n, ln_gamma, slopes)
-}
-
 // ---- the state
 
+// Of arrays that hold 0.0 everywhere.
 fn state(
     table: &[f64; 512],
     n: usize,
@@ -418,55 +390,33 @@ fn state(
     x: &[f64; 8],
     ln_gamma: &mut [f64; 8],
     slopes: &mut [f64; 8],
-) -> Energies
-    requires { n ≤ 8 }
+) -> Result<Energies, Refusal>
+    requires { (n ≤ 8) × (ln_gamma.now ≡ zeros8) × (slopes.now ≡ zeros8) }
     ensures { Gives (state_from (reduced_on table.now (at x.now) n) (ln_gamma_on table.now (at x.now) n) n t.0) result ln_gamma.new slopes.new }
 {
     let mut sums = [0.0; 24];
     let mut ratios = [0.0; 24];
     fill_sums(table, x, n, &mut sums, &mut ratios);
-    let ge = reduced(&ratios, x, n);
-    if ln_gammas(table, &sums, &ratios, x, n, ln_gamma, slopes) {
-        return excess::state(ge, t, ln_gamma, slopes);
-    }
-    excess::refuse(25, ln_gamma, slopes)
-}
-
-// Question 24 after the composition has passed.
-fn passed(
-    table: &[f64; 512],
-    alphas: Verdict,
-    n: usize,
-    t: Temperature,
-    x: &[f64; 8],
-    ln_gamma: &mut [f64; 8],
-    slopes: &mut [f64; 8],
-) -> Energies
-    requires { n ≤ 8 }
-    ensures { Gives (passing alphas (state_from (reduced_on table.now (at x.now) n) (ln_gamma_on table.now (at x.now) n) n t.0)) result ln_gamma.new slopes.new }
-{
-    match alphas {
-        Verdict::Passed => state(table, n, t, x, ln_gamma, slopes),
-        Verdict::Refused(number) => excess::refuse(number, ln_gamma, slopes),
-    }
+    fill_lns(table, &sums, &ratios, x, n, ln_gamma, slopes);
+    clear_past(n, ln_gamma, slopes);
+    excess::finite_state(reduced(&ratios, x, n), n, t, ln_gamma, slopes)
 }
 
 // ln γ and slopes (1/K), 0.0 past n, and the energies at t and the mole fractions x, from a table and what `tables` said
-// of its α.
+// of its α, which is asked after the composition.
 pub fn excess(
     table: &[f64; 512],
-    alphas: Verdict,
+    alphas: Result<(), Refusal>,
     n: usize,
     t: Temperature,
     x: &[f64; 8],
     ln_gamma: &mut [f64; 8],
     slopes: &mut [f64; 8],
-) -> Energies
+) -> Result<Energies, Refusal>
     ensures { Gives (nrtl_on table.now alphas (places n) t.0 (at x.now)) result ln_gamma.new slopes.new }
 {
-    let fractions = excess::with_state(t, x, n);
-    match fractions {
-        Verdict::Passed => passed(table, alphas, floats::places(n), t, x, ln_gamma, slopes),
-        Verdict::Refused(number) => excess::refuse(number, ln_gamma, slopes),
-    }
+    excess::clear(ln_gamma, slopes);
+    excess::with_state(t, x, n)?;
+    alphas?;
+    state(table, floats::places(n), t, x, ln_gamma, slopes)
 }

@@ -1,2 +1,2 @@
 -- What the proofs of the table's functions share. Assumes nothing.
-mod Stores
+mod Cells

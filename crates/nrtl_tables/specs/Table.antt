@@ -1,8 +1,8 @@
 -- The table of a temperature: eight planes of 64 in one flat array, entry (i, j) of plane k at k * 64 + i * 8 + j. Assumes nothing.
-use Rattle.std.specs.Prelude.{ℕ, ◌≡◌, cond, List, [], ◌∷◌, Float}
+use Rattle.std.specs.Prelude.{ℕ, ◌≡◌, cond, List, [], ◌∷◌, Float, Result, Ok, Err}
 use Rattle.floats.specs.Vector.{at}
-use Rattle.thermo_types.specs.declared.Verdict.{Verdict}
-use Rattle.thermo_types.specs.declared.Verdict.TheVariants.{Passed, Refused}
+use Rattle.outcome.specs.declared.Refusal.{Refusal}
+use Rattle.outcome.specs.declared.Refusal.TheVariants.{AlphaNotPositive}
 use Rattle.jet.specs.declared.Jet.{Jet}
 use Rattle.jet.specs.Jets.{mul_j}
 use Rattle.jet.specs.Planes.{plane_pairs, plane_rows}
@@ -34,11 +34,11 @@ table_pairs T G i m old = plane_pairs (λ i j. kept_of (T i j) (G i j)) 8 i m ol
 unfoldable pub table_of : List Float → ℕ → Float → List Float → List Float
 table_of P n t old = cond (alphas_right P t n) (table_rows (tau_at P t) (g_at P t) n n old) old
 
--- question 24 as a value
-unfoldable pub table_verdict : List Float → ℕ → Float → Verdict
-table_verdict P n t = cond (alphas_right P t n) Passed (Refused 24)
+-- question 24 as a result
+unfoldable pub table_verdict : List Float → ℕ → Float → Result (Unit {0}) Refusal
+table_verdict P n t = cond (alphas_right P t n) (Ok tt) (Err AlphaNotPositive)
 
 -- what a call of `tables` gives
-pub record Filled (P : List Float) (n : ℕ) (t : Float) (r : Verdict) (old new : List Float) : Type 0 where
+pub record Filled (P : List Float) (n : ℕ) (t : Float) (r : Result (Unit {0}) Refusal) (old new : List Float) : Type 0 where
   pub verdict : r ≡ table_verdict P n t
   pub table : new ≡ table_of P n t old

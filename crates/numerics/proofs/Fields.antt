@@ -21,10 +21,6 @@ pub split-made : (x : ℕ) (m : Float) {u : ℕ} {k h r : Float} → u ≡ cond 
 unfolding ln_split
 split-made x m pu pk ph pr = rw (pr, pk, pu, ph) (split_at (lt √2 m) x m)
 
-pub raised_lt : (b : Bool) (x : ℕ) {u : ℕ} → u ≡ cond b (x + 1) x → x < 2047 → u < 2048
-raised_lt true x p h = omega arith
-raised_lt false x p h = omega arith
-
 pub digits-no_nan : (d : ℕ) → d < 4503599627370496 → nan_bits binary64 (d + 4607182418800017408) ≡ false
 digits-no_nan d h =
     let e : d + 4503599627370496 + 4602678819172646912 ≡ d + 4607182418800017408 = omega arith in

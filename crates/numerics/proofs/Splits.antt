@@ -1,8 +1,7 @@
 -- v = 2 ^ k × m, from the digits of v's bit pattern. Assumes nothing.
-use Rattle.std.proofs.Common.{◌≡◌, ℕ, zero, suc, ◌+◌, ◌-◌, ◌*◌, ◌/◌, ◌%◌, ◌^◌, ◌<◌, ◌≤◌, Bool, true, false, ltb, leb, ℤ, pos, negsuc, ◌+ℤ◌, ◌-ℤ◌, sym, refl, ap, ◌∙◌, subst, le_trans, le_of_eq, lt_of_lt_of_le, le_of_suc-le-suc, lt_of_le_of_lt, lt_irrefl, mul-le-mul_right, mul_assoc, lt_of_mul-lt-mul_right, mul-pos, one-mul, pow-suc, lt_of_not-le, mul-one, not-le_of_lt, le_of_mul-le-mul_right, mul-div_cancel, arith, pow_pos, pow_mono, pow-add, w64, to_z, ltb-false, ltb-true, le-ltb, lt-ltb, le-leb, leb-false, leb-true}
+use Rattle.std.proofs.Common.{◌≡◌, ℕ, zero, suc, ◌+◌, ◌-◌, ◌*◌, ◌/◌, ◌%◌, ◌^◌, ◌<◌, ◌≤◌, Bool, true, false, ltb, leb, ℤ, pos, negsuc, ◌+ℤ◌, ◌-ℤ◌, sym, refl, ap, ◌∙◌, subst, le_trans, le_of_eq, lt_of_lt_of_le, le_of_suc-le-suc, lt_of_le_of_lt, lt_irrefl, mul-le-mul_right, mul_assoc, lt_of_mul-lt-mul_right, mul-pos, one-mul, pow-suc, lt_of_not-le, mul-one, not-le_of_lt, le_of_mul-le-mul_right, mul-div_cancel, arith, pow_pos, pow_mono, pow-add, ltb-false, ltb-true, le-ltb, lt-ltb, le-leb, leb-false, leb-true}
 use borrow.Author.Tests.{lt-leb}
 use lib.Signed.{mag}
-use mir.ValLaws.{to_z_pos}
 use lib.Count.{count_trailing_zeros, under}
 use lib.Bits.{shifted_half, shifted_even}
 use lib.Ieee.{fin, minus, size, odd}
@@ -165,6 +164,3 @@ minus_mag a b n h k = go (leb b a) refl
     go : (r : Bool) → leb b a ≡ r → mag (minus a b) < n
     go true e = let l = leb-true b a e in rw e (omega arith)
     go false e = let l = leb-false b a e in rw e (omega arith)
-
-pub diff_is : (a b : ℕ) → a < 2 ^ 63 → b < 2 ^ 63 → to_z w64 a -ℤ to_z w64 b ≡ minus a b
-diff_is a b h k = rw (to_z_pos w64 a h, to_z_pos w64 b k) (sub-is_minus a b)

@@ -17,13 +17,12 @@ use Rattle.floats.specs.Fold.{fold_to}
 use Rattle.floats.specs.Vector.{at, fill, vec}
 use Rattle.floats.proofs.Folds.{fold_cong}
 use Rattle.floats.proofs.Fills.{fill-at, vec-at}
-use Rattle.thermo_types.specs.declared.Normalized.{Normalized}
-use Rattle.thermo_types.specs.Verdicts.{normalized_answer}
+use Rattle.floats.specs.Outcome.{Out}
 use Rattle.thermo_types.specs.Composition.{normalize_of}
 use Rattle.thermo_types.proofs.Normalizing.{normalize_cong}
 use Rattle.blocks.specs.Bytes.{word_at}
 use Rattle.question.specs.Inputs.{within}
-use Rattle.question.proofs.Laws.{above}
+use Rattle.question.proofs.Laws.{outside}
 use Rattle.pool.specs.Pool.{total_to, pool_count, pool_total, total_right, amount, pool_feed}
 
 module _ (f : ℕ → ℕ) (p : ℕ) where
@@ -45,7 +44,7 @@ pub kept-within : (m t : ℕ) {s : ℕ} → s ≡ min t (m + 1) → within 1 m s
 kept-within m t {s} e = go (ltb m t) (ltb→lt m t) (nltb→le m t)
   where
     go : (b : Bool) → (T b → m < t) → (T (not b) → t ≤ m) → within 1 m s ≡ within 1 m t
-    go true h k = let l = h tt in above 1 m s (omega arith) ∙ sym (above 1 m t l)
+    go true h k = let l = h tt in outside 1 m s (λ a b. omega arith) ∙ sym (outside 1 m t (λ a b. omega arith))
     go false h k = let l = k tt in let d : s ≡ t = omega arith in ap (within 1 m) d
 
 pub at_most : (m t : ℕ) → within 1 m t ≡ true → t ≤ m
@@ -64,9 +63,8 @@ pub total_cong : (f g : ℕ → ℕ) (n : ℕ) → ((k : ℕ) → k < n → f k 
 total_cong f g n e = fold_cong 0 n (λ k s l. ap (λ (t : ℕ). s + t) (e k l))
 
 -- ---- the fractions of an array's first n entries
-pub normalized_vec : (f : ℕ → Float) (n : ℕ) → n ≤ 8 → {y : List Float} {r : Normalized} → y ≡ vec f n → r ≡ normalized_answer (normalize_of (at y) n)
-    → r ≡ normalized_answer (normalize_of f n)
-normalized_vec f n l e h = h ∙ ap normalized_answer (rw e (normalize_cong n (λ i k. vec-at f n i l k)))
+pub normalized_vec : (f : ℕ → Float) (n : ℕ) → n ≤ 8 → {y : List Float} {o : Out (List Float)} → y ≡ vec f n → o ≡ normalize_of (at y) n → o ≡ normalize_of f n
+normalized_vec f n l e h = h ∙ rw e (normalize_cong n (λ i k. vec-at f n i l k))
 
 -- ---- the counts that the code keeps
 module _ (drums : List ℕ) (n : ℕ) (few : n ≤ 8) {counts : List ℕ} (e : counts ≡ fill (λ i. min (pool_count drums i) (2 ^ 53 + 1)) n (replicate 8 0)) where

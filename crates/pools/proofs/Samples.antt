@@ -18,7 +18,7 @@ use Rattle.book.specs.Book.{rule_in, rule_of}
 use Rattle.rachford_rice.specs.Rachford.{turn_of, residual_of, slope_of, k_max, k_min, validate, liquid_part, vapor_part, solution_at, iterate, between, negative}
 use Rattle.rachford_rice.specs.Rachford.{two_phase, one_phase, constrained}
 use Rattle.question.specs.Asked.{moles_of, tolerance_right, options_right, options_in, question_from, inputs_right, limits_right, task_in, rest_of}
-use Rattle.replies.specs.Blocks.{bit, status_number, state_words, model_words, answer_words, answer_bytes}
+use Rattle.replies.specs.Blocks.{state_words, model_words, answer_words, answer_bytes}
 use Rattle.replies.specs.Answers.{rice_block}
 use Rattle.sheet.specs.Tasks.{task_of, task8, task_split}
 use Rattle.sheet.specs.Sheet.{answer_to, roomy}
@@ -35,7 +35,7 @@ answered book question drums e h = rw e h
 pub pool_samples : PoolSamples
 unfolding of_bits to_bits add sub mul div neg lt le eq is_nan of_int size word block check_sum sum_by check_right bytes row_to block_bytes is_finite fold_to all_to
     fill_from fill bind need choose sums_to_one with_fractions shares_of normalize_of rule_in rule_of positive tolerance_right options_right options_in question_from
-    inputs_right limits_right task_in moles_of rest_of bit status_number state_words model_words answer_words answer_bytes task_of answer_to roomy turn_of residual_of
+    inputs_right limits_right task_in moles_of rest_of state_words model_words answer_words answer_bytes task_of answer_to roomy turn_of residual_of
     slope_of k_max k_min validate liquid_part vapor_part solution_at iterate between negative two_phase one_phase constrained rice_block task8 task_split pool_count
     pool_total drums_right total_right pool_feed fed_to drums_to pooled_from
 pool_samples = record {

@@ -1,4 +1,4 @@
--- A question asked of a book is the one asked of the copy that holds the offered pair, and the ways through the two blocks' questions. Assumes nothing.
+-- A question asked of a book is the one asked of the copy that holds the offered pair, and the ways through a call. Assumes nothing.
 use Prim.Native.Nat.{ℕ, ◌≤◌}
 use mathlib.Core.Path.{◌≡◌, refl, sym, ap, ◌∙◌}
 use mathlib.Core.Bool.{Bool, true, false}
@@ -13,20 +13,14 @@ use Rattle.floats.proofs.Outcomes.{each-ok, each-need}
 use Rattle.blocks.specs.declared.Rule.{Rule}
 use Rattle.blocks.specs.Words.{word, check_right}
 use Rattle.book.specs.declared.Head.{Head}
-use Rattle.book.specs.declared.Opened.{Opened}
-use Rattle.book.specs.declared.Opened.TheVariants.{Book, No}
 use Rattle.book.specs.Places.{words}
-use Rattle.book.specs.Book.{molar_mass, book_of, rule_of, offered_of, opened_of}
-use Rattle.book.proofs.Laws.{opened-ok, opened-no}
+use Rattle.book.specs.Book.{molar_mass, book_of, rule_of, offered_of}
 use Rattle.book.proofs.Accepted.{accepted}
 use Rattle.records.specs.Offered.{with_pair}
 use Rattle.records.proofs.Offered.{copy-rule, copy-mass}
 use Rattle.question.specs.Asked.{task_in, question_of}
 use Rattle.question.proofs.Unread.{SameMasses, question-unread}
-use Rattle.replies.specs.Blocks.{answer_room}
-use Rattle.sheet.specs.Sheet.{question_to, answer_to, sheet_from, Answers}
-use Rattle.sheet.proofs.Laws.{refuses, goes_on}
-use Rattle.sheet.proofs.Dispatch.{roomed}
+use Rattle.sheet.specs.Sheet.{question_to, sheet_from}
 use Rattle.preview.specs.Preview.{preview_from, preview_of}
 
 -- a question that fails its check
@@ -49,36 +43,16 @@ copy-question n version book offered question =
     ap (λ (rule : Rule). question_of rule question version (molar_mass (words (with_pair n book offered))) n) (copy-rule n book offered)
     ∙ question-masses (rule_of book) question version n _ _ (record { mass = λ v i l. copy-mass n book offered i l })
 
--- the room, for the copy
-pub copy-roomed : (n version : ℕ) (book offered question : List ℕ) {r : ℕ} {old new : List ℕ} → answer_room ≤ length old
-    → Answers (bind (question_to book version n question) (answer_to (with_pair n book offered) n)) r old new
-    → Answers (sheet_from (with_pair n book offered) version n question (length old)) r old new
-unfolding sheet_from
-copy-roomed n version book offered question l h = roomed l (rw (copy-question n version book offered question) h)
-
 -- what was answered for an offered block is the book's head
 offered_head : (rule : Rule) (h : Head) (offered : List ℕ) {g : Head} → offered_of rule h offered ≡ ok g → h ≡ g
 unfolding offered_of
 offered_head rule h offered {g} e = let P : Head → Type 0 = λ g. h ≡ g in
     (each-need P _ 1 (each-need P _ 2 (each-need P _ 7 (each-need P _ 8 (each-need P _ 9 (each-ok P refl)))))).each g e
 
--- the book's questions, then the offered block's
-module _ (book offered question : List ℕ) (room : ℕ) {x : Opened} (e : x ≡ opened_of (book_of book)) where
-  pub book-no : {r : ℕ} {old : List ℕ} → x ≡ No r → Answers (preview_of book offered question room) r old old
-  unfolding preview_of
-  book-no q = refuses _ (opened-no (book_of book) (sym q ∙ e))
-
-  module _ {h : Head} {rule : Rule} {y : Opened} (q : x ≡ Book h) (u : rule ≡ rule_of book) (d : y ≡ opened_of (offered_of rule h offered)) where
-    pub offered_no : {r : ℕ} {old : List ℕ} → y ≡ No r → Answers (preview_of book offered question room) r old old
-    unfolding preview_of
-    offered_no s = goes_on _ (opened-ok (book_of book) (sym q ∙ e)) (refuses _ (opened-no (offered_of (rule_of book) h offered) (sym s ∙ rw u at d)))
-
-    pub offered_ok : {g : Head} {r : ℕ} {old new : List ℕ} → y ≡ Book g
-        → Answers (sheet_from (with_pair (places h.n) book offered) h.version (places h.n) question room) r old new
-        → Answers (preview_of book offered question room) r old new
-    unfolding preview_of preview_from
-    offered_ok {g} s a =
-        let b : book_of book ≡ ok h = opened-ok (book_of book) (sym q ∙ e) in
-        let o : offered_of (rule_of book) h offered ≡ ok g = opened-ok (offered_of (rule_of book) h offered) (sym s ∙ rw u at d) in
-        let m : places h.n ≡ h.n = min-eq_left (accepted book b).few in
-        goes_on _ b (goes_on _ o (rw (← offered_head (rule_of book) h offered o) (rw m at a)))
+-- past both blocks
+pub opened : (book offered question : List ℕ) (room : ℕ) {h g : Head} {rule : Rule} → ok h ≡ book_of book → rule ≡ rule_of book → ok g ≡ offered_of rule h offered
+    → preview_of book offered question room ≡ sheet_from (with_pair (places h.n) book offered) h.version (places h.n) question room
+unfolding preview_of preview_from bind
+opened book offered question room {h} {g} {rule} o u d =
+    let m : places h.n ≡ h.n = min-eq_left (accepted book (sym o)).few in
+    rw (sym o, ← u, sym d, ← offered_head rule h offered (sym d), m)

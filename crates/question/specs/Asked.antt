@@ -3,20 +3,16 @@ use Rattle.std.specs.Prelude.{ℕ, ◌+◌, Bool, not, ◌&&◌, ◌||◌, List,
 use Rattle.std.specs.Float.Ieee.{lt, le}
 use Rattle.floats.specs.Arithmetic.{◌⊘◌, #, 0f}
 use Rattle.floats.specs.Small.{is_finite, positive, float}
-use Rattle.floats.specs.Vector.{at, vec, zeros8}
-use Rattle.floats.specs.Outcome.{Out, ok, no, bind, need, choose}
+use Rattle.floats.specs.Vector.{at, vec}
+use Rattle.floats.specs.Outcome.{Out, ok, bind, need, choose}
 use Rattle.thermo_types.specs.Quantities.{lowest_kelvin, highest_kelvin}
 use Rattle.thermo_types.specs.Composition.{all_finite, none_negative, all_positive, sums_to_one, normalize_of}
 use Rattle.thermo_types.specs.declared.ActivityOptions.{ActivityOptions}
-use Rattle.thermo_types.specs.declared.Verdict.TheVariants.{Passed, Refused}
 use Rattle.blocks.specs.Words.{word, check_right}
 use Rattle.blocks.specs.declared.Rule.{Rule}
 use Rattle.book.specs.Book.{has_masses}
 use Rattle.question.specs.Inputs.{is_task, needs_temperature, needs_pressure, needs_options, needs_ratios, if_needed}
 use Rattle.question.specs.declared.Question.{Question}
-use Rattle.question.specs.declared.Asked.{Asked}
-use Rattle.question.specs.declared.Task.{Task}
-use Rattle.question.specs.declared.Task.TheVariants.{Read, No}
 
 -- ---- block and task (11, 12): the task
 unfoldable pub task_in : Rule → List ℕ → Out ℕ
@@ -126,29 +122,3 @@ rest_of q m n x =
 -- ---- questions 11 to 21 to the bytes of a question, for a book of that version and n solvents with the molar masses m
 unfoldable pub question_of : Rule → List ℕ → ℕ → (ℕ → Float) → ℕ → Out Question
 question_of rule q version m n = bind (task_in rule q) (λ task. need (kind_right version (word q)) 36 (rest_of q m n (feed_of q n)))
-
--- as the code answers; a refusal has an empty question
-unfoldable pub task_read : Out ℕ → Task
-task_read (ok t) = Read t
-task_read (no r) = No r
-
-unfoldable pub empty_question : Question
-empty_question = record {
-  task = 0;
-  temperature = 0f;
-  pressure = 0f;
-  fractions = zeros8;
-  options = record {
-    max_iterations = 0;
-    tolerance = 0f;
-    max_temperature_iterations = 0;
-    tm_threshold = 0f;
-    minimum_temperature_k = 0f;
-    maximum_temperature_k = 0f;
-  };
-  ratios = zeros8;
-}
-
-unfoldable pub asked_of : Out Question → Asked
-asked_of (ok q) = record { verdict = Passed; question = q }
-asked_of (no r) = record { verdict = Refused r; question = empty_question }

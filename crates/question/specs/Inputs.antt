@@ -1,5 +1,26 @@
--- Which inputs each task needs (docs/FORMAT.md, "Refusals"). Assumes nothing.
-use Rattle.std.specs.Prelude.{ℕ, Bool, not, ◌&&◌, ◌||◌, eqb, leb}
+-- The tasks by their number, and which inputs each needs (docs/FORMAT.md, "Refusals"). Assumes nothing.
+use Rattle.std.specs.Prelude.{ℕ, Bool, not, ◌&&◌, ◌||◌, eqb, leb, Result, Ok, Err}
+use Rattle.floats.specs.Outcome.{Out, ok, no}
+use Rattle.outcome.specs.Refused.{number}
+use Rattle.outcome.specs.declared.Refusal.{Refusal}
+use Rattle.question.specs.declared.Task.{Task}
+use Rattle.question.specs.declared.Task.TheVariants.{Activity, BubblePressure, DewPressure, BubbleTemperature, DewTemperature, Stability, Flash, Split, NegativeSplit}
+
+abbrev pub task_number : Task → ℕ
+task_number Activity = 1
+task_number BubblePressure = 2
+task_number DewPressure = 3
+task_number BubbleTemperature = 4
+task_number DewTemperature = 5
+task_number Stability = 6
+task_number Flash = 7
+task_number Split = 8
+task_number NegativeSplit = 9
+
+-- a task that was read, as its number
+abbrev pub task_found : Result Task Refusal → Out ℕ
+task_found (Ok t) = ok (task_number t)
+task_found (Err r) = no (number r)
 
 -- from a to b
 abbrev pub within : ℕ → ℕ → ℕ → Bool

@@ -6,20 +6,67 @@ ghost use Rattle.std.specs.Prelude.{◌≡◌, ◌≤◌, ◌+◌};
 ghost use Rattle.floats.specs.Arithmetic.{◌⊘◌};
 ghost use Rattle.floats.specs.Small.{float};
 ghost use Rattle.floats.specs.Vector.{at, vec, places};
-ghost use Rattle.floats.specs.Outcome.{ok, no, bind};
-ghost use Rattle.thermo_types.specs.Verdicts.{verdict_of, normalized_answer};
+ghost use Rattle.floats.specs.Outcome.{ok, bind, need};
+ghost use Rattle.outcome.specs.Refused.{outcome_of};
 ghost use Rattle.blocks.specs.Words.{word};
 ghost use Rattle.book.specs.Places.{words};
 ghost use Rattle.book.specs.Book.{molar_mass};
-ghost use Rattle.question.specs.Inputs.{is_task, needs_temperature, needs_pressure, needs_options, needs_ratios, if_needed};
-ghost use Rattle.question.specs.Asked.{task_in, task_read, kind_right, feed_of, temperature_right, pressure_right, inputs_finite, ratios_positive, inputs_right, tolerance_right, options_right, limited, limits_some, limits_few, limits_right, moles_of, options_in, question_from, rest_of, question_of, asked_of};
+ghost use Rattle.question.specs.Inputs.{is_task, task_number, task_found, needs_temperature, needs_pressure, needs_options, needs_ratios, if_needed};
+ghost use Rattle.question.specs.Asked.{task_in, kind_right, feed_of, temperature_right, pressure_right, inputs_finite, ratios_positive, inputs_right, tolerance_right, options_right, limited, limits_some, limits_few, limits_right, moles_of, options_in, question_from, rest_of, question_of};
 
 use blocks::{Rule, word};
-use thermo_types::{ActivityOptions, Normalized, Verdict};
+use outcome::Refusal;
+use thermo_types::ActivityOptions;
+
+// What is asked, by the number in word 1.
+#[derive(Clone, Copy, PartialEq, Eq)]
+pub enum Task {
+    Activity = 1,
+    BubblePressure,
+    DewPressure,
+    BubbleTemperature,
+    DewTemperature,
+    Stability,
+    Flash,
+    Split,
+    NegativeSplit,
+}
+
+impl From<Task> for u64 {
+    ghost from_gives = { λ task n. n ≡ task_number task };
+
+    fn from(task: Task) -> u64 {
+        task as u64
+    }
+}
+
+// 12
+impl TryFrom<u64> for Task {
+    type Error = Refusal;
+
+    ghost try_from_gives = { λ n task. task_found task ≡ need (is_task n) 12 (ok n) };
+
+    #[tactic(auto, unfolding(floats::specs::Outcome::need))]
+    fn try_from(number: u64) -> Result<Task, Refusal> {
+        match number {
+            1 => Ok(Task::Activity),
+            2 => Ok(Task::BubblePressure),
+            3 => Ok(Task::DewPressure),
+            4 => Ok(Task::BubbleTemperature),
+            5 => Ok(Task::DewTemperature),
+            6 => Ok(Task::Stability),
+            7 => Ok(Task::Flash),
+            8 => Ok(Task::Split),
+            9 => Ok(Task::NegativeSplit),
+            _ => Err(Refusal::Task),
+        }
+    }
+}
 
 // K, Pa; the first n fractions and K values, 0.0 past them.
 #[derive(Clone, Copy)]
 pub struct Question {
+    // Kept: a number, since a public call takes a question with any (no `requires` on a `pub fn`).
     pub task: u64,
     pub temperature: f64,
     pub pressure: f64,
@@ -28,68 +75,33 @@ pub struct Question {
     pub ratios: [f64; 8],
 }
 
-// A question that passed, or a refusal with an empty one.
-#[derive(Clone, Copy)]
-pub struct Asked {
-    pub verdict: Verdict,
-    pub question: Question,
-}
-
-// A task, or the number of the question that was answered no.
-#[derive(Clone, Copy)]
-pub enum Task {
-    Read(u64),
-    No(u64),
-}
-
 // Of the options' tolerances.
 const LARGEST_TOLERANCE: f64 = 1e-6;
-
-fn is_task(task: u64) -> bool
-    ensures { result ≡ is_task task }
-{
-    match task {
-        1..=9 => true,
-        _ => false,
-    }
-}
 
 pub fn needs_temperature(task: u64) -> bool
     ensures { result ≡ needs_temperature task }
 {
-    match task {
-        1..=3 | 6..=7 => true,
-        _ => false,
-    }
+    matches!(task, 1..=3 | 6..=7)
 }
 
 pub fn needs_pressure(task: u64) -> bool
     ensures { result ≡ needs_pressure task }
 {
-    match task {
-        4..=5 | 7 => true,
-        _ => false,
-    }
+    matches!(task, 4..=5 | 7)
 }
 
 // The options and both limits.
 fn needs_options(task: u64) -> bool
     ensures { result ≡ needs_options task }
 {
-    match task {
-        3..=7 => true,
-        _ => false,
-    }
+    matches!(task, 3..=7)
 }
 
 // The K values, and of the limits M alone.
 fn needs_ratios(task: u64) -> bool
     ensures { result ≡ needs_ratios task }
 {
-    match task {
-        8..=9 => true,
-        _ => false,
-    }
+    matches!(task, 8..=9)
 }
 
 fn float_at(q: &[u8], k: usize) -> f64
@@ -99,14 +111,13 @@ fn float_at(q: &[u8], k: usize) -> f64
 }
 
 // The first n floats from word `from` on, 0.0 past them.
-fn floats_from(q: &[u8], from: usize, n: usize) -> [f64; 8]
-    requires { from ≤ 56 }
+pub fn floats_from(q: &[u8], from: usize, n: usize) -> [f64; 8]
     ensures { result ≡ vec (λ i. float (word q.now) (from + i)) (places n) }
 {
     let m = floats::places(n);
     let mut x = [0.0; 8];
     for i in 0..m {
-        x[i] = float_at(q, from + i);
+        x[i] = float_at(q, from.saturating_add(i));
     }
     x
 }
@@ -115,37 +126,39 @@ fn floats_from(q: &[u8], from: usize, n: usize) -> [f64; 8]
 fn temperature_right(q: &[u8]) -> bool
     ensures { result ≡ temperature_right (word q.now) }
 {
-    !needs_temperature(word(q, 1)) | floats::positive(float_at(q, 2))
+    !needs_temperature(word(q, 1)) || floats::positive(float_at(q, 2))
 }
 
 // 14
 fn pressure_right(q: &[u8]) -> bool
     ensures { result ≡ pressure_right (word q.now) }
 {
-    !needs_pressure(word(q, 1)) | floats::positive(float_at(q, 3))
+    !needs_pressure(word(q, 1)) || floats::positive(float_at(q, 3))
 }
 
 // 15
 fn inputs_finite(q: &[u8], n: usize, x: &[f64; 8], k: &[f64; 8]) -> bool
     ensures { result ≡ inputs_finite (word q.now) (places n) x.now k.now }
 {
-    thermo_types::all_finite(x, n) & (!needs_ratios(word(q, 1)) | thermo_types::all_finite(k, n))
+    thermo_types::all_finite(x, n) && (!needs_ratios(word(q, 1)) || thermo_types::all_finite(k, n))
 }
 
 // 17
 fn ratios_positive(q: &[u8], n: usize, k: &[f64; 8]) -> bool
     ensures { result ≡ ratios_positive (word q.now) (places n) k.now }
 {
-    !needs_ratios(word(q, 1)) | thermo_types::all_positive(k, n)
+    !needs_ratios(word(q, 1)) || thermo_types::all_positive(k, n)
 }
 
+#[tactic(auto, unfolding(crate::specs::Asked::tolerance_right))]
 fn tolerance_right(v: f64) -> bool
     ensures { result ≡ tolerance_right v }
 {
-    floats::is_finite(v) & (0.0 < v) & (v <= LARGEST_TOLERANCE)
+    floats::is_finite(v) && 0.0 < v && v <= LARGEST_TOLERANCE
 }
 
 // `validate`: both tolerances, the threshold, the bracket (K).
+#[tactic(auto, unfolding(crate::specs::Asked::options_right))]
 fn options_right(q: &[u8]) -> bool
     ensures { result ≡ options_right (word q.now) }
 {
@@ -153,25 +166,25 @@ fn options_right(q: &[u8]) -> bool
     let low = float_at(q, 17);
     let high = float_at(q, 18);
     tolerance_right(float_at(q, 13))
-        & tolerance_right(float_at(q, 15))
-        & (floats::is_finite(threshold) & (threshold < 0.0))
-        & ((thermo_types::LOWEST_KELVIN <= low)
-            & (high <= thermo_types::HIGHEST_KELVIN)
-            & (low < high))
+        && tolerance_right(float_at(q, 15))
+        && (floats::is_finite(threshold) && threshold < 0.0)
+        && (thermo_types::LOWEST_KELVIN <= low
+            && high <= thermo_types::HIGHEST_KELVIN
+            && low < high)
 }
 
 // 19
 fn options_pass(q: &[u8]) -> bool
     ensures { result ≡ if_needed (needs_options (word q.now 1)) (options_right (word q.now)) }
 {
-    !needs_options(word(q, 1)) | options_right(q)
+    !needs_options(word(q, 1)) || options_right(q)
 }
 
 // 20
 fn limits_some(q: &[u8]) -> bool
     ensures { result ≡ limits_some (word q.now) }
 {
-    !needs_options(word(q, 1)) | ((word(q, 12) != 0) & (word(q, 14) != 0))
+    !needs_options(word(q, 1)) || (word(q, 12) != 0 && word(q, 14) != 0)
 }
 
 fn limited(m: u64) -> bool
@@ -186,32 +199,10 @@ fn limits_few(q: &[u8]) -> bool
 {
     let task = word(q, 1);
     let most = limited(word(q, 12));
-    (!needs_options(task) | (most & limited(word(q, 14)))) & (!needs_ratios(task) | most)
+    (!needs_options(task) || (most && limited(word(q, 14)))) && (!needs_ratios(task) || most)
 }
 
-fn refused(number: u64) -> Asked
-    ensures { result ≡ asked_of (no number) }
-{
-    Asked {
-        verdict: Verdict::Refused(number),
-        question: Question {
-            task: 0,
-            temperature: 0.0,
-            pressure: 0.0,
-            fractions: [0.0; 8],
-            options: ActivityOptions {
-                max_iterations: 0,
-                tolerance: 0.0,
-                max_temperature_iterations: 0,
-                tm_threshold: 0.0,
-                minimum_temperature_k: 0.0,
-                maximum_temperature_k: 0.0,
-            },
-            ratios: [0.0; 8],
-        },
-    }
-}
-
+#[tactic(auto, unfolding(crate::specs::Asked::options_in))]
 fn options_in(q: &[u8]) -> ActivityOptions
     ensures { result ≡ options_in (word q.now) }
 {
@@ -225,6 +216,7 @@ fn options_in(q: &[u8]) -> ActivityOptions
     }
 }
 
+#[tactic(auto, unfolding(crate::specs::Asked::question_from))]
 fn question_from(q: &[u8], x: &[f64; 8], k: &[f64; 8]) -> Question
     ensures { result ≡ question_from (word q.now) x.now k.now }
 {
@@ -239,11 +231,12 @@ fn question_from(q: &[u8], x: &[f64; 8], k: &[f64; 8]) -> Question
 }
 
 // 36: mass fractions only where the book's version has molar masses.
+#[tactic(auto, unfolding(crate::specs::Asked::kind_right))]
 pub fn kind_right(version: u64, q: &[u8]) -> bool
     ensures { result ≡ kind_right version (word q.now) }
 {
     let kind = word(q, 27);
-    (kind == 0) | ((kind == 1) & book::has_masses(version))
+    kind == 0 || (kind == 1 && book::has_masses(version))
 }
 
 // Fraction over molar mass (kg/mol): mol of each solvent in a kg of the feed.
@@ -259,78 +252,68 @@ fn over_masses(book: &[u8], n: usize, x: &[f64; 8]) -> [f64; 8]
 }
 
 // The mole fractions of a feed by word 27.
-fn moles(q: &[u8], book: &[u8], n: usize, x: &[f64; 8]) -> Normalized
-    ensures { result ≡ normalized_answer (moles_of (word q.now) (molar_mass (words book.now)) (places n) x.now) }
+fn moles(q: &[u8], book: &[u8], n: usize, x: &[f64; 8]) -> Result<[f64; 8], Refusal>
+    ensures { outcome_of result ≡ moles_of (word q.now) (molar_mass (words book.now)) (places n) x.now }
 {
     if word(q, 27) == 1 {
-        let amounts = over_masses(book, n, x);
-        return thermo_types::normalize(&amounts, n);
-    }
-    Normalized {
-        verdict: Verdict::Passed,
-        fractions: *x,
+        thermo_types::normalize(&over_masses(book, n, x), n)
+    } else {
+        Ok(*x)
     }
 }
 
 // Questions 19 to 21.
-fn check_limits(q: &[u8]) -> Verdict
-    ensures { result ≡ verdict_of (limits_right (word q.now) (ok (word q.now 1))) }
+#[tactic(auto, unfolding(crate::specs::Asked::limits_right, floats::specs::Outcome::need))]
+fn check_limits(q: &[u8]) -> Result<(), Refusal>
+    ensures { outcome_of result ≡ limits_right (word q.now) (ok tt) }
 {
     if !options_pass(q) {
-        return Verdict::Refused(19);
+        return Err(Refusal::Options);
     }
     if !limits_some(q) {
-        return Verdict::Refused(20);
+        return Err(Refusal::LimitZero);
     }
     if !limits_few(q) {
-        return Verdict::Refused(21);
+        return Err(Refusal::LimitHigh);
     }
-    Verdict::Passed
+    Ok(())
 }
 
 // Questions 13 to 18 of the feed x and the K values k.
-fn check_inputs(q: &[u8], n: usize, x: &[f64; 8], k: &[f64; 8]) -> Verdict
-    ensures { result ≡ verdict_of (inputs_right (word q.now) (places n) x.now k.now (ok (word q.now 1))) }
+#[tactic(auto, unfolding(crate::specs::Asked::inputs_right, floats::specs::Outcome::need))]
+fn check_inputs(q: &[u8], n: usize, x: &[f64; 8], k: &[f64; 8]) -> Result<(), Refusal>
+    ensures { outcome_of result ≡ inputs_right (word q.now) (places n) x.now k.now (ok tt) }
 {
     if !temperature_right(q) {
-        return Verdict::Refused(13);
+        return Err(Refusal::Temperature);
     }
     if !pressure_right(q) {
-        return Verdict::Refused(14);
+        return Err(Refusal::Pressure);
     }
     if !inputs_finite(q, n, x, k) {
-        return Verdict::Refused(15);
+        return Err(Refusal::NotFinite);
     }
     if !thermo_types::none_negative(x, n) {
-        return Verdict::Refused(16);
+        return Err(Refusal::FractionNegative);
     }
     if !ratios_positive(q, n, k) {
-        return Verdict::Refused(17);
+        return Err(Refusal::KNotPositive);
     }
     if !thermo_types::sums_to_one(x, n) {
-        return Verdict::Refused(18);
+        return Err(Refusal::FractionSum);
     }
-    Verdict::Passed
+    Ok(())
 }
 
 // Questions 11 and 12: the task.
-pub fn read_task(rule: Rule, q: &[u8]) -> Task
-    ensures { result ≡ task_read (task_in rule q.now) }
+#[tactic(auto, unfolding(crate::specs::Asked::task_in, floats::specs::Outcome::need))]
+pub fn read_task(rule: Rule, q: &[u8]) -> Result<Task, Refusal>
+    ensures { task_found result ≡ task_in rule q.now }
 {
-    if q.len() != 512 {
-        return Task::No(11);
+    if q.len() != 512 || !blocks::check_right(rule, q) || word(q, 0) != 8 {
+        return Err(Refusal::QuestionBlock);
     }
-    if !blocks::check_right(rule, q) {
-        return Task::No(11);
-    }
-    if word(q, 0) != 8 {
-        return Task::No(11);
-    }
-    let task = word(q, 1);
-    if !is_task(task) {
-        return Task::No(12);
-    }
-    Task::Read(task)
+    Task::try_from(word(q, 1))
 }
 
 // The first n fractions, 0.0 past them.
@@ -340,58 +323,30 @@ pub fn read_feed(q: &[u8], n: usize) -> [f64; 8]
     floats_from(q, 4, n)
 }
 
-// The question with mole fractions z that passed, after questions 19 to 21.
-fn read_limits(q: &[u8], z: &[f64; 8], k: &[f64; 8]) -> Asked
-    ensures { result ≡ asked_of (limits_right (word q.now) (ok (question_from (word q.now) z.now k.now))) }
-{
-    let verdict = check_limits(q);
-    match verdict {
-        Verdict::Refused(number) => refused(number),
-        Verdict::Passed => Asked {
-            verdict: Verdict::Passed,
-            question: question_from(q, z, k),
-        },
-    }
-}
-
-// The feed x that passed as mole fractions (34), then 19 to 21.
-fn read_moles(q: &[u8], book: &[u8], n: usize, x: &[f64; 8], k: &[f64; 8]) -> Asked
-    ensures { result ≡ asked_of (bind (moles_of (word q.now) (molar_mass (words book.now)) (places n) x.now) (λ z. limits_right (word q.now) (ok (question_from (word q.now) z k.now)))) }
-{
-    let feed = moles(q, book, n, x);
-    let verdict = feed.verdict;
-    match verdict {
-        Verdict::Refused(number) => refused(number),
-        Verdict::Passed => read_limits(q, &feed.fractions, k),
-    }
-}
-
-// Questions 13 to 21, put to the feed x: what the solvers read, or the number of the first that is answered no.
-pub fn read_rest(q: &[u8], book: &[u8], n: usize, x: &[f64; 8]) -> Asked
-    ensures { result ≡ asked_of (rest_of q.now (molar_mass (words book.now)) (places n) x.now) }
+// Questions 13 to 21, put to the feed x: what the solvers read, or the first that is answered no.
+pub fn read_rest(q: &[u8], book: &[u8], n: usize, x: &[f64; 8]) -> Result<Question, Refusal>
+    ensures { outcome_of result ≡ rest_of q.now (molar_mass (words book.now)) (places n) x.now }
 {
     let k = floats_from(q, 19, n);
-    let verdict = check_inputs(q, n, x, &k);
-    match verdict {
-        Verdict::Refused(number) => refused(number),
-        Verdict::Passed => read_moles(q, book, n, x, &k),
-    }
+    check_inputs(q, n, x, &k)?;
+    let z = moles(q, book, n, x)?;
+    check_limits(q)?;
+    Ok(question_from(q, &z, &k))
 }
 
-// The question for a book of that version and n solvents, or the number of the first of questions 11 to 21 and 36 that
-// is answered no.
-pub fn read_question(rule: Rule, q: &[u8], version: u64, book: &[u8], n: usize) -> Asked
-    ensures { result ≡ asked_of (question_of rule q.now version (molar_mass (words book.now)) (places n)) }
+// The question for a book of that version and n solvents, or the first of questions 11 to 21 and 36 that is answered no.
+pub fn read_question(
+    rule: Rule,
+    q: &[u8],
+    version: u64,
+    book: &[u8],
+    n: usize,
+) -> Result<Question, Refusal>
+    ensures { outcome_of result ≡ question_of rule q.now version (molar_mass (words book.now)) (places n) }
 {
-    let task = read_task(rule, q);
-    match task {
-        Task::No(number) => refused(number),
-        Task::Read(_) => {
-            if !kind_right(version, q) {
-                return refused(36);
-            }
-            let x = read_feed(q, n);
-            read_rest(q, book, n, &x)
-        }
+    read_task(rule, q)?;
+    if !kind_right(version, q) {
+        return Err(Refusal::FeedKind);
     }
+    read_rest(q, book, n, &read_feed(q, n))
 }

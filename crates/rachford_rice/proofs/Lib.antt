@@ -1,3 +1,2 @@
--- Laws of the phase split that callers cite. Assumes nothing.
+-- Laws that the proofs of rachford_rice and its callers cite. Assumes nothing.
 pub mod Laws
-pub mod Answers

@@ -9,7 +9,6 @@ use Rattle.floats.specs.Fold.{fold_to, sum_to, active}
 use Rattle.floats.specs.Vector.{vec, zeros8}
 use Rattle.floats.specs.Outcome.{Out, ok, no, bind, need, choose}
 use Rattle.thermo_types.specs.Composition.{all_finite, none_negative, all_positive, sums_to_one}
-use Rattle.thermo_types.specs.declared.Verdict.TheVariants.{Passed, Refused}
 use Rattle.rachford_rice.specs.declared.RachfordRiceOutcome.{RachfordRiceOutcome}
 use Rattle.rachford_rice.specs.declared.RachfordRiceOutcome.TheVariants.{LiquidOnly, VaporOnly, TwoPhase}
 use Rattle.rachford_rice.specs.declared.RachfordRice.{RachfordRice}
@@ -111,24 +110,13 @@ module _ (z k : ℕ → Float) (n : ℕ) where
   unfoldable pub negative : ℕ → Out Solution
   negative limit = validate (between limit)
 
--- ---- what the code answers
+-- ---- as the code's struct
 unfoldable pub two_phase : Solution → RachfordRice
-two_phase s = record { verdict = Passed; outcome = TwoPhase s.vapor_fraction s.residual s.iterations; liquid = s.liquid; vapor = s.vapor }
+two_phase s = record { outcome = TwoPhase s.vapor_fraction s.residual s.iterations; liquid = s.liquid; vapor = s.vapor }
 
--- a single phase has no compositions; a refusal has neither outcome nor compositions, and is given those of LiquidOnly
+-- a single phase has no compositions
 unfoldable pub one_phase : RachfordRiceOutcome → RachfordRice
-one_phase o = record { verdict = Passed; outcome = o; liquid = zeros8; vapor = zeros8 }
-
-unfoldable pub refused_with : ℕ → RachfordRice
-refused_with r = record { verdict = Refused r; outcome = LiquidOnly; liquid = zeros8; vapor = zeros8 }
-
-unfoldable pub split_of : Out Solution → RachfordRice
-split_of (ok s) = two_phase s
-split_of (no r) = refused_with r
-
-unfoldable pub answer_of : Out RachfordRice → RachfordRice
-answer_of (ok a) = a
-answer_of (no r) = refused_with r
+one_phase o = record { outcome = o; liquid = zeros8; vapor = zeros8 }
 
 -- constrained to 0 ≤ β ≤ 1: g(0) ≤ 0 is liquid, g(1) ≥ 0 vapor
 unfoldable pub constrained : (ℕ → Float) → (ℕ → Float) → ℕ → ℕ → Out RachfordRice

@@ -13,10 +13,7 @@ fn read_some<R: Read>(from: &mut R, buffer: &mut [u8]) -> usize
     ensures fits { result ≤ length buffer.new }
     ensures given { Consumes (R.remaining from.old) (R.remaining from.new) (take result buffer.new) }
 {
-    match from.read(buffer) {
-        Ok(n) => n,
-        Err(_) => 0,
-    }
+    from.read(buffer).unwrap_or(0)
 }
 
 // Reads until the buffer is full, the input ends or a read fails: how many bytes. They are the next that the reader gives, in order.

@@ -1,27 +1,48 @@
 -- The parameters: what is read for an ordered pair, how it is stored, and the turns of the loops. Assumes nothing.
 use mathlib.Core.Path.{◌≡◌, refl, sym, ap, ◌∙◌}
-use mathlib.Core.List.{List}
-use Prim.Native.Nat.{ℕ, zero, suc, ◌+◌, ◌*◌, ◌≤◌, ◌<◌}
+use mathlib.Core.List.{List, [], ◌∷◌, ◌++◌}
+use Prim.Native.Nat.{ℕ, zero, suc, ◌+◌, ◌-◌, ◌*◌, ◌^◌, ◌≤◌, ◌<◌, min}
 use native.Mathlib.Nat.{add-zero}
 use native.Mathlib.Omega.{arith}
-use mathlib.Core.Bool.{true, false}
-use borrow.Author.Tests.{lt-ltb, le-ltb, eq-eqb, ne_eqb}
-use lib.Dec.{eqb}
+use mathlib.Core.Bool.{Bool, true, false}
+use borrow.Author.Tests.{lt-ltb, le-ltb, ltb-true, ltb-false}
+use lib.Dec.{ltb}
 use lib.Ieee.{Float}
-use lib.ListN.{set, replicate}
-use lib.Seq.{set_comm}
+use lib.ListN.{set, replicate, length, get_or, take, drop}
+use lib.Seq.{set_comm, sets-eq}
+use borrow.Rule.Slice.PartMut.{put_mid}
+use Rattle.std.proofs.Common.{append_assoc, drop-drop}
+use Rattle.std.proofs.lemmas.List.{same_lists}
 use Rattle.floats.specs.Arithmetic.{0f}
 use Rattle.floats.specs.Fold.{fold_to}
-use Rattle.floats.specs.Vector.{fill_from}
+use Rattle.floats.specs.Vector.{fill_from, zeros8, vec}
+use Rattle.floats.proofs.Fills.{fill_length, fill-at}
 use Rattle.floats.proofs.Squares.{square-turn}
 use Rattle.floats.specs.Small.{float}
 use Rattle.book.specs.declared.Model.{Model}
 use Rattle.book.specs.declared.Model.TheVariants.{Nrtl, Wilson}
-use Rattle.blocks.specs.Words.{word, block}
+use Rattle.blocks.specs.Words.{block}
+use Rattle.blocks.proofs.Laws.{block_none}
 use Rattle.book.specs.Places.{pair_place}
 use Rattle.records.specs.Offered.{pair_at}
 use Rattle.records.specs.declared.Terms.{Terms}
 use Rattle.records.specs.Parameters.{pair_term, lower_from, parameter, term_in, wilson_term, terms_of, both_of, parameter_both, parameter_border, parameter_row, parameter_rows}
+
+-- an array of eight, known element by element
+pub vec_made : (w : ℕ → Float) (ys : List Float) → length ys ≡ 8 → ((k : ℕ) (d : Float) → k < 8 → get_or ys k d ≡ w k) → ys ≡ vec w 8
+vec_made w ys h e =
+    let n : length (vec w 8) ≡ 8 = fill_length w 8 zeros8 in
+    same_lists ys (vec w 8) (h ∙ sym n) (λ k d l. e k d (omega arith) ∙ sym (fill-at w 8 zeros8 d k (omega arith) (omega arith)))
+
+-- the block behind a solvent's number, however large
+pub solvent_there : (s : List ℕ) (i : ℕ) {k : ℕ} → length s < 2 ^ 64 → k ≡ min (i + 1) 18446744073709551615 → block s k ≡ block s (i + 1)
+solvent_there s i {k} h e = pick (ltb (i + 1) 18446744073709551615) refl
+  where
+    pick : (b : Bool) → ltb (i + 1) 18446744073709551615 ≡ b → block s k ≡ block s (i + 1)
+    pick true q = let same : k ≡ i + 1 = omega (arith, e, ltb-true (i + 1) 18446744073709551615 q) in ap (block s) same
+    pick false q =
+        let far : 18446744073709551615 ≤ i + 1 = ltb-false (i + 1) 18446744073709551615 q in
+        block_none s k (omega arith) ∙ sym (block_none s (i + 1) (omega arith))
 
 -- equal terms are stored alike
 stored_cong : {f g : ℕ → Float} (from n : ℕ) (l : List Float) → ((k : ℕ) → f k ≡ g k) → fill_from f from n l ≡ fill_from g from n l
@@ -47,13 +68,6 @@ module _ (m : Model) (w : ℕ → ℕ → ℕ) (n i j : ℕ) (h : j < i) where
       ∙ stored_cong ((j * 8 + i) * 6) 6 (fill_from (pair_term m (w (pair_place n j i)) (lower_from m)) ((i * 8 + j) * 6) 6 l) above
       ∙ ap (fill_from (parameter m w n j i) ((j * 8 + i) * 6) 6) (stored_cong ((i * 8 + j) * 6) 6 l below)
 
--- the pair's block: the one offered, or the book's
-pub offered_there : (book offered : List ℕ) (place k p : ℕ) → k ≡ p → k ≡ place → word offered ≡ word (pair_at book offered place p)
-offered_there book offered place k p e f = let q : eqb p place ≡ true = eq-eqb p place (sym e ∙ f) in rw q
-
-pub own-there : (book offered : List ℕ) (place k p : ℕ) {s : List ℕ} → k ≡ p → (k ≡ place → ⊥) → s ≡ block book k → word s ≡ word (pair_at book offered place p)
-own-there book offered place k p e n b = let q : eqb p place ≡ false = ne_eqb p place (λ h. n (e ∙ h)) in rw (q, b, e)
-
 -- the diagonal
 own : (m : Model) (w : ℕ → ℕ → ℕ) (n i k : ℕ) → 0f ≡ parameter m w n i i k
 unfolding parameter
@@ -68,27 +82,26 @@ pub terms_stored : (f : ℕ → Float) (from : ℕ) (l : List Float) {t : Terms}
 unfolding terms_of fill_from
 terms_stored f from l e p = rw add-zero (rw e at p)
 
--- NRTL's, as the code reads them
-pub nrtl_are : (w : ℕ → ℕ) (f : ℕ) {a b c d e g : Float} → a ≡ float w f → b ≡ float w (f + 1) → c ≡ float w (f + 2) → d ≡ float w (f + 3) → e ≡ float w 11
-    → g ≡ float w 12 → ◌≡◌ {A = Terms} (record { t0 = a; t1 = b; t2 = c; t3 = d; a0 = e; a1 = g }) (terms_of (term_in w f))
-unfolding terms_of term_in
-nrtl_are w f p q r s t u = rw (add-zero, p, q, r, s, t, u)
+-- six floats copied into a table are stored one after the other
+pub six_stored : (l : List Float) (from : ℕ) (a b c d e f : Float) {x : List Float} → from + 6 ≤ length l → x ≡ a ∷ b ∷ c ∷ d ∷ e ∷ f ∷ []
+    → put_mid from (from + 6 - from) l x ≡ set (set (set (set (set (set l from a) (from + 1) b) (from + 2) c) (from + 3) d) (from + 4) e) (from + 5) f
+six_stored l from a b c d e f h q =
+    let n : from + 6 - from ≡ 6 = omega arith in
+    let e1 : from + 1 ≡ suc from = omega arith in
+    let e2 : from + 2 ≡ suc (suc from) = omega arith in
+    let e3 : from + 3 ≡ suc (suc (suc from)) = omega arith in
+    let e4 : from + 4 ≡ suc (suc (suc (suc from))) = omega arith in
+    let e5 : from + 5 ≡ suc (suc (suc (suc (suc from)))) = omega arith in
+    let six = a ∷ b ∷ c ∷ d ∷ e ∷ f ∷ [] in
+    rw (q, n, drop-drop, e1, e2, e3, e4, e5) (sym (sets-eq six l from h ∙ append_assoc (take from l) six (drop (from + 6) l)))
 
-pub nrtl_stored : (w : ℕ → ℕ) (upper lower : ℕ) (l : List Float) {a b c d e f g h p q : Float} {l₁ l₂ : List Float} → p ≡ float w 11 → q ≡ float w 12
-    → e ≡ float w 7 → f ≡ float w 8 → g ≡ float w 9 → h ≡ float w 10 → a ≡ float w 3 → b ≡ float w 4 → c ≡ float w 5 → d ≡ float w 6
-    → l₁ ≡ set (set (set (set (set (set l lower e) (lower + 1) f) (lower + 2) g) (lower + 3) h) (lower + 4) p) (lower + 5) q
-    → l₂ ≡ set (set (set (set (set (set l₁ upper a) (upper + 1) b) (upper + 2) c) (upper + 3) d) (upper + 4) p) (upper + 5) q → l₂ ≡ both_of Nrtl w upper lower l
-unfolding pair_term lower_from
-nrtl_stored w upper lower l pp pq pe pf pg ph pa pb pc pd p₁ p₂ =
-    terms_stored (term_in w 3) upper _ (nrtl_are w 3 pa pb pc pd pp pq) p₂ ∙ ap (fill_from (term_in w 3) upper 6) (terms_stored (term_in w 7) lower l (nrtl_are w 7 pe pf pg ph pp pq) p₁)
-
-pub wilson_stored : (w : ℕ → ℕ) (upper lower : ℕ) (l : List Float) {s t : Terms} {l₁ l₂ : List Float} → s ≡ terms_of (wilson_term w 5) → t ≡ terms_of (wilson_term w 3)
+-- both pairs of a block
+pub pair_stored : (m : Model) (w : ℕ → ℕ) (upper lower : ℕ) (l : List Float) {s t : Terms} {l₁ l₂ : List Float} → s ≡ terms_of (pair_term m w (lower_from m)) → t ≡ terms_of (pair_term m w 3)
     → l₁ ≡ set (set (set (set (set (set l lower s.t0) (lower + 1) s.t1) (lower + 2) s.t2) (lower + 3) s.t3) (lower + 4) s.a0) (lower + 5) s.a1
     → l₂ ≡ set (set (set (set (set (set l₁ upper t.t0) (upper + 1) t.t1) (upper + 2) t.t2) (upper + 3) t.t3) (upper + 4) t.a0) (upper + 5) t.a1
-    → l₂ ≡ both_of Wilson w upper lower l
-unfolding pair_term lower_from
-wilson_stored w upper lower l ps pt p₁ p₂ =
-    terms_stored (wilson_term w 3) upper _ pt p₂ ∙ ap (fill_from (wilson_term w 3) upper 6) (terms_stored (wilson_term w 5) lower l ps p₁)
+    → l₂ ≡ both_of m w upper lower l
+pair_stored m w upper lower l ps pt p₁ p₂ =
+    terms_stored (pair_term m w 3) upper _ pt p₂ ∙ ap (fill_from (pair_term m w 3) upper 6) (terms_stored (pair_term m w (lower_from m)) lower l ps p₁)
 
 pub none-stored : (from : ℕ) (l : List Float) {m : List Float} → m ≡ set (set (set (set (set (set l from 0f) (from + 1) 0f) (from + 2) 0f) (from + 3) 0f) (from + 4) 0f) (from + 5) 0f
     → m ≡ fill_from (λ _. 0f) from 6 l

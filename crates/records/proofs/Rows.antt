@@ -1,15 +1,15 @@
 -- The places of pairs as the code works them out: at n up to 8 antt computes both sides. Assumes nothing.
 use mathlib.Core.Path.{◌≡◌, refl, sym, ap, ◌∙◌}
-use mathlib.Core.Bool.{Bool, true}
+use mathlib.Core.Bool.{Bool, true, false}
 use mathlib.Core.Logic.{⊎_elim}
-use Prim.Native.Nat.{ℕ, zero, suc, ◌+◌, ◌-◌, ◌*◌, ◌/◌, ◌≤◌, ◌<◌}
+use Prim.Native.Nat.{ℕ, zero, suc, ◌+◌, ◌-◌, ◌*◌, ◌/◌, ◌≤◌, ◌<◌, min}
 use native.Mathlib.Nat.{eq-or-lt_of_le, add-zero}
 use native.Mathlib.Omega.{arith}
-use borrow.Author.Tests.{leb-true, eqb-true}
-use lib.Dec.{eqb, leb}
+use borrow.Author.Tests.{leb-true, eqb-true, ltb-true, ltb-false}
+use lib.Dec.{eqb, leb, ltb}
 use Rattle.floats.specs.Fold.{all_to}
 use Rattle.floats.proofs.Folds.{all_at}
-use Rattle.book.specs.Places.{row_from, pair_place}
+use Rattle.book.specs.Places.{row_from}
 
 every : (p : ℕ → ℕ → Bool) (n i : ℕ) → n ≤ 8 → i ≤ n → all_to (λ m. all_to (p m) (suc m)) 9 ≡ true → p n i ≡ true
 every p n i a b h = all_at (p n) (suc n) i (omega arith) (all_at (λ m. all_to (p m) (suc m)) 9 n (omega arith) h)
@@ -33,7 +33,7 @@ unfolding all_to
 row-high n i a b = leb-true (i * (2 * n - i)) 64 (every (λ m k. leb (k * (2 * m - k)) 64) n i a b refl)
 
 -- the rows past the last are empty
-pub row-past : (n i : ℕ) → n ≤ i → row_from n n ≡ row_from n i
+row-past : (n i : ℕ) → n ≤ i → row_from n n ≡ row_from n i
 unfolding row_from
 row-past n zero h = let e : n ≡ 0 = omega arith in rw e
 row-past n (suc i) h =
@@ -42,10 +42,12 @@ row-past n (suc i) h =
     (λ (l : n < suc i). let z : n - i - 1 ≡ 0 = omega arith in row-past n i (omega arith) ∙ rw z (sym (add-zero (row_from n i))))
     (eq-or-lt_of_le h)
 
-pub place-behind : (n i j : ℕ) {r from : ℕ} → from ≡ row_from n i → r ≡ from + (j - i - 1) → r ≡ pair_place n i j
-unfolding pair_place
-place-behind n i j e p = p ∙ rw e
-
-pub place-first : (n i j : ℕ) {from : ℕ} → from ≡ row_from n i → j ≤ i → from ≡ pair_place n i j
-unfolding pair_place
-place-first n i j e h = let z : j - i - 1 ≡ 0 = omega arith in rw (z, e) (sym (add-zero (row_from n i)))
+pub row_capped : (n i : ℕ) {k : ℕ} → k ≡ min i n → row_from n k ≡ row_from n i
+row_capped n i {k} e = pick (ltb i n) refl
+  where
+    pick : (b : Bool) → ltb i n ≡ b → row_from n k ≡ row_from n i
+    pick true q = let same : k ≡ i = omega (arith, e, ltb-true i n q) in ap (row_from n) same
+    pick false q =
+        let past : n ≤ i = ltb-false i n q in
+        let last : k ≡ n = omega arith in
+        ap (row_from n) last ∙ row-past n i past

@@ -7,6 +7,7 @@ use native.Mathlib.Omega.{arith}
 use borrow.Author.Tests.{ltb-true}
 use lib.Dec.{eqb, ltb}
 use lib.Ieee.{Float}
+use Rattle.std.specs.Prelude.{Option, None, Some}
 use Rattle.floats.specs.Arithmetic.{0f}
 use Rattle.floats.specs.Small.{float_of, float}
 use Rattle.floats.specs.Vector.{vec, zeros8, fill_from}
@@ -19,7 +20,7 @@ use Rattle.book.specs.Named.{parameters_end}
 use Rattle.book.specs.Book.{model_of}
 use Rattle.book.proofs.Laws.{place-above}
 use Rattle.book.proofs.Unread.{PairAgrees, AgreeBehind}
-use Rattle.records.specs.declared.Regression.TheVariants.{None, Interval}
+use Rattle.records.specs.declared.Interval.{Interval}
 use Rattle.records.specs.Records.{ancillary_of, range_of, regression_of}
 use Rattle.records.specs.Parameters.{term_in, wilson_term, pair_term, lower_from, parameter, parameter_row, parameter_rows, parameters_of}
 
@@ -45,13 +46,14 @@ module _ (w v : ℕ → ℕ) (e : (k : ℕ) → k < 45 → w k ≡ v k) where
   range_same f h = rw (e (f + 2) (omega arith), e (f + 3) (omega arith))
 
 module _ (m : Model) (w v : ℕ → ℕ) (e : PairAgrees m w v) where
+  interval : (ℕ → ℕ) → Option Interval
+  interval u = Some (record { low = float u 16; high = float u 17; inferred = not (eqb (u 18) 0) })
+
   regression_same : regression_of w ≡ regression_of v
-  unfolding regression_of
+  unfolding regression_of interval
   regression_same = pick (eqb (w 15) 0) refl
     where
-      pick : (b : Bool) → eqb (w 15) 0 ≡ b
-          → cond (eqb (w 15) 0) None (Interval (float w 16) (float w 17) (not (eqb (w 18) 0)))
-          ≡ cond (eqb (v 15) 0) None (Interval (float v 16) (float v 17) (not (eqb (v 18) 0)))
+      pick : (b : Bool) → eqb (w 15) 0 ≡ b → cond (eqb (w 15) 0) None (interval w) ≡ cond (eqb (v 15) 0) None (interval v)
       pick true q = rw (← e.flag, q)
       pick false q = rw (← e.flag, q, e.flagged q 16 (omega arith) (omega arith), e.flagged q 17 (omega arith) (omega arith), e.inferred)
 

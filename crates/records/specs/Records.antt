@@ -1,5 +1,5 @@
 -- The records that the models read from a book: the words w of a solvent's or a pair's block as floats. Assumes nothing.
-use Rattle.std.specs.Prelude.{not, cond, ℕ, ◌+◌, eqb}
+use Rattle.std.specs.Prelude.{not, cond, ℕ, ◌+◌, eqb, Option, None, Some}
 use Rattle.floats.specs.Vector.{vec}
 use Rattle.floats.specs.Small.{float}
 use Rattle.book.specs.Book.{term_count}
@@ -8,8 +8,7 @@ use Rattle.records.specs.Parameters.{pair_term, lower_from, terms_of}
 use Rattle.records.specs.declared.Ancillary.{Ancillary}
 use Rattle.records.specs.declared.Range.{Range}
 use Rattle.records.specs.declared.Pair.{Pair}
-use Rattle.records.specs.declared.Regression.{Regression}
-use Rattle.records.specs.declared.Regression.TheVariants.{None, Interval}
+use Rattle.records.specs.declared.Interval.{Interval}
 
 -- a correlation record from word f on: t_r, reducing value, range low, range high, term count, eight n, eight exponents
 unfoldable pub ancillary_of : (ℕ → ℕ) → ℕ → Ancillary
@@ -28,8 +27,8 @@ unfoldable pub range_of : (ℕ → ℕ) → ℕ → Range
 range_of w f = record { 0 = float w (f + 2); 1 = float w (f + 3) }
 
 -- of a pair no regression interval, or one with two bounds and whether it was inferred: words 15 to 18
-unfoldable pub regression_of : (ℕ → ℕ) → Regression
-regression_of w = cond (eqb (w 15) 0) None (Interval (float w 16) (float w 17) (not (eqb (w 18) 0)))
+unfoldable pub regression_of : (ℕ → ℕ) → Option Interval
+regression_of w = cond (eqb (w 15) 0) None (Some (record { low = float w 16; high = float w 17; inferred = not (eqb (w 18) 0) }))
 
 -- a pair: the model's parameters of (i, j) and of (j, i), and its interval
 unfoldable pub pair_of : Model → (ℕ → ℕ) → Pair

@@ -45,19 +45,29 @@ pub struct Terms {
     pub a1: f64,
 }
 
+const NONE: Terms = Terms {
+    t0: 0.0,
+    t1: 0.0,
+    t2: 0.0,
+    t3: 0.0,
+    a0: 0.0,
+    a1: 0.0,
+};
+
 // The temperatures that a pair was regressed between, in K, and whether they were inferred.
 #[derive(Clone, Copy)]
-pub enum Regression {
-    None,
-    Interval(f64, f64, bool),
+pub struct Interval {
+    pub low: f64,
+    pub high: f64,
+    pub inferred: bool,
 }
 
-// A pair i < j: the terms of (i, j) and of (j, i), and its regression interval.
+// A pair i < j: the terms of (i, j) and of (j, i), and its regression interval, if it has one.
 #[derive(Clone, Copy)]
 pub struct Pair {
     pub ij: Terms,
     pub ji: Terms,
-    pub regression: Regression,
+    pub regression: Option<Interval>,
 }
 
 fn float_at(s: &[u8], k: usize) -> f64
@@ -70,38 +80,28 @@ fn eight_floats(s: &[u8], from: usize) -> [f64; 8]
     requires { from ≤ 56 }
     ensures { result ≡ vec (λ k. float (word s.now) (from + k)) 8 }
 {
-    let mut x = [0.0; 8];
-    for k in 0usize..8 {
-        x[k] = float_at(s, from + k);
-    }
-    x
+    std::array::from_fn(|k| float_at(s, from + k))
 }
 
 // Solvent i's block, which is block i + 1.
 fn solvent_block(book: &[u8], i: usize) -> &[u8]
     ensures { result.now ≡ block book.now (i + 1) }
 {
-    if i < book.len() {
-        return blocks::block(book, i + 1);
-    }
-    blocks::block(book, i)
+    blocks::block(book, i.saturating_add(1))
 }
 
 fn ancillary_at(s: &[u8], f: usize) -> Ancillary
     requires { f ≤ 24 }
     ensures { result ≡ ancillary_of (word s.now) f }
 {
-    let count = floats::places(word(s, f + 4) as usize);
-    let n = eight_floats(s, f + 5);
-    let t = eight_floats(s, f + 13);
     Ancillary {
         t_r: float_at(s, f),
         reducing_value: float_at(s, f + 1),
         low: float_at(s, f + 2),
         high: float_at(s, f + 3),
-        count: count,
-        n: n,
-        t: t,
+        count: floats::places(word(s, f + 4) as usize),
+        n: eight_floats(s, f + 5),
+        t: eight_floats(s, f + 13),
     }
 }
 
@@ -133,34 +133,20 @@ pub fn density_range(book: &[u8], i: usize) -> Range
     range_at(solvent_block(book, i), 24)
 }
 
-// Row i's first block: 1 + n, and the n - 1, n - 2, .. pairs of the rows before it.
-fn row_start(n: usize, i: usize) -> usize
-    requires { (n ≤ 8) × (i ≤ n) }
-    ensures { (result ≡ row_from n i) × (result ≤ 37) }
-{
-    1 + n + (i * (2 * n - i) - i) / 2
-}
-
-// The rows past the last are empty.
+// Row i's first block: 1 + n, and the n - 1, n - 2, .. pairs of the rows before it. The rows past the last are empty.
 fn row_from(n: usize, i: usize) -> usize
     requires { n ≤ 8 }
     ensures { (result ≡ row_from n i) × (result ≤ 37) }
 {
-    if i < n {
-        return row_start(n, i);
-    }
-    row_start(n, n)
+    let i = i.min(n);
+    1 + n + (i * (2 * n - i) - i) / 2
 }
 
 fn pair_place(n: usize, i: usize, j: usize) -> usize
     requires { (n ≤ 8) × (j ≤ 8) }
     ensures { result ≡ pair_place n i j }
 {
-    let from = row_from(n, i);
-    if i < j {
-        return from + (j - i - 1);
-    }
-    from
+    row_from(n, i) + j.saturating_sub(i).saturating_sub(1)
 }
 
 // ---- a pair offered in the place of the book's own
@@ -175,35 +161,35 @@ pub fn offered_place(book: &[u8], offered: &[u8], n: usize) -> usize
     let m = floats::places(n);
     let i = word(offered, 1);
     let j = word(offered, 2);
-    if j <= i {
-        return 0;
-    }
-    if m as u64 <= j {
+    if j <= i || m as u64 <= j {
         return 0;
     }
     let place = pair_place(m, i as usize, j as usize);
     if place < book.len() / 512 { place } else { 0 }
 }
 
-fn regression_at(s: &[u8]) -> Regression
+fn regression_at(s: &[u8]) -> Option<Interval>
     ensures { result ≡ regression_of (word s.now) }
 {
     if word(s, 15) == 0 {
-        return Regression::None;
+        return None;
     }
-    Regression::Interval(float_at(s, 16), float_at(s, 17), word(s, 18) != 0)
+    Some(Interval {
+        low: float_at(s, 16),
+        high: float_at(s, 17),
+        inferred: word(s, 18) != 0,
+    })
 }
 
-// Tau from word f on, alpha from word 11 on.
-fn nrtl_terms(s: &[u8], f: usize) -> Terms
-    requires { f ≤ 7 }
-    ensures { result ≡ terms_of (term_in (word s.now) f) }
+// Tau of the pair (i, j) from word 3 on, alpha from word 11 on.
+fn nrtl_terms(s: &[u8]) -> Terms
+    ensures { result ≡ terms_of (term_in (word s.now) 3) }
 {
     Terms {
-        t0: float_at(s, f),
-        t1: float_at(s, f + 1),
-        t2: float_at(s, f + 2),
-        t3: float_at(s, f + 3),
+        t0: float_at(s, 3),
+        t1: float_at(s, 4),
+        t2: float_at(s, 5),
+        t3: float_at(s, 6),
         a0: float_at(s, 11),
         a1: float_at(s, 12),
     }
@@ -214,48 +200,53 @@ fn wilson_terms(s: &[u8], f: usize) -> Terms
     requires { f ≤ 7 }
     ensures { result ≡ terms_of (wilson_term (word s.now) f) }
 {
-    let a = float_at(s, f);
-    let b = float_at(s, f + 1);
     Terms {
-        t0: a,
-        t1: b,
-        t2: 0.0,
-        t3: 0.0,
-        a0: 0.0,
-        a1: 0.0,
+        t0: float_at(s, f),
+        t1: float_at(s, f + 1),
+        ..NONE
     }
 }
 
-// Of the pair (i, j), i < j, in its block.
-fn upper_terms(model: Model, s: &[u8]) -> Terms
-    ensures { result ≡ terms_of (pair_term model (word s.now) 3) }
+// Of the pair (i, j), i < j, and of (j, i), in their block. NRTL has one alpha for both.
+fn both_terms(model: Model, s: &[u8]) -> (Terms, Terms)
+    ensures upper { result.0 ≡ terms_of (pair_term model (word s.now) 3) }
+    ensures lower { result.1 ≡ terms_of (pair_term model (word s.now) (lower_from model)) }
 {
     match model {
-        Model::Nrtl => nrtl_terms(s, 3),
-        Model::Wilson => wilson_terms(s, 3),
+        Model::Nrtl => {
+            let ij = nrtl_terms(s);
+            let ji = Terms {
+                t0: float_at(s, 7),
+                t1: float_at(s, 8),
+                t2: float_at(s, 9),
+                t3: float_at(s, 10),
+                ..ij
+            };
+            (ij, ji)
+        }
+        Model::Wilson => (wilson_terms(s, 3), wilson_terms(s, 5)),
     }
 }
 
-// Of the pair (j, i) in the same block.
-fn lower_terms(model: Model, s: &[u8]) -> Terms
-    ensures { result ≡ terms_of (pair_term model (word s.now) (lower_from model)) }
-{
-    match model {
-        Model::Nrtl => nrtl_terms(s, 7),
-        Model::Wilson => wilson_terms(s, 5),
-    }
-}
-
-fn pair_at(model: Model, s: &[u8]) -> Pair
+fn pair_in(model: Model, s: &[u8]) -> Pair
     ensures { result ≡ pair_of model (word s.now) }
 {
-    let ij = upper_terms(model, s);
-    let ji = lower_terms(model, s);
-    let interval = regression_at(s);
+    let (ij, ji) = both_terms(model, s);
     Pair {
-        ij: ij,
-        ji: ji,
-        regression: interval,
+        ij,
+        ji,
+        regression: regression_at(s),
+    }
+}
+
+// Block k, where a block is offered for the pair at `place`.
+fn pair_at<'a>(book: &'a [u8], offered: &'a [u8], place: usize, k: usize) -> &'a [u8]
+    ensures { result.now ≡ pair_at book.now offered.now place k }
+{
+    if k == place {
+        offered
+    } else {
+        blocks::block(book, k)
     }
 }
 
@@ -265,70 +256,14 @@ pub fn pair_record(book: &[u8], offered: &[u8], place: usize, n: usize, i: usize
 {
     let model = book::model_of(book);
     let k = pair_place(floats::places(n), floats::places(i), floats::places(j));
-    if k == place {
-        return pair_at(model, offered);
-    }
-    pair_at(model, blocks::block(book, k))
+    pair_in(model, pair_at(book, offered, place, k))
 }
 
 fn set_terms(plane: &mut [f64; 384], from: usize, t: Terms)
     requires { from + 6 ≤ 384 }
     ensures { plane.new ≡ set (set (set (set (set (set plane.old from t.t0) (from + 1) t.t1) (from + 2) t.t2) (from + 3) t.t3) (from + 4) t.a0) (from + 5) t.a1 }
 {
-    plane[from] = t.t0;
-    plane[from + 1] = t.t1;
-    plane[from + 2] = t.t2;
-    plane[from + 3] = t.t3;
-    plane[from + 4] = t.a0;
-    plane[from + 5] = t.a1;
-}
-
-// Of a pair's block by NRTL: (i, j) into `upper`, (j, i) into `lower`. One α for both.
-fn nrtl_both(s: &[u8], upper: usize, lower: usize, plane: &mut [f64; 384])
-    requires { (upper + 6 ≤ 384) × (lower + 6 ≤ 384) }
-    ensures { plane.new ≡ both_of Nrtl (word s.now) upper lower plane.old }
-{
-    let a0 = float_at(s, 11);
-    let a1 = float_at(s, 12);
-    let ji = Terms {
-        t0: float_at(s, 7),
-        t1: float_at(s, 8),
-        t2: float_at(s, 9),
-        t3: float_at(s, 10),
-        a0: a0,
-        a1: a1,
-    };
-    let ij = Terms {
-        t0: float_at(s, 3),
-        t1: float_at(s, 4),
-        t2: float_at(s, 5),
-        t3: float_at(s, 6),
-        a0: a0,
-        a1: a1,
-    };
-    set_terms(plane, lower, ji);
-    set_terms(plane, upper, ij);
-}
-
-// The same by Wilson.
-fn wilson_both(s: &[u8], upper: usize, lower: usize, plane: &mut [f64; 384])
-    requires { (upper + 6 ≤ 384) × (lower + 6 ≤ 384) }
-    ensures { plane.new ≡ both_of Wilson (word s.now) upper lower plane.old }
-{
-    let ji = wilson_terms(s, 5);
-    let ij = wilson_terms(s, 3);
-    set_terms(plane, lower, ji);
-    set_terms(plane, upper, ij);
-}
-
-fn both(model: Model, s: &[u8], upper: usize, lower: usize, plane: &mut [f64; 384])
-    requires { (upper + 6 ≤ 384) × (lower + 6 ≤ 384) }
-    ensures { plane.new ≡ both_of model (word s.now) upper lower plane.old }
-{
-    match model {
-        Model::Nrtl => nrtl_both(s, upper, lower, plane),
-        Model::Wilson => wilson_both(s, upper, lower, plane),
-    }
+    plane[from..from + 6].copy_from_slice(&[t.t0, t.t1, t.t2, t.t3, t.a0, t.a1]);
 }
 
 // The ordered pairs (i, j) and (j, i), j < i: the offered block's, or the book's.
@@ -345,14 +280,10 @@ fn fill_both(
     requires { (n ≤ 8) × (i < 8) × (j < i) }
     ensures { plane.new ≡ parameter_both (parameter model (λ k. word (pair_at book.now offered.now place k)) n) i j plane.old }
 {
-    let k = pair_place(n, j, i);
-    let upper = (j * 8 + i) * 6;
-    let lower = (i * 8 + j) * 6;
-    if k == place {
-        both(model, offered, upper, lower, plane);
-        return;
-    }
-    both(model, blocks::block(book, k), upper, lower, plane);
+    let s = pair_at(book, offered, place, pair_place(n, j, i));
+    let (upper, lower) = both_terms(model, s);
+    set_terms(plane, (i * 8 + j) * 6, lower);
+    set_terms(plane, (j * 8 + i) * 6, upper);
 }
 
 // Row i up to the diagonal, and column i.
@@ -377,15 +308,7 @@ fn diagonal(i: usize, plane: &mut [f64; 384])
     requires { i < 8 }
     ensures { plane.new ≡ fill_from (λ _. 0f) ((i * 8 + i) * 6) 6 plane.old }
 {
-    let none = Terms {
-        t0: 0.0,
-        t1: 0.0,
-        t2: 0.0,
-        t3: 0.0,
-        a0: 0.0,
-        a1: 0.0,
-    };
-    set_terms(plane, (i * 8 + i) * 6, none);
+    set_terms(plane, (i * 8 + i) * 6, NONE);
 }
 
 fn fill(model: Model, book: &[u8], offered: &[u8], place: usize, n: usize, plane: &mut [f64; 384])

@@ -3,10 +3,17 @@ use mathlib.Core.Path.{◌≡◌, refl, sym}
 use mathlib.Core.Bool.{Bool, true, false}
 use Prim.Native.Nat.{ℕ}
 use lib.Dec.{T}
+use native.Mathlib.Omega.{arith}
+use Rattle.outcome.specs.declared.Refusal.{Refusal}
+use Rattle.outcome.specs.Refused.{number}
 use Rattle.floats.specs.Outcome.{Out, ok, no, bind, need, choose}
 use Rattle.floats.proofs.Outcomes.{refused}
 use Rattle.refusals.specs.Numbered.{is_number, Numbered}
 use Rattle.book.specs.declared.Model.{Model}
+
+-- 0 stands for an answer
+pub never : (e : Refusal) → number e ≡ 0 → ⊥
+never e q = grind arith
 
 -- for a book of model M
 module _ {M : Model} where

@@ -73,7 +73,7 @@ stability_block stable count =
     zeros8 zeros8 stable
 
 -- 1 liquid, 2 vapor, 3 both
-unfoldable pub phase_number : FlashPhases → ℕ
+abbrev pub phase_number : FlashPhases → ℕ
 phase_number Liquid = 1
 phase_number Vapor = 2
 phase_number Both = 3

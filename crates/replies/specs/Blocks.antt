@@ -14,12 +14,12 @@ use Rattle.replies.specs.declared.ModelState.{ModelState}
 use Rattle.replies.specs.declared.AnswerBlock.{AnswerBlock}
 
 -- 1 for yes
-unfoldable pub bit : Bool → ℕ
+abbrev pub bit : Bool → ℕ
 bit true = 1
 bit false = 0
 
 -- of validity: 0 unassessed, 1 within, 2 extrapolated
-unfoldable pub status_number : ValidityStatus → ℕ
+abbrev pub status_number : ValidityStatus → ℕ
 status_number Unassessed = 0
 status_number WithinDeclaredDomain = 1
 status_number Extrapolated = 2

@@ -3,22 +3,17 @@ use Rattle.std.specs.Prelude.{ℕ, ◌+◌, ◌%◌, Bool, ◌&&◌, List, eqb, 
 use Rattle.std.specs.Float.{binary64}
 use Rattle.std.specs.Float.Ieee.{of_int}
 use Rattle.floats.specs.Vector.{at, fill_from, places}
-use Rattle.thermo_types.specs.declared.Verdict.{Verdict}
-use Rattle.thermo_types.specs.declared.Verdict.TheVariants.{Passed, Refused}
+use Rattle.floats.specs.Outcome.{Out, ok, no, bind}
 use Rattle.rachford_rice.specs.declared.RachfordRice.{RachfordRice}
 use Rattle.rachford_rice.specs.declared.RachfordRiceOutcome.{RachfordRiceOutcome}
 use Rattle.rachford_rice.specs.declared.RachfordRiceOutcome.TheVariants.{LiquidOnly, VaporOnly, TwoPhase}
-use Rattle.rachford_rice.specs.Rachford.{negative, split_of, answer_of, constrained}
+use Rattle.rachford_rice.specs.Rachford.{negative, two_phase, constrained}
 
 -- 1 liquid, 2 vapor, 3 both; 100 more than a refusal's number
 unfoldable pub phases : RachfordRiceOutcome → ℕ
 phases LiquidOnly = 1
 phases VaporOnly = 2
 phases (TwoPhase β g m) = 3
-
-unfoldable pub number_in : Verdict → RachfordRiceOutcome → ℕ
-number_in Passed o = phases o
-number_in (Refused r) o = 100 + r
 
 -- a count of iterations as a float, modulo 2^32
 unfoldable pub count_of : ℕ → Float
@@ -34,23 +29,21 @@ phases_in LiquidOnly liquid vapor old = old
 phases_in VaporOnly liquid vapor old = old
 phases_in (TwoPhase β g m) liquid vapor old = both β g m liquid vapor old
 
-unfoldable pub written_in : Verdict → RachfordRiceOutcome → List Float → List Float → List Float → List Float
-written_in Passed o liquid vapor old = phases_in o liquid vapor old
-written_in (Refused r) o liquid vapor old = old
-
 -- the number of an answer, and the slice after it
-unfoldable pub split_number : RachfordRice → ℕ
-split_number a = number_in a.verdict a.outcome
+unfoldable pub split_number : Out RachfordRice → ℕ
+split_number (ok a) = phases a.outcome
+split_number (no r) = 100 + r
 
-unfoldable pub split_written : RachfordRice → List Float → List Float
-split_written a old = written_in a.verdict a.outcome a.liquid a.vapor old
+unfoldable pub split_written : Out RachfordRice → List Float → List Float
+split_written (ok a) old = phases_in a.outcome a.liquid a.vapor old
+split_written (no r) old = old
 
 -- feed and ratios of eight, and room for nineteen floats; else the number is 0
 unfoldable pub sized : List Float → List Float → List Float → Bool
 sized z k out = eqb (length z) 8 && eqb (length k) 8 && leb 19 (length out)
 
-abbrev pub constrained_of : List Float → List Float → ℕ → ℕ → RachfordRice
-constrained_of z k n limit = answer_of (constrained (at z) (at k) (places n) limit)
+abbrev pub constrained_of : List Float → List Float → ℕ → ℕ → Out RachfordRice
+constrained_of z k n limit = constrained (at z) (at k) (places n) limit
 
-abbrev pub negative_of : List Float → List Float → ℕ → ℕ → RachfordRice
-negative_of z k n limit = split_of (negative (at z) (at k) (places n) limit)
+abbrev pub negative_of : List Float → List Float → ℕ → ℕ → Out RachfordRice
+negative_of z k n limit = bind (negative (at z) (at k) (places n) limit) (λ s. ok (two_phase s))

@@ -1,48 +1,30 @@
 // The phase split over plain slices: a number, and nineteen floats where there are two phases.
 #![tactic(auto)]
 
-ghost use Rattle.std.specs.Prelude.{◌≡◌, cond, ℕ, ◌≤◌, ◌+◌, length, set};
-ghost use Rattle.thermo_types.specs.declared.Verdict;
-ghost use Rattle.floats.specs.Vector.{at, fill_from};
-ghost use Rattle.rice_exports.specs.Splits.{count_of, both, phases, phases_in, split_number, split_written, sized, constrained_of, negative_of};
+ghost use Rattle.std.specs.Prelude.{◌≡◌, cond, ◌≤◌, true, false, length, MatchOption};
+ghost use Rattle.outcome.specs.Refused.{outcome_of};
+ghost use Rattle.rice_exports.specs.Splits.{count_of, both, split_number, split_written, sized, constrained_of, negative_of};
 
+use outcome::Refusal;
 use rachford_rice::{RachfordRice, RachfordRiceOutcome};
-use thermo_types::Verdict;
 
-fn eight(x: &[f64]) -> [f64; 8]
-    requires { length x.now ≡ 8 }
-    ensures { result ≡ x.now }
+// The feed and the ratios as arrays of eight, where there is room for both phases.
+#[tactic(auto, unfolding(crate::specs::Splits::sized))]
+fn sized<'a>(z: &'a [f64], k: &'a [f64], out: &[f64]) -> Option<(&'a [f64; 8], &'a [f64; 8])>
+    ensures { MatchOption result (sized z.now k.now out.now ≡ false) (λ p. (p.0.now ≡ z.now) × (p.1.now ≡ k.now) × (sized z.now k.now out.now ≡ true) × (19 ≤ length out.now)) }
 {
-    let mut y = [0.0; 8];
-    for i in 0usize..8 {
-        y[i] = x[i];
+    if out.len() < 19 {
+        return None;
     }
-    y
-}
-
-fn put(x: &[f64; 8], from: usize, out: &mut [f64])
-    requires { from + 8 ≤ length out.old }
-    ensures { out.new ≡ fill_from (at x.now) from 8 out.old }
-{
-    for i in 0usize..8 {
-        out[from + i] = x[i];
-    }
+    Some((z.as_array()?, k.as_array()?))
 }
 
 // Exact for every count below 2^32.
+#[tactic(auto, unfolding(crate::specs::Splits::count_of))]
 fn count(iterations: u64) -> f64
     ensures { result ≡ count_of iterations }
 {
     (iterations % 4294967296) as u32 as f64
-}
-
-fn put_head(beta: f64, residual: f64, iterations: f64, out: &mut [f64])
-    requires { 3 ≤ length out.old }
-    ensures { out.new ≡ set (set (set out.old 0 beta) 1 residual) 2 iterations }
-{
-    out[0] = beta;
-    out[1] = residual;
-    out[2] = iterations;
 }
 
 fn put_both(
@@ -56,51 +38,30 @@ fn put_both(
     requires { 19 ≤ length out.old }
     ensures { out.new ≡ both beta residual iterations liquid.now vapor.now out.old }
 {
-    put_head(beta, residual, count(iterations), out);
-    put(liquid, 3, out);
-    put(vapor, 11, out);
+    out[0] = beta;
+    out[1] = residual;
+    out[2] = count(iterations);
+    out[3..11].copy_from_slice(liquid);
+    out[11..19].copy_from_slice(vapor);
 }
 
-fn put_phases(
-    outcome: RachfordRiceOutcome,
-    liquid: &[f64; 8],
-    vapor: &[f64; 8],
-    out: &mut [f64],
-) -> u64
+#[tactic(auto, unfolding(crate::specs::Splits::split_number, crate::specs::Splits::split_written, crate::specs::Splits::phases, crate::specs::Splits::phases_in))]
+fn put_answer(answer: Result<RachfordRice, Refusal>, out: &mut [f64]) -> u64
     requires { 19 ≤ length out.old }
-    ensures value { result ≡ phases outcome }
-    ensures out_after { out.new ≡ phases_in outcome liquid.now vapor.now out.old }
+    ensures value { result ≡ split_number (outcome_of answer) }
+    ensures out_after { out.new ≡ split_written (outcome_of answer) out.old }
 {
-    match outcome {
-        RachfordRiceOutcome::LiquidOnly => 1,
-        RachfordRiceOutcome::VaporOnly => 2,
-        RachfordRiceOutcome::TwoPhase(beta, residual, iterations) => {
-            put_both(beta, residual, iterations, liquid, vapor, out);
-            3
-        }
+    match answer {
+        Err(refusal) => 100 + u64::from(refusal),
+        Ok(split) => match split.outcome {
+            RachfordRiceOutcome::LiquidOnly => 1,
+            RachfordRiceOutcome::VaporOnly => 2,
+            RachfordRiceOutcome::TwoPhase(beta, residual, iterations) => {
+                put_both(beta, residual, iterations, &split.liquid, &split.vapor, out);
+                3
+            }
+        },
     }
-}
-
-// Every refusal's number is at most 28.
-fn put_answer(a: RachfordRice, out: &mut [f64]) -> u64
-    requires { (19 ≤ length out.old) × ((m : ℕ) → a.verdict ≡ Verdict.Refused m → m ≤ 28) }
-    ensures value { result ≡ split_number a }
-    ensures out_after { out.new ≡ split_written a out.old }
-{
-    let verdict = a.verdict;
-    let outcome = a.outcome;
-    let liquid = a.liquid;
-    let vapor = a.vapor;
-    match verdict {
-        Verdict::Refused(m) => 100 + m,
-        Verdict::Passed => put_phases(outcome, &liquid, &vapor, out),
-    }
-}
-
-fn are_sized(z: &[f64], k: &[f64], out: &[f64]) -> bool
-    ensures { result ≡ sized z.now k.now out.now }
-{
-    (z.len() == 8) & (k.len() == 8) & (out.len() >= 19)
 }
 
 pub fn constrained_split(
@@ -113,13 +74,11 @@ pub fn constrained_split(
     ensures value { result ≡ cond (sized z.now k.now out.old) (split_number (constrained_of z.now k.now n max_iterations)) 0 }
     ensures out_after { out.new ≡ cond (sized z.now k.now out.old) (split_written (constrained_of z.now k.now n max_iterations) out.old) out.old }
 {
-    if !are_sized(z, k, out) {
+    let Some((feed, ratios)) = sized(z, k, out) else {
         return 0;
-    }
-    let feed = eight(z);
-    let ratios = eight(k);
+    };
     put_answer(
-        rachford_rice::rachford_rice(&feed, &ratios, n, max_iterations),
+        rachford_rice::rachford_rice(feed, ratios, n, max_iterations),
         out,
     )
 }
@@ -128,13 +87,11 @@ pub fn negative_split(z: &[f64], k: &[f64], n: usize, max_iterations: u64, out: 
     ensures value { result ≡ cond (sized z.now k.now out.old) (split_number (negative_of z.now k.now n max_iterations)) 0 }
     ensures out_after { out.new ≡ cond (sized z.now k.now out.old) (split_written (negative_of z.now k.now n max_iterations) out.old) out.old }
 {
-    if !are_sized(z, k, out) {
+    let Some((feed, ratios)) = sized(z, k, out) else {
         return 0;
-    }
-    let feed = eight(z);
-    let ratios = eight(k);
+    };
     put_answer(
-        rachford_rice::rachford_rice_negative(&feed, &ratios, n, max_iterations),
+        rachford_rice::rachford_rice_negative(feed, ratios, n, max_iterations),
         out,
     )
 }

@@ -29,8 +29,7 @@ use Rattle.liquid_stability.specs.Stability.{present_count, tangent, start_from,
 use Rattle.liquid_stability.specs.Stability.{trial_with, no_trial, no_trials, with_trial, judge, trial_from, trials_to, stability_of}
 use Rattle.tp_flash.specs.Tp.{stable_liquid, dew_of, as_liquid, between_of, from_dew, phases_of, tp_flash}
 use Rattle.question.specs.Asked.{kind_right, moles_of, tolerance_right, options_right, options_in, question_from, inputs_right, limits_right, task_in, rest_of, question_of}
-use Rattle.replies.specs.Blocks.{bit, status_number, state_words, model_words, answer_words, answer_bytes, trial_words, trial_bytes}
-use Rattle.replies.specs.Answers.{phase_number}
+use Rattle.replies.specs.Blocks.{state_words, model_words, answer_words, answer_bytes, trial_words, trial_bytes}
 use Rattle.sheet.specs.Tasks.{task_at, task_of, task7}
 use Rattle.sheet.specs.Sheet.{answer_to, roomy, sheet_from}
 use Rattle.saturation.specs.Saturation as dew
@@ -45,11 +44,11 @@ unfolding of_bits to_bits add sub mul div neg lt le eq is_nan of_int to_signed s
     fill_from fill bind need choose exp_of ln_of sums_to_one with_fractions positive_of row_from pair_place model_in rule_in rule_of range_of term_in pair_term lower_from parameter parameter_row parameter_rows
     parameters_of in_range const_j add_j sub_j neg_j mul_j scale_j div_j exp_with basis_of tau_j alpha_j exponent_j tau_ij g_ij alpha_right all_right col_s col_c term_j ln_from
     gibbs_from gibbs_of enthalpy_of heat_capacity_of entropy_of state_with state_from with_state nrtl_of excess_by excess_of solvent_covers temperature_in_domain pure_liquids_of positive
-    tolerance_right options_right options_in question_from inputs_right limits_right task_in kind_right moles_of rest_of question_of bit status_number state_words model_words answer_words
+    tolerance_right options_right options_in question_from inputs_right limits_right task_in kind_right moles_of rest_of question_of state_words model_words answer_words
     answer_bytes task_at task_of answer_to roomy sheet_from shares_of normalize_of ancillary_of term slope_term curvature_term sums_of vapor_from vapor_of representable
     vapor_pressure_of pures_to pressure_in_domain activity_in partial_of partial_sum bubble_from gap_of residual_with dew_term dew_pressure dew_liquid bubble_at dew_turn
     dew_point dew_loop dew_at present_count tangent start_from others_in total_of trial_composition distance_of next_of apart_of unstable trial_with no_trial no_trials
-    with_trial judge trial_from trials_to stability_of stable_liquid dew_of as_liquid between_of from_dew phases_of tp_flash trial_words trial_bytes phase_number task7
+    with_trial judge trial_from trials_to stability_of stable_liquid dew_of as_liquid between_of from_dew phases_of tp_flash trial_words trial_bytes task7
     dew.change_of trials.change_of
 absent = record {
   shorter = shorter;

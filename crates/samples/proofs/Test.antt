@@ -31,7 +31,7 @@ use Rattle.rachford_rice.specs.Rachford.{turn_of, residual_of, slope_of, k_max, 
 use Rattle.rachford_rice.specs.Rachford.{two_phase, one_phase, constrained}
 use Rattle.saturation.specs.Saturation.{bubble_pressure}
 use Rattle.question.specs.Asked.{kind_right, moles_of, tolerance_right, options_right, options_in, question_from, inputs_right, limits_right, task_in, rest_of, question_of}
-use Rattle.replies.specs.Blocks.{bit, status_number, state_words, model_words, answer_words, answer_bytes, refused_task, refusal_words, refusal_bytes}
+use Rattle.replies.specs.Blocks.{state_words, model_words, answer_words, answer_bytes, refused_task, refusal_words, refusal_bytes}
 use Rattle.replies.specs.Answers.{rice_block}
 use Rattle.sheet.specs.Tasks.{task_at, task_of, excess_found, saturated, task1, task2, task8, task9, task_split}
 use Rattle.sheet.specs.Sheet.{answer_to, roomy, sheet_from}
@@ -44,7 +44,7 @@ unfolding of_bits to_bits add sub mul div neg lt le eq is_nan of_int to_signed s
     fill_from fill bind need choose exp_of ln_of sums_to_one with_fractions shares_of normalize_of positive_of row_from pair_place model_in rule_in rule_of range_of term_in wilson_term pair_term lower_from parameter parameter_row parameter_rows
     parameters_of in_range const_j add_j sub_j neg_j mul_j scale_j div_j exp_with ln_with kelvin_j ln_lambda_j lambda_ij basis_of tau_j alpha_j exponent_j tau_ij g_ij alpha_right all_right col_s col_c term_j ln_from
     gibbs_from gibbs_of enthalpy_of heat_capacity_of entropy_of state_with state_from with_state nrtl_of row_s quotients wilson_from gibbs_of_ln wilson_of excess_by excess_of solvent_covers temperature_in_domain pure_liquids_of positive
-    tolerance_right options_right options_in question_from inputs_right limits_right task_in kind_right moles_of rest_of question_of bit status_number state_words model_words answer_words
+    tolerance_right options_right options_in question_from inputs_right limits_right task_in kind_right moles_of rest_of question_of state_words model_words answer_words
     answer_bytes refused_task refusal_words refusal_bytes task_at task_of answer_to roomy sheet_from regression_of unseen noted visited row_seen all_seen status_of validity_of turn_of residual_of slope_of k_max k_min
     validate liquid_part vapor_part solution_at iterate between negative two_phase one_phase constrained bubble_pressure rice_block excess_found saturated task1 task2
     task8 task9 task_split

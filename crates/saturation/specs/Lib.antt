@@ -1,3 +1,2 @@
 -- What the contracts of saturation cite. Assumes nothing.
 pub mod Saturation
-pub mod Answers

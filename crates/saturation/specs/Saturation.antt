@@ -11,28 +11,23 @@ use Rattle.numerics.specs.Numerics.{exp_of, ln_of}
 use Rattle.thermo_types.specs.Composition.{normalize_of}
 use Rattle.thermo_types.specs.declared.ActivityOptions.{ActivityOptions}
 use Rattle.thermo_models.specs.Model.{Activity, Activities, Liquids, pressure_in_domain}
+use Rattle.saturation.specs.declared.BubblePoint.{BubblePoint}
+use Rattle.saturation.specs.declared.IncipientLiquid.{IncipientLiquid}
+use Rattle.saturation.specs.declared.DewTurn.{DewTurn}
+use Rattle.saturation.specs.declared.DewPoint.{DewPoint}
+use Rattle.saturation.specs.declared.ActivitySaturation.{ActivitySaturation}
 
 -- the pressure, Pa, and the incipient vapor
-pub record Bubble : Type 0 where
-  pub pressure : Float
-  pub vapor : List Float
+abbrev pub Bubble : Type 0
+Bubble = BubblePoint
 
--- the pressure, Pa, the incipient liquid, iterations, residual, and the activity at that liquid
-pub record Dew : Type 0 where
-  pub pressure : Float
-  pub liquid : List Float
-  pub iterations : ℕ
-  pub residual : Float
-  pub activity : Activity
+-- the pressure, Pa, the incipient liquid, the activity at that liquid, iterations, residual
+abbrev pub Dew : Type 0
+Dew = DewPoint
 
 -- a saturation point: T (K), p (Pa), both compositions, max_i |ln(y_i p) - ln(x_i γ_i p_i^sat)|, iterations
-pub record Saturation : Type 0 where
-  pub temperature : Float
-  pub pressure : Float
-  pub liquid : List Float
-  pub vapor : List Float
-  pub residual : Float
-  pub iterations : ℕ
+abbrev pub Saturation : Type 0
+Saturation = ActivitySaturation
 
 -- x_i γ_i p_i^sat at positive x_i
 unfoldable pub partial_of : List Float → List Float → List Float → ℕ → Float
@@ -74,6 +69,10 @@ dew_liquid y ps lg n = normalize_of (dew_term y ps lg) n
 unfoldable pub change_of : List Float → List Float → List Float → ℕ → Float
 change_of y new old n = fold_to (active (at y) (λ i r. max_of r (abs_of (at new i ⊖ at old i)))) 0f n
 
+-- a turn from ln γ: the largest change, and the new ln γ
+abbrev pub turned : List Float → List Float → ℕ → Activity → DewTurn
+turned y lg n a = record { change = change_of y a.ln_gamma lg n; ln_gamma = a.ln_gamma }
+
 module _ (E : List Float → Out Activity) (ps : List Float) (n : ℕ) where
   -- `bubble_at`
   unfoldable pub bubble_at : List Float → Out Bubble
@@ -82,6 +81,13 @@ module _ (E : List Float → Out Activity) (ps : List Float) (n : ℕ) where
   -- `residual`
   unfoldable pub residual : Float → List Float → List Float → Out Float
   residual p x y = bind (E x) (λ a. residual_with a.ln_gamma ps p x y n)
+
+  -- what ln γ gives: the pressure, the incipient liquid, and the activity there
+  unfoldable pub incipient : List Float → List Float → Out IncipientLiquid
+  incipient y lg =
+      bind (dew_liquid y ps lg n) (λ x.
+      bind (E x) (λ a.
+      ok (record { pressure = dew_pressure y ps lg n; liquid = x; activity = a })))
 
   -- one turn of the dew iteration, from ln γ: the activity at the incipient liquid (25 where the change or the pressure isn't finite)
   unfoldable pub dew_turn : List Float → List Float → Out Activity

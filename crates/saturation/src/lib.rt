@@ -2,66 +2,56 @@
 // an ideal-gas vapor. Compositions and ln γ are arrays of eight, 0.0 past n; pressures in Pa, temperatures in K.
 #![tactic(auto)]
 
-ghost use Rattle.std.specs.Prelude.{◌≡◌, cond, ◌&&◌, ◌≤◌};
+ghost use Rattle.std.specs.Prelude.{◌≡◌, if◌then◌else◌, ◌≤◌};
 ghost use Rattle.std.specs.Float.Ieee.{lt};
 ghost use Rattle.floats.specs.Arithmetic.{◌⊕◌, ◌⊖◌, ◌⊗◌, ◌⊘◌, 0f};
-ghost use Rattle.floats.specs.Small.{max_of, abs_of};
-ghost use Rattle.floats.specs.Vector.{at, vec, places};
-ghost use Rattle.floats.specs.Outcome.{no};
+ghost use Rattle.floats.specs.Small.{abs_of};
+ghost use Rattle.floats.specs.Vector.{vec, places};
+ghost use Rattle.floats.specs.Outcome.{ok, bind};
+ghost use Rattle.outcome.specs.Refused.{outcome_of};
 ghost use Rattle.numerics.specs.Numerics.{ln_of};
 ghost use Rattle.thermo_models.specs.Activity.{activity_on};
-ghost use Rattle.saturation.specs.Saturation.{partial_of, bubble_from, gap_of, residual_with, dew_term, change_of, dew_turn, dew_point, dew_at, bubble_task, dew_task};
-ghost use Rattle.saturation.specs.Answers.{bubble_answer, residual_answer, incipient_of, no_dew_turn, dew_turn_answer, dew_answer, saturation_answer};
+ghost use Rattle.saturation.specs.Saturation.{partial_of, bubble_from, gap_of, residual_with, dew_term, incipient, change_of, turned, dew_turn, dew_point, dew_at, bubble_task, dew_task};
 
-use thermo_models::Tabled;
-use thermo_types::{ActivityOptions, Normalized, Verdict};
+use outcome::Refusal;
+use thermo_models::{ActivityCoefficients, Tabled};
+use thermo_types::ActivityOptions;
 
-// Pressure in Pa and incipient vapor. Here and below: zeros where it is refused.
+// Pressure in Pa and incipient vapor.
 #[derive(Clone, Copy)]
 pub struct BubblePoint {
-    pub verdict: Verdict,
     pub pressure: f64,
     pub vapor: [f64; 8],
 }
 
-// max_i |ln(y_i p) - ln(x_i γ_i p_i^sat)|.
-#[derive(Clone, Copy)]
-pub struct ResidualAnswer {
-    pub verdict: Verdict,
-    pub value: f64,
-}
-
-// Pressure in Pa, and the incipient liquid.
+// Pressure in Pa, the incipient liquid, and the activity (ln γ, 1/K) at that liquid.
 #[derive(Clone, Copy)]
 struct IncipientLiquid {
     pressure: f64,
-    liquid: Normalized,
+    liquid: [f64; 8],
+    activity: ActivityCoefficients,
 }
 
 // One turn of the dew iteration: the largest change of ln γ, and the new ln γ.
 #[derive(Clone, Copy)]
 struct DewTurn {
-    verdict: Verdict,
     change: f64,
-    lg: [f64; 8],
+    ln_gamma: [f64; 8],
 }
 
-// A converged dew point at T: pressure (Pa), incipient liquid, and the activity (ln γ, 1/K) at that liquid.
+// A converged dew point at T: pressure (Pa), incipient liquid, and the activity at that liquid.
 #[derive(Clone, Copy)]
 pub struct DewPoint {
-    pub verdict: Verdict,
     pub pressure: f64,
     pub liquid: [f64; 8],
+    pub activity: ActivityCoefficients,
     pub iterations: u64,
     pub residual: f64,
-    pub lg: [f64; 8],
-    pub sl: [f64; 8],
 }
 
 // Saturation point of the feed; the incipient phase has zero amount. K, Pa.
 #[derive(Clone, Copy)]
 pub struct ActivitySaturation {
-    pub verdict: Verdict,
     pub temperature: f64,
     pub pressure: f64,
     pub liquid: [f64; 8],
@@ -70,64 +60,10 @@ pub struct ActivitySaturation {
     pub iterations: u64,
 }
 
-// ---- refusals
-
-fn no_bubble(number: u64) -> BubblePoint
-    ensures { result ≡ bubble_answer (no number) }
-{
-    let z = [0.0; 8];
-    BubblePoint {
-        verdict: Verdict::Refused(number),
-        pressure: 0.0,
-        vapor: z,
-    }
-}
-
-fn no_dew_turn(number: u64) -> DewTurn
-    ensures { result ≡ no_dew_turn number }
-{
-    let z = [0.0; 8];
-    DewTurn {
-        verdict: Verdict::Refused(number),
-        change: 0.0,
-        lg: z,
-    }
-}
-
-fn no_dew(number: u64) -> DewPoint
-    ensures { result ≡ dew_answer (no number) }
-{
-    let z = [0.0; 8];
-    DewPoint {
-        verdict: Verdict::Refused(number),
-        pressure: 0.0,
-        liquid: z,
-        iterations: 0,
-        residual: 0.0,
-        lg: z,
-        sl: z,
-    }
-}
-
-pub fn no_saturation(number: u64) -> ActivitySaturation
-    ensures { result ≡ saturation_answer (no number) }
-{
-    let zeros = [0.0; 8];
-    ActivitySaturation {
-        verdict: Verdict::Refused(number),
-        temperature: 0.0,
-        pressure: 0.0,
-        liquid: zeros,
-        vapor: zeros,
-        residual: 0.0,
-        iterations: 0,
-    }
-}
-
 // ---- bubble point: p = Σ x_i γ_i p_i^sat, y_i = x_i γ_i p_i^sat / p
 
 fn partial(x: f64, gamma: f64, ps: f64) -> f64
-    ensures { result ≡ cond (lt 0f x) (x ⊗ gamma ⊗ ps) 0f }
+    ensures { result ≡ (if lt 0f x then x ⊗ gamma ⊗ ps else 0f) }
 {
     if x > 0.0 { x * gamma * ps } else { 0.0 }
 }
@@ -144,37 +80,23 @@ fn partials(x: &[f64; 8], lg: &[f64; 8], ps: &[f64; 8], n: usize) -> [f64; 8]
     w
 }
 
-// Each of the first n terms over s.
-fn divided(w: &[f64; 8], s: f64, n: usize) -> [f64; 8]
-    requires { n ≤ 8 }
-    ensures { result ≡ vec (λ i. at w.now i ⊘ s) n }
-{
-    let mut x = [0.0; 8];
-    for i in 0..n {
-        x[i] = w[i] / s;
-    }
-    x
-}
-
 // The bubble point of x from its ln γ: 25 where the pressure isn't finite and positive.
-pub fn bubble_from(x: &[f64; 8], lg: &[f64; 8], ps: &[f64; 8], n: usize) -> BubblePoint
-    ensures { result ≡ bubble_answer (bubble_from x.now lg.now ps.now (places n)) }
+pub fn bubble_from(
+    x: &[f64; 8],
+    lg: &[f64; 8],
+    ps: &[f64; 8],
+    n: usize,
+) -> Result<BubblePoint, Refusal>
+    ensures { outcome_of result ≡ bubble_from x.now lg.now ps.now (places n) }
 {
     let m = floats::places(n);
     let w = partials(x, lg, ps, m);
     let p = thermo_types::sum(&w, m);
-    if !floats::is_finite(p) {
-        return no_bubble(25);
+    if !floats::is_finite(p) | (p <= 0.0) {
+        return Err(Refusal::ResultNotFinite);
     }
-    if p <= 0.0 {
-        return no_bubble(25);
-    }
-    let y = divided(&w, p, m);
-    BubblePoint {
-        verdict: Verdict::Passed,
-        pressure: p,
-        vapor: y,
-    }
+    let vapor = thermo_types::divided(&w, p, m);
+    Ok(BubblePoint { pressure: p, vapor })
 }
 
 // ---- residual of ln fugacities
@@ -186,18 +108,7 @@ fn gap(lg: f64, ps: f64, ln_p: f64, x: f64, y: f64) -> f64
     floats::abs(numerics::ln(y) + ln_p - numerics::ln(x) - lg - numerics::ln(ps))
 }
 
-// The larger of r and the gap of a solvent that is present in both phases.
-fn larger_gap(lg: f64, ps: f64, ln_p: f64, x: f64, y: f64, r: f64) -> f64
-    ensures { result ≡ cond (lt 0f x && lt 0f y) (max_of r (abs_of (ln_of y ⊕ ln_p ⊖ ln_of x ⊖ lg ⊖ ln_of ps))) r }
-{
-    if (x > 0.0) & (y > 0.0) {
-        let g = gap(lg, ps, ln_p, x, y);
-        floats::max(r, g)
-    } else {
-        r
-    }
-}
-
+// The largest gap of a solvent that is present in both phases.
 fn largest_gap(lg: &[f64; 8], ps: &[f64; 8], p: f64, x: &[f64; 8], y: &[f64; 8], n: usize) -> f64
     requires { n ≤ 8 }
     ensures { result ≡ gap_of lg.now ps.now p x.now y.now n }
@@ -205,7 +116,9 @@ fn largest_gap(lg: &[f64; 8], ps: &[f64; 8], p: f64, x: &[f64; 8], y: &[f64; 8],
     let ln_p = numerics::ln(p);
     let mut r = 0.0;
     for i in 0..n {
-        r = larger_gap(lg[i], ps[i], ln_p, x[i], y[i], r);
+        if (x[i] > 0.0) & (y[i] > 0.0) {
+            r = floats::max(r, gap(lg[i], ps[i], ln_p, x[i], y[i]));
+        }
     }
     r
 }
@@ -218,27 +131,20 @@ pub fn residual_with(
     x: &[f64; 8],
     y: &[f64; 8],
     n: usize,
-) -> ResidualAnswer
-    ensures { result ≡ residual_answer (residual_with lg.now ps.now p x.now y.now (places n)) }
+) -> Result<f64, Refusal>
+    ensures { outcome_of result ≡ residual_with lg.now ps.now p x.now y.now (places n) }
 {
     let r = largest_gap(lg, ps, p, x, y, floats::places(n));
-    if floats::is_finite(r) {
-        ResidualAnswer {
-            verdict: Verdict::Passed,
-            value: r,
-        }
-    } else {
-        ResidualAnswer {
-            verdict: Verdict::Refused(25),
-            value: 0.0,
-        }
+    if !floats::is_finite(r) {
+        return Err(Refusal::ResultNotFinite);
     }
+    Ok(r)
 }
 
 // ---- dew point: p = 1 / Σ y_i / (γ_i p_i^sat), by successive substitution on ln γ of the incipient liquid
 
 fn dew_term(y: f64, ps: f64, gamma: f64) -> f64
-    ensures { result ≡ cond (lt 0f y) (y ⊘ (gamma ⊗ ps)) 0f }
+    ensures { result ≡ (if lt 0f y then y ⊘ (gamma ⊗ ps) else 0f) }
 {
     if y > 0.0 { y / (gamma * ps) } else { 0.0 }
 }
@@ -255,43 +161,54 @@ fn dew_terms(y: &[f64; 8], ps: &[f64; 8], lg: &[f64; 8], n: usize) -> [f64; 8]
     w
 }
 
-// From the same terms the pressure, and the liquid (34).
-fn incipient(y: &[f64; 8], ps: &[f64; 8], lg: &[f64; 8], n: usize) -> IncipientLiquid
+// What ln γ gives: 34, then what `activity` refuses at the incipient liquid.
+fn incipient(
+    table: &[f64; 512],
+    s: Tabled,
+    n: usize,
+    y: &[f64; 8],
+    ps: &[f64; 8],
+    lg: &[f64; 8],
+) -> Result<IncipientLiquid, Refusal>
     requires { n ≤ 8 }
-    ensures { result ≡ incipient_of y.now ps.now lg.now n }
+    ensures { outcome_of result ≡ incipient (activity_on table.now s) ps.now n y.now lg.now }
 {
     let w = dew_terms(y, ps, lg, n);
-    let s = thermo_types::sum(&w, n);
-    let x = thermo_types::normalize(&w, n);
-    IncipientLiquid {
-        pressure: 1.0 / s,
-        liquid: x,
-    }
+    let pressure = 1.0 / thermo_types::sum(&w, n);
+    let liquid = thermo_types::normalize(&w, n)?;
+    let mut activity = ActivityCoefficients {
+        ln_gamma: [0.0; 8],
+        slopes: [0.0; 8],
+    };
+    thermo_models::activity(
+        table,
+        s,
+        &liquid,
+        &mut activity.ln_gamma,
+        &mut activity.slopes,
+    )?;
+    Ok(IncipientLiquid {
+        pressure,
+        liquid,
+        activity,
+    })
 }
 
-fn larger_change(y: f64, new: f64, old: f64, r: f64) -> f64
-    ensures { result ≡ cond (lt 0f y) (max_of r (abs_of (new ⊖ old))) r }
-{
-    if y > 0.0 {
-        let d = floats::abs(new - old);
-        floats::max(r, d)
-    } else {
-        r
-    }
-}
-
+// The largest change of ln γ of a solvent that is present.
 fn largest_change(y: &[f64; 8], new: &[f64; 8], old: &[f64; 8], n: usize) -> f64
     requires { n ≤ 8 }
     ensures { result ≡ change_of y.now new.now old.now n }
 {
     let mut r = 0.0;
     for i in 0..n {
-        r = larger_change(y[i], new[i], old[i], r);
+        if y[i] > 0.0 {
+            r = floats::max(r, floats::abs(new[i] - old[i]));
+        }
     }
     r
 }
 
-// A turn from ln γ: 34, what `activity` refuses at the incipient liquid, then 25 where change or pressure isn't finite.
+// A turn from ln γ: 25 where change or pressure isn't finite.
 fn dew_turn(
     table: &[f64; 512],
     s: Tabled,
@@ -299,37 +216,21 @@ fn dew_turn(
     y: &[f64; 8],
     ps: &[f64; 8],
     lg: &[f64; 8],
-) -> DewTurn
+) -> Result<DewTurn, Refusal>
     requires { n ≤ 8 }
-    ensures { result ≡ dew_turn_answer y.now lg.now n (dew_turn (activity_on table.now s) ps.now n y.now lg.now) }
+    ensures { outcome_of result ≡ bind (dew_turn (activity_on table.now s) ps.now n y.now lg.now) (λ a. ok (turned y.now lg.now n a)) }
 {
-    let found = incipient(y, ps, lg, n);
-    let liquid = found.liquid;
-    let normal = liquid.verdict;
-    match normal {
-        Verdict::Refused(number) => return no_dew_turn(number),
-        Verdict::Passed => {}
+    let IncipientLiquid {
+        pressure,
+        activity,
+        ..
+    } = incipient(table, s, n, y, ps, lg)?;
+    let ln_gamma = activity.ln_gamma;
+    let change = largest_change(y, &ln_gamma, lg, n);
+    if !(floats::is_finite(change) & floats::is_finite(pressure)) {
+        return Err(Refusal::ResultNotFinite);
     }
-    let x = liquid.fractions;
-    let mut new = [0.0; 8];
-    let mut sl = [0.0; 8];
-    let verdict = thermo_models::activity(table, s, &x, &mut new, &mut sl);
-    match verdict {
-        Verdict::Refused(number) => return no_dew_turn(number),
-        Verdict::Passed => {}
-    }
-    let r = largest_change(y, &new, lg, n);
-    if !floats::is_finite(r) {
-        return no_dew_turn(25);
-    }
-    if !floats::is_finite(found.pressure) {
-        return no_dew_turn(25);
-    }
-    DewTurn {
-        verdict: Verdict::Passed,
-        change: r,
-        lg: new,
-    }
+    Ok(DewTurn { change, ln_gamma })
 }
 
 // The dew point of converged ln γ.
@@ -340,40 +241,24 @@ fn dew_point(
     y: &[f64; 8],
     ps: &[f64; 8],
     lg: &[f64; 8],
-    iteration: u64,
-) -> DewPoint
+    iterations: u64,
+) -> Result<DewPoint, Refusal>
     requires { n ≤ 8 }
-    ensures { result ≡ dew_answer (dew_point (activity_on table.now s) ps.now n y.now lg.now iteration) }
+    ensures { outcome_of result ≡ dew_point (activity_on table.now s) ps.now n y.now lg.now iterations }
 {
-    let found = incipient(y, ps, lg, n);
-    let liquid = found.liquid;
-    let normal = liquid.verdict;
-    match normal {
-        Verdict::Refused(number) => return no_dew(number),
-        Verdict::Passed => {}
-    }
-    let x = liquid.fractions;
-    let mut new = [0.0; 8];
-    let mut sl = [0.0; 8];
-    let verdict = thermo_models::activity(table, s, &x, &mut new, &mut sl);
-    match verdict {
-        Verdict::Refused(number) => return no_dew(number),
-        Verdict::Passed => {}
-    }
-    let r = residual_with(&new, ps, found.pressure, &x, y, n);
-    let finite = r.verdict;
-    match finite {
-        Verdict::Refused(number) => no_dew(number),
-        Verdict::Passed => DewPoint {
-            verdict: Verdict::Passed,
-            pressure: found.pressure,
-            liquid: x,
-            iterations: iteration,
-            residual: r.value,
-            lg: new,
-            sl: sl,
-        },
-    }
+    let IncipientLiquid {
+        pressure,
+        liquid,
+        activity,
+    } = incipient(table, s, n, y, ps, lg)?;
+    let residual = residual_with(&activity.ln_gamma, ps, pressure, &liquid, y, n)?;
+    Ok(DewPoint {
+        pressure,
+        liquid,
+        activity,
+        iterations,
+        residual,
+    })
 }
 
 // The dew point of y, by turns from ln γ = 0 until the change is within the tolerance: 34, what `activity` refuses, 25, and
@@ -384,25 +269,19 @@ pub fn dew_at(
     y: &[f64; 8],
     ps: &[f64; 8],
     o: ActivityOptions,
-) -> DewPoint
-    ensures { result ≡ dew_answer (dew_at (activity_on table.now s) ps.now (places s.n) o y.now) }
+) -> Result<DewPoint, Refusal>
+    ensures { outcome_of result ≡ dew_at (activity_on table.now s) ps.now (places s.n) o y.now }
 {
     let n = floats::places(s.n);
     let mut lg = [0.0; 8];
     for done in 0..o.max_iterations {
-        let step = dew_turn(table, s, n, y, ps, &lg);
-        let verdict = step.verdict;
-        match verdict {
-            Verdict::Refused(number) => return no_dew(number),
-            Verdict::Passed => {}
-        }
-        let new = step.lg;
-        lg = new;
-        if step.change <= o.tolerance {
+        let turn = dew_turn(table, s, n, y, ps, &lg)?;
+        lg = turn.ln_gamma;
+        if turn.change <= o.tolerance {
             return dew_point(table, s, n, y, ps, &lg, done + 1);
         }
     }
-    no_dew(27)
+    Err(Refusal::NotConverged)
 }
 
 // ---- tasks 2 and 3
@@ -414,42 +293,25 @@ pub fn activity_bubble_pressure(
     s: Tabled,
     x: &[f64; 8],
     ps: &[f64; 8],
-) -> ActivitySaturation
-    ensures { result ≡ saturation_answer (bubble_task (activity_on table.now s) ps.now (places s.n) s.t.0 x.now) }
+) -> Result<ActivitySaturation, Refusal>
+    ensures { outcome_of result ≡ bubble_task (activity_on table.now s) ps.now (places s.n) s.t.0 x.now }
 {
-    let t = s.t;
     let mut lg = [0.0; 8];
     let mut sl = [0.0; 8];
-    let verdict = thermo_models::activity(table, s, x, &mut lg, &mut sl);
-    match verdict {
-        Verdict::Refused(number) => return no_saturation(number),
-        Verdict::Passed => {}
+    thermo_models::activity(table, s, x, &mut lg, &mut sl)?;
+    let BubblePoint { pressure, vapor } = bubble_from(x, &lg, ps, s.n)?;
+    if !thermo_models::check_pressure(pressure) {
+        return Err(Refusal::PressureOutside);
     }
-    let b = bubble_from(x, &lg, ps, s.n);
-    let positive = b.verdict;
-    match positive {
-        Verdict::Refused(number) => return no_saturation(number),
-        Verdict::Passed => {}
-    }
-    let p = b.pressure;
-    if !thermo_models::check_pressure(p) {
-        return no_saturation(23);
-    }
-    let vapor = b.vapor;
-    let r = residual_with(&lg, ps, p, x, &vapor, s.n);
-    let finite = r.verdict;
-    match finite {
-        Verdict::Refused(number) => no_saturation(number),
-        Verdict::Passed => ActivitySaturation {
-            verdict: Verdict::Passed,
-            temperature: t.value(),
-            pressure: p,
-            liquid: *x,
-            vapor: vapor,
-            residual: r.value,
-            iterations: 0,
-        },
-    }
+    let residual = residual_with(&lg, ps, pressure, x, &vapor, s.n)?;
+    Ok(ActivitySaturation {
+        temperature: s.t.value(),
+        pressure,
+        liquid: *x,
+        vapor,
+        residual,
+        iterations: 0,
+    })
 }
 
 // Dew pressure of the feed y, from the same: 34, what `activity` refuses at an incipient liquid, 25, 27, 23.
@@ -459,28 +321,25 @@ pub fn activity_dew_pressure(
     y: &[f64; 8],
     ps: &[f64; 8],
     o: ActivityOptions,
-) -> ActivitySaturation
-    ensures { result ≡ saturation_answer (dew_task (activity_on table.now s) ps.now (places s.n) o s.t.0 y.now) }
+) -> Result<ActivitySaturation, Refusal>
+    ensures { outcome_of result ≡ dew_task (activity_on table.now s) ps.now (places s.n) o s.t.0 y.now }
 {
-    let t = s.t;
-    let d = dew_at(table, s, y, ps, o);
-    let verdict = d.verdict;
-    match verdict {
-        Verdict::Refused(number) => return no_saturation(number),
-        Verdict::Passed => {}
+    let DewPoint {
+        pressure,
+        liquid,
+        iterations,
+        residual,
+        ..
+    } = dew_at(table, s, y, ps, o)?;
+    if !thermo_models::check_pressure(pressure) {
+        return Err(Refusal::PressureOutside);
     }
-    if !thermo_models::check_pressure(d.pressure) {
-        return no_saturation(23);
-    }
-    let liquid = d.liquid;
-    let vapor = *y;
-    ActivitySaturation {
-        verdict: Verdict::Passed,
-        temperature: t.value(),
-        pressure: d.pressure,
-        liquid: liquid,
-        vapor: vapor,
-        residual: d.residual,
-        iterations: d.iterations,
-    }
+    Ok(ActivitySaturation {
+        temperature: s.t.value(),
+        pressure,
+        liquid,
+        vapor: *y,
+        residual,
+        iterations,
+    })
 }

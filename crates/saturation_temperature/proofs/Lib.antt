@@ -1,3 +1,3 @@
 -- Laws that the proofs of saturation_temperature cite. Assumes nothing.
-pub mod Searching
-pub mod Points
+mod Searching
+mod Points

@@ -2,4 +2,3 @@
 pub mod Search
 pub mod Boiling
 pub mod Answers
-pub mod Curves

@@ -6,16 +6,16 @@ use Rattle.floats.specs.Small.{abs_of}
 use Rattle.floats.specs.Outcome.{Out, ok, no, bind, need, choose}
 use Rattle.thermo_types.specs.declared.ActivityOptions.{ActivityOptions}
 use Rattle.saturation_temperature.specs.declared.Bracket.{Bracket}
+use Rattle.saturation_temperature.specs.declared.Point as the_point
+use Rattle.saturation_temperature.specs.declared.Root as the_root
 
 -- f and its slope at a temperature
-pub record Point : Type 0 where
-  pub value : Float
-  pub slope : Float
+abbrev pub Point : Type 0
+Point = the_point.Point
 
 -- the temperature found, K, and the iterations
-pub record Root : Type 0 where
-  pub temperature : Float
-  pub iterations : ℕ
+abbrev pub Root : Type 0
+Root = the_root.Root
 
 abbrev pub middle : Float → Float → Float
 middle lo hi = lo ⊕ (hi ⊖ lo) ⊘ 2f

@@ -1,80 +1,55 @@
 -- Laws of a call that is refused or answered, and of an answer that is written block by block. Assumes nothing.
 use mathlib.Core.Path.{◌≡◌, refl, sym, ap, ◌∙◌}
 use mathlib.Core.List.{List, [], ◌∷◌, ◌++◌, append_assoc, append-nil}
-use mathlib.Core.Bool.{Bool, true, false}
 use Prim.Native.Nat.{ℕ, zero, suc, ◌+◌, ◌*◌, ◌≤◌, ◌<◌}
 use native.Mathlib.Numerals.{add-one}
 use native.Mathlib.Omega.{arith}
-use lib.Dec.{eqb}
-use borrow.Author.Tests.{eq-eqb, ne_eqb}
 use lib.ListN.{length, get_or, take, drop, length-append, take-append-drop}
 use lib.Seq.{length-take-le, take_at, drop-append-add, drop-drop}
-use Rattle.floats.specs.Outcome.{Out, ok, no, bind, need, choose}
-use Rattle.floats.proofs.Outcomes.{choose_yes, choose_no}
-use Rattle.thermo_types.specs.declared.Verdict.{Verdict}
-use Rattle.thermo_types.specs.declared.Verdict.TheVariants.{Passed, Refused}
+use Rattle.std.specs.Prelude.{Result, Ok, Err}
+use Rattle.std.specs.Result.{IsErrAnd}
+use Rattle.floats.specs.Outcome.{Out, ok, no}
+use Rattle.outcome.specs.Refused.{number, number_in}
+use Rattle.outcome.specs.declared.Refusal.{Refusal}
 use Rattle.blocks.specs.declared.Rule.{Rule}
 use Rattle.blocks.specs.Bytes.{word_at, put, stored, row_to, block_bytes}
 use Rattle.blocks.proofs.Laws.{length_block-bytes, length_row, put-more, stored-fits, stored-front}
 use Rattle.liquid_stability.specs.declared.LiquidStabilityTrial.{LiquidStabilityTrial}
 use Rattle.liquid_stability.specs.Stability.{no_trial}
 use Rattle.replies.specs.declared.AnswerBlock.{AnswerBlock}
-use Rattle.replies.specs.Blocks.{Answer, answer_room, answer_words, trial_words, trial_bytes, answer_bytes}
+use Rattle.replies.specs.Blocks.{answer_room, answer_words, trial_words, trial_bytes, answer_bytes}
 use Rattle.sheet.specs.Tasks.{alone}
-use Rattle.sheet.specs.Sheet.{Answers, number_of, written, replied, on_passed}
+use Rattle.sheet.specs.Sheet.{Answers, number_of, written}
 
--- ---- tests in a row
-pub says-no : (r : ℕ) (o : Out (List ℕ)) {b : Bool} {old : List ℕ} → b ≡ false → Answers (need b r o) r old old
-unfolding need number_of written
-says-no r o e = record { number = rw e; bytes = rw e }
-
-pub says_yes : (k : ℕ) {o : Out (List ℕ)} {b : Bool} {r : ℕ} {old new : List ℕ} → b ≡ true → Answers o r old new → Answers (need b k o) r old new
-unfolding need
-says_yes k e h = record { number = rw e h.number; bytes = rw e h.bytes }
-
-pub refuses : {A : Type 0} {o : Out A} (k : A → Out (List ℕ)) {r : ℕ} {old : List ℕ} → o ≡ no r → Answers (bind o k) r old old
-unfolding bind number_of written
-refuses k e = record { number = rw e; bytes = rw e }
-
-pub goes_on : {A : Type 0} {o : Out A} (k : A → Out (List ℕ)) {a : A} {r : ℕ} {old new : List ℕ} → o ≡ ok a → Answers (k a) r old new → Answers (bind o k) r old new
-unfolding bind
-goes_on k e h = record { number = rw e h.number; bytes = rw e h.bytes }
-
+-- ---- a call's outcome
 pub same_as : {o p : Out (List ℕ)} {r : ℕ} {old new : List ℕ} → o ≡ p → Answers p r old new → Answers o r old new
 same_as e h = record { number = rw e h.number; bytes = rw e h.bytes }
 
--- ---- tasks in a row, by a test or by the task's number
-module _ (rule : Rule) (task : ℕ) (a b : Out Answer) {r : ℕ} {old new : List ℕ} where
-  pub by_yes : {f t : Bool} → f ≡ t → f ≡ true → Answers (replied rule task a) r old new → Answers (replied rule task (choose t a b)) r old new
-  by_yes e q h = same_as (ap (replied rule task) (choose_yes a b (sym e ∙ q))) h
+-- a refusal leaves the slice as it was
+pub refuses : {o : Out (List ℕ)} {r : ℕ} {old : List ℕ} → o ≡ no r → Answers o r old old
+unfolding number_of written
+refuses e = record { number = rw e; bytes = rw e }
 
-  pub by-no : {f t : Bool} → f ≡ t → f ≡ false → Answers (replied rule task b) r old new → Answers (replied rule task (choose t a b)) r old new
-  by-no e q h = same_as (ap (replied rule task) (choose_no a b (sym e ∙ q))) h
-
-  pub is-task : {t k : ℕ} → t ≡ k → Answers (replied rule task a) r old new → Answers (replied rule task (choose (eqb t k) a b)) r old new
-  is-task {t} {k} e h = same_as (ap (replied rule task) (choose_yes a b (eq-eqb t k e))) h
-
-  pub not_task : {t k : ℕ} → (t ≡ k → ⊥) → Answers (replied rule task b) r old new → Answers (replied rule task (choose (eqb t k) a b)) r old new
-  not_task {t} {k} e h = same_as (ap (replied rule task) (choose_no a b (ne_eqb t k e))) h
+-- the refusal that a `?` met is the one that is returned
+pub quits : {A : Type 0} {o : Out (List ℕ)} (e : Refusal) (r : Result A Refusal) {old : List ℕ} → IsErrAnd r (λ y. y ≡ e) → o ≡ no (number e) → Answers o (number_in r) old old
+quits e (Err y) h q = refuses (q ∙ ap (λ (x : Refusal). no (number x)) (sym h))
+quits e (Ok a) h q = absurd h
 
 -- ---- the answer block
-pub head-no : (bs : List ℕ) {v : Verdict} {r : ℕ} {old : List ℕ} → v ≡ Refused r → Answers (on_passed v bs) r old old
-unfolding on_passed number_of written
-head-no bs e = record { number = rw e; bytes = rw e }
-
 module _ (rule : Rule) where
-  pub head_yes : (ws old : List ℕ) {v : Verdict} {us new : List ℕ} → answer_room ≤ length old → v ≡ Passed → us ≡ ws → new ≡ stored old 0 (block_bytes rule (word_at us))
-      → Answers (on_passed v (block_bytes rule (word_at ws))) 0 old new
-  unfolding on_passed number_of written
-  head_yes ws old h e w o =
-      let l : 512 ≤ length old = omega arith in
-      record { number = rw e; bytes = rw (e, length_block-bytes rule (word_at ws)) ((rw w at o) ∙ stored-front rule (word_at ws) old l) }
-
   -- an answer without trials is its block
-  pub one_block : (task : ℕ) (b : AnswerBlock) → b.state.trials ≡ 0 → answer_bytes rule task (alone b) ≡ block_bytes rule (word_at (answer_words task b))
+  one_block : (task : ℕ) (b : AnswerBlock) → b.state.trials ≡ 0 → answer_bytes rule task (alone b) ≡ block_bytes rule (word_at (answer_words task b))
   unfolding answer_bytes row_to
   one_block task b z =
       ap (λ (k : ℕ). block_bytes rule (word_at (answer_words task b)) ++ row_to (trial_bytes rule []) k) z ∙ append-nil (block_bytes rule (word_at (answer_words task b)))
+
+  pub alone_yes : (task : ℕ) (b : AnswerBlock) {ws old new : List ℕ} → answer_room ≤ length old → b.state.trials ≡ 0 → ws ≡ answer_words task b
+      → new ≡ stored old 0 (block_bytes rule (word_at ws)) → Answers (ok (answer_bytes rule task (alone b))) 0 old new
+  unfolding number_of written
+  alone_yes task b {old = old} h z w o =
+      let l : 512 ≤ length old = omega arith in
+      let bs = answer_words task b in
+      record { number = refl; bytes = rw (one_block task b z, length_block-bytes rule (word_at bs)) ((rw w at o) ∙ stored-front rule (word_at bs) old l) }
 
   -- ---- the trials behind it
   pub trial_length : (l : List LiquidStabilityTrial) (k : ℕ) → length (trial_bytes rule l k) ≡ 512
@@ -127,12 +102,12 @@ behind-turn {rule} {l} {k} {mid} d h j o =
     record { room = h.room; row = o ∙ rw (entry l k d no_trial j, h.row) (e ∙ ap (λ (i : ℕ). (p ++ b) ++ drop i mid) m ∙ ap (λ (u : List ℕ). u ++ drop (512 * (k + 1 + 1)) mid) s) }
 
 -- the block, then the trials
-pub answer_yes : (rule : Rule) (task : ℕ) (b : AnswerBlock) (l : List LiquidStabilityTrial) {v : Verdict} {ws old mid new : List ℕ} → answer_room ≤ length old → v ≡ Passed
+pub answer_yes : (rule : Rule) (task : ℕ) (b : AnswerBlock) (l : List LiquidStabilityTrial) {ws old mid new : List ℕ} → answer_room ≤ length old
     → ws ≡ answer_words task b → mid ≡ stored old 0 (block_bytes rule (word_at ws))
     → new ≡ (take 512 mid ++ row_to (trial_bytes rule l) b.state.trials) ++ drop (512 * (b.state.trials + 1)) mid
-    → Answers (on_passed v (answer_bytes rule task (record { block = b; trials = l }))) 0 old new
-unfolding on_passed number_of written answer_bytes
-answer_yes rule task b l {v} {ws} {old} {mid} h q w o p =
+    → Answers (ok (answer_bytes rule task (record { block = b; trials = l }))) 0 old new
+unfolding number_of written answer_bytes
+answer_yes rule task b l {ws} {old} {mid} h w o p =
     let k = b.state.trials in
     let head = block_bytes rule (word_at (answer_words task b)) in
     let e : length head ≡ 512 = length_block-bytes rule (word_at (answer_words task b)) in
@@ -142,4 +117,4 @@ answer_yes rule task b l {v} {ws} {old} {mid} h q w o p =
     let s : 512 * (k + 1) ≡ length head + 512 * k = omega arith in
     let d : drop (512 * (k + 1)) mid ≡ drop (512 + 512 * k) old = rw (m, s) (drop-append-add head (drop 512 old) (512 * k) ∙ drop-drop (512 * k) 512 old) in
     let n : length (head ++ row_to (trial_bytes rule l) k) ≡ 512 + 512 * k = rw (length-append, e, length_row (trial_bytes rule l) 512 k (trial_length rule l)) (omega arith) in
-    record { number = rw q; bytes = rw (q, n) (p ∙ rw (a, d)) }
+    record { number = refl; bytes = rw n (p ∙ rw (a, d)) }

@@ -1,16 +1,14 @@
 -- What the tasks at a temperature share, whatever the feed: the vapor pressures that a task reads, and tables that stand for the mixture. Assumes nothing.
-use Rattle.std.specs.Prelude.{ℕ, ◌≡◌, ◌||◌, List, eqb, Float}
+use Rattle.std.specs.Prelude.{ℕ, ◌≡◌, ◌||◌, List, eqb, Float, Result, Ok, Err}
 use Rattle.floats.specs.Vector.{places, zeros8}
 use Rattle.floats.specs.Outcome.{Out, ok, no, bind, need, choose}
-use Rattle.thermo_types.specs.declared.Verdict.{Verdict}
-use Rattle.thermo_types.specs.Verdicts.{verdict_of}
+use Rattle.outcome.specs.Refused.{number}
+use Rattle.outcome.specs.declared.Refusal.{Refusal}
 use Rattle.thermo_types.specs.Quantities.{positive_of}
 use Rattle.thermo_models.specs.declared.Tabled.{Tabled}
 use Rattle.thermo_models.specs.Model.{Pures, pressure_in_domain}
 use Rattle.thermo_models.specs.Activity.{excess_on}
 use Rattle.thermo_models.specs.Mixture.{Mixture}
-use Rattle.sheet.specs.declared.Ready.{Ready}
-use Rattle.sheet.specs.declared.Ready.TheVariants.{At, No}
 
 -- the vapor pressures of the pure liquids
 unfoldable pub pressures_in : Out Pures → Out (List Float)
@@ -28,19 +26,14 @@ module _ (m : Mixture) where
       (choose (eqb task 2 || eqb task 3) (pressures_in (m.liquids t))
       (bind (positive_of p 14) (flash_pressures t)))
 
--- as the code has them: a verdict, and where it is no refusal the values
-pub record PressuresAre (o : Out (List Float)) (v : Verdict) (ps : List Float) : Type 0 where
-  pub verdict : v ≡ verdict_of o
-  pub values : (l : List Float) → o ≡ ok l → ps ≡ l
-
 -- a table and what it stands for, which is the mixture at their temperature
 pub record TableOf (m : Mixture) (s : Tabled) (table : List Float) : Type 0 where
   pub count : places s.n ≡ m.n
   pub excess : (x : List Float) → excess_on table s x ≡ m.excess s.t.0 x
 
 -- what was made ready for a task at T, 7 at p too
-pub record Readied (m : Mixture) (task : ℕ) (T p : Float) (r : Ready) (table ps : List Float) : Type 0 where
-  pub refused : (k : ℕ) → r ≡ No k → bind (positive_of T 13) (pressures_for m task p) ≡ no k
-  pub temperature : (s : Tabled) → r ≡ At s → positive_of T 13 ≡ ok s.t.0
-  pub pressures : (s : Tabled) → r ≡ At s → pressures_for m task p s.t.0 ≡ ok ps
-  pub tables : (s : Tabled) → r ≡ At s → TableOf m s table
+pub record Readied (m : Mixture) (task : ℕ) (T p : Float) (r : Result Tabled Refusal) (table ps : List Float) : Type 0 where
+  pub refused : (e : Refusal) → r ≡ Err e → bind (positive_of T 13) (pressures_for m task p) ≡ no (number e)
+  pub temperature : (s : Tabled) → r ≡ Ok s → positive_of T 13 ≡ ok s.t.0
+  pub pressures : (s : Tabled) → r ≡ Ok s → pressures_for m task p s.t.0 ≡ ok ps
+  pub tables : (s : Tabled) → r ≡ Ok s → TableOf m s table

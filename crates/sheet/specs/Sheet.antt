@@ -1,19 +1,14 @@
 -- The whole call: from the bytes of book and question and the length of the answer slice to a refusal's number or the bytes written. Assumes nothing.
 use Rattle.std.specs.Prelude.{◌≡◌, List, ◌++◌, ℕ, leb, length, drop}
 use Rattle.floats.specs.Outcome.{Out, ok, no, bind, need}
-use Rattle.thermo_types.specs.declared.Verdict.{Verdict}
-use Rattle.thermo_types.specs.declared.Verdict.TheVariants.{Passed, Refused}
 use Rattle.blocks.specs.declared.Rule.{Rule}
 use Rattle.book.specs.Places.{words}
 use Rattle.book.specs.Book.{molar_mass, book_of, rule_of}
 use Rattle.thermo_models.specs.Mixture.{mixture_of}
-use Rattle.saturation.specs.declared.ActivitySaturation.{ActivitySaturation}
-use Rattle.saturation.specs.Saturation.{Saturation}
-use Rattle.saturation.specs.Answers.{saturation_answer}
 use Rattle.question.specs.Asked.{question_of}
 use Rattle.question.specs.declared.Question.{Question}
 use Rattle.replies.specs.Blocks.{Answer, answer_bytes, answer_room, refusal_bytes}
-use Rattle.sheet.specs.Tasks.{saturated, task_of}
+use Rattle.sheet.specs.Tasks.{task_of}
 
 -- an answer's bytes
 abbrev pub replied : Rule → ℕ → Out Answer → Out (List ℕ)
@@ -53,15 +48,6 @@ written (no r) old = old
 pub record Answers (o : Out (List ℕ)) (r : ℕ) (old new : List ℕ) : Type 0 where
   pub number : r ≡ number_of o
   pub bytes : new ≡ written o old
-
--- a value that is there where a solver's verdict is no refusal
-unfoldable pub on_passed : {A : Type 0} → Verdict → A → Out A
-on_passed Passed a = ok a
-on_passed (Refused r) a = no r
-
--- what a call does for a saturation point's task, of which the code's struct is s
-pub record Says (rule : Rule) (task : ℕ) (s : ActivitySaturation) (r : ℕ) (old new : List ℕ) : Type 0 where
-  pub says : (o : Out Saturation) → s ≡ saturation_answer o → Answers (replied rule task (saturated o)) r old new
 
 -- ---- what is sent where a refusal is a block too
 

@@ -1,37 +1,29 @@
 // Reads book.bin and a question on standard input, and writes the answer's blocks, or one block with the refusal's number.
 #![tactic(auto)]
 
-ghost use Rattle.std.specs.Prelude.{◌≡◌, ◌≤◌, length, take};
+ghost use Rattle.std.specs.Prelude.{◌≡◌, length};
 ghost use Rattle.replies.specs.Blocks.{answer_room};
 ghost use Rattle.still.specs.Sent.{Sent};
 
 use replies::ANSWER_ROOM;
-use std::rt::Files;
 
 // One block more than any book has, and one byte more than a question: what is longer shows.
 const BOOK_BYTES: usize = 19456;
 
 const QUESTION_BYTES: usize = 513;
 
-// As many bytes of book.bin as fit; none where it is missing, unreadable or a folder.
-fn read_book(rt: &impl Files, buffer: &mut [u8]) -> usize
-    ensures fits { result ≤ length buffer.new }
-    ensures front { result ≡ length (take result buffer.new) }
-{
-    reading::read_path(rt, "book.bin", buffer)
-}
-
 // The reply to the bytes that were read, at the front of `out`: how many bytes it has.
 fn reply(book: &[u8], question: &[u8], out: &mut [u8]) -> usize
     requires { length out.old ≡ answer_room }
     ensures { Sent book.now question.now result out.new }
 {
-    let number = sheet::answer(book, question, out);
-    if number == 0 {
-        return replies::answer_length(out);
+    match sheet::answer(book, question, out) {
+        Ok(()) => replies::answer_length(out),
+        Err(refusal) => {
+            replies::write_refusal(book::rule_of(book), question, u64::from(refusal), out);
+            512
+        }
     }
-    replies::write_refusal(book::rule_of(book), question, number, out);
-    512
 }
 
 // Whether anyone takes what is written changes nothing.
@@ -43,7 +35,7 @@ fn respond(rt: &impl Print, book: &[u8], question: &[u8]) {
 
 fn main(rt: HostRuntime) {
     let mut book = [0u8; BOOK_BYTES];
-    let n = read_book(&rt, &mut book);
+    let n = reading::read_path(&rt, "book.bin", &mut book);
     let mut question = [0u8; QUESTION_BYTES];
     let m = reading::read_full(&mut rt.stdin(), &mut question);
     respond(&rt, &book[..n], &question[..m]);

@@ -141,12 +141,11 @@ module _ (keep : ℕ → Bool) (n : ℕ) (small : n ≤ 8) (z z' k k' : ℕ → 
   -- ---- constrained to 0 ≤ β ≤ 1
   same-one : (o : RachfordRiceOutcome) → SameRice keep n (one_phase o) (one_phase o)
   unfolding one_phase
-  same-one o = record { verdict = refl; outcome = refl; liquid = zeros-fractions keep n small; vapor = zeros-fractions keep n small }
+  same-one o = record { outcome = refl; liquid = zeros-fractions keep n small; vapor = zeros-fractions keep n small }
 
   same-two : (a b : Solution) → SameSolution keep n a b → SameRice keep n (two_phase a) (two_phase b)
   unfolding two_phase
   same-two a b h = record {
-    verdict = refl;
     outcome = ap (λ (v : Float). TwoPhase v a.residual a.iterations) h.vapor_fraction ∙ cong2 (TwoPhase b.vapor_fraction) h.residual h.iterations;
     liquid = h.liquid;
     vapor = h.vapor;

@@ -31,7 +31,6 @@ pub record SameSolution (keep : ℕ → Bool) (n : ℕ) (a b : Solution) : Type 
   pub iterations : a.iterations ≡ b.iterations
 
 pub record SameRice (keep : ℕ → Bool) (n : ℕ) (a b : RachfordRice) : Type 0 where
-  pub verdict : a.verdict ≡ b.verdict
   pub outcome : a.outcome ≡ b.outcome
   pub liquid : Fractions keep n (at a.liquid) (at b.liquid)
   pub vapor : Fractions keep n (at a.vapor) (at b.vapor)

@@ -1,51 +1,45 @@
--- What a caller of `activity` and `pure_liquids` learns from the verdict, and what the owner of a table learns from `tables`. Assumes nothing.
+-- What a caller of `activity` and `pure_liquids` learns from the result, and what the owner of a table learns from `tables`. Assumes nothing.
 use Prim.Native.Nat.{ℕ}
-use mathlib.Core.Path.{◌≡◌, refl, ap, fun_ext}
+use mathlib.Core.Path.{◌≡◌, refl, sym, ap, fun_ext}
 use mathlib.Core.List.{List}
-use native.Mathlib.Omega.{arith}
 use lib.ListN.{length, replicate, length-replicate}
 use lib.Ieee.{Float}
+use Rattle.std.specs.Prelude.{Ok, Err}
 use Rattle.floats.specs.Arithmetic.{0f}
-use Rattle.floats.specs.Outcome.{Out, ok, no}
+use Rattle.floats.specs.Outcome.{Out, ok, no, bind}
+use Rattle.floats.proofs.Outcomes.{refused}
+use Rattle.outcome.specs.declared.Refusal.{Refusal}
+use Rattle.outcome.specs.Refused.{number}
 use Rattle.thermo_types.specs.declared.Temperature.{Temperature}
-use Rattle.thermo_types.specs.declared.Verdict.{Verdict}
-use Rattle.thermo_types.specs.declared.Verdict.TheVariants.{Passed, Refused}
-use Rattle.thermo_types.specs.Verdicts.{verdict_of}
 use Rattle.thermo_models.specs.declared.Tabled.{Tabled}
 use Rattle.thermo_models.specs.Model.{Activity, Pures, ActivityIs, PuresAre, ln_gamma_of, slopes_of, pressures_of, pressure_slopes_of}
 use Rattle.thermo_models.specs.Activity.{activity_in, excess_on, activity_on, excess_of, activity_of, tabled_by, Stands}
 
-module _ {v : Verdict} where
-  -- of any outcome
-  pub verdict-passed : {A : Type 0} (o : Out A) → v ≡ verdict_of o → v ≡ Passed → (a : A) × (o ≡ ok a)
-  unfolding verdict_of
-  verdict-passed (ok a) e q = (a, refl)
-  verdict-passed (no r) e q = let z : ◌≡◌ {A = ℕ} 0 1 = cc in absurd (omega arith)
+-- of any outcome
+answer-refused : {A : Type 0} (o : Out A) {r : ℕ} → no r ≡ bind o (λ _. ok (tt {0})) → o ≡ no r
+unfolding bind
+answer-refused (ok a) e = absurd (refused e)
+answer-refused (no r) e = cc
 
-  pub verdict-refused : {A : Type 0} (o : Out A) {r : ℕ} → v ≡ verdict_of o → v ≡ Refused r → o ≡ no r
-  unfolding verdict_of
-  verdict-refused (ok a) e q = let z : ◌≡◌ {A = ℕ} 0 1 = cc in absurd (omega arith)
-  verdict-refused (no r) e q = cc
+-- the activity of a composition
+module _ {lg sl : List Float} where
+  pub activity-passed : (o : Out Activity) {u : Unit {0}} → ActivityIs o (Ok u) lg sl → o ≡ ok (record { ln_gamma = lg; slopes = sl })
+  unfolding bind ln_gamma_of slopes_of
+  activity-passed (ok a) h = rw (h.values, h.slopes)
+  activity-passed (no r) h = absurd (refused (sym h.outcome))
 
-  -- the activity of a composition
-  module _ {lg sl : List Float} where
-    pub activity-passed : (o : Out Activity) → ActivityIs o v lg sl → v ≡ Passed → o ≡ ok (record { ln_gamma = lg; slopes = sl })
-    unfolding verdict_of ln_gamma_of slopes_of
-    activity-passed (ok a) h q = rw (h.values, h.slopes)
-    activity-passed (no r) h q = let z : ◌≡◌ {A = ℕ} 0 1 = cc h.verdict in absurd (omega arith)
+  pub activity-refused : (o : Out Activity) {r : Refusal} → ActivityIs o (Err r) lg sl → o ≡ no (number r)
+  activity-refused o h = answer-refused o h.outcome
 
-    pub activity-refused : (o : Out Activity) {r : ℕ} → ActivityIs o v lg sl → v ≡ Refused r → o ≡ no r
-    activity-refused o h q = verdict-refused o h.verdict q
+-- the pure liquids
+module _ {ps dps : List Float} where
+  pub pures_passed : (o : Out Pures) {u : Unit {0}} → PuresAre o (Ok u) ps dps → o ≡ ok (record { pressure = ps; slope = dps })
+  unfolding bind pressures_of pressure_slopes_of
+  pures_passed (ok a) h = rw (h.pressures, h.slopes)
+  pures_passed (no r) h = absurd (refused (sym h.outcome))
 
-  -- the pure liquids
-  module _ {ps dps : List Float} where
-    pub pures_passed : (o : Out Pures) → PuresAre o v ps dps → v ≡ Passed → o ≡ ok (record { pressure = ps; slope = dps })
-    unfolding verdict_of pressures_of pressure_slopes_of
-    pures_passed (ok a) h q = rw (h.pressures, h.slopes)
-    pures_passed (no r) h q = let z : ◌≡◌ {A = ℕ} 0 1 = cc h.verdict in absurd (omega arith)
-
-    pub pures_refused : (o : Out Pures) {r : ℕ} → PuresAre o v ps dps → v ≡ Refused r → o ≡ no r
-    pures_refused o h q = verdict-refused o h.verdict q
+  pub pures_refused : (o : Out Pures) {r : Refusal} → PuresAre o (Err r) ps dps → o ≡ no (number r)
+  pures_refused o h = answer-refused o h.outcome
 
 -- on a table that `tables` made, excess state and activity are those of the parameters
 module _ {book : List ℕ} {P : List Float} {n : ℕ} {t : Temperature} {r : Tabled} {new : List Float} where

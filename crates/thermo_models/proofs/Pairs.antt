@@ -11,11 +11,17 @@ use Rattle.floats.specs.Arithmetic.{0f}
 use Rattle.floats.specs.Fold.{fold_to}
 use Rattle.floats.specs.Vector.{at}
 use Rattle.floats.proofs.Folds.{fold_turn}
-use Rattle.records.specs.declared.Regression.{Regression}
+use Rattle.std.specs.Prelude.{Option}
+use Rattle.records.specs.declared.Interval.{Interval}
 use Rattle.thermo_models.specs.declared.Seen.{Seen}
-use Rattle.thermo_models.specs.Validity.{interval_of, noted, visited, row_seen}
+use Rattle.thermo_models.specs.Validity.{unseen, interval_of, noted, visited, row_seen}
 
-pub visited_yes : (book : List ℕ) (n : ℕ) (t : Float) (x : List Float) (i j : ℕ) (s : Seen) {r : Regression} {q : Seen}
+-- nothing seen
+pub none_seen : {a m e i : Bool} → a ≡ false → m ≡ false → e ≡ false → i ≡ false → ◌≡◌ {A = Seen} (record { active = a; missing = m; extrapolated = e; inferred = i }) unseen
+unfolding unseen
+none_seen p q r s = rw (p, q, r, s)
+
+pub visited_yes : (book : List ℕ) (n : ℕ) (t : Float) (x : List Float) (i j : ℕ) (s : Seen) {r : Option Interval} {q : Seen}
     → (not (le (at x i) 0f) && not (le (at x j) 0f)) ≡ true → r ≡ interval_of book n i j → q ≡ noted r t s → q ≡ visited book n t x i j s
 unfolding visited
 visited_yes book n t x i j s e p h = rw e (h ∙ rw p)

@@ -8,9 +8,9 @@ use lib.Ieee.{Float}
 use Rattle.floats.specs.Vector.{at, places}
 use Rattle.floats.specs.Outcome.{Out, ok, no, bind}
 use Rattle.thermo_types.specs.declared.Temperature.{Temperature}
-use Rattle.thermo_types.specs.declared.Verdict.{Verdict}
-use Rattle.thermo_types.specs.Verdicts.{verdict_of}
-use Rattle.thermo_types.specs.declared.Verdict.TheVariants.{Passed}
+use Rattle.std.specs.Prelude.{Result, Ok}
+use Rattle.outcome.specs.declared.Refusal.{Refusal}
+use Rattle.outcome.specs.Refused.{outcome_of}
 use Rattle.book.specs.declared.Model.{Model}
 use Rattle.book.specs.declared.Model.TheVariants.{Nrtl, Wilson}
 use Rattle.book.specs.Book.{model_of}
@@ -28,15 +28,15 @@ use Rattle.thermo_models.specs.Model.{ActivityIs, ln_gamma_of, slopes_of}
 use Rattle.thermo_models.specs.Activity.{activity_in, excess_by, excess_of, model_on, excess_on, table_by, alphas_by, tabled_by, Made, Stands}
 
 -- ---- the table
-pub nrtl_made : (P : List Float) (n : ℕ) (t : Temperature) {v : Verdict} {m : ℕ} {old new : List Float} → Filled P (places n) t.0 v old new → m ≡ places n
-    → Made Nrtl P (places n) t (record { model = Nrtl; alphas = v; n = m; t = t }) old new
+pub nrtl_made : (P : List Float) (n : ℕ) (t : Temperature) {k : Model} {v : Result (Unit {0}) Refusal} {m : ℕ} {old new : List Float} → k ≡ Nrtl → Filled P (places n) t.0 v old new → m ≡ places n
+    → Made Nrtl P (places n) t (record { model = k; alphas = v; n = m; t = t }) old new
 unfolding tabled_by alphas_by table_by
-nrtl_made P n t h e = record { said = rw (e, h.verdict); table = h.table }
+nrtl_made P n t q h e = record { said = rw (q, e, h.verdict); table = h.table }
 
-pub wilson_made : (P : List Float) (n : ℕ) (t : Temperature) {m : ℕ} {old new : List Float} → new ≡ lambdas_of P (places n) t.0 old → m ≡ places n
-    → Made Wilson P (places n) t (record { model = Wilson; alphas = Passed; n = m; t = t }) old new
+pub wilson_made : (P : List Float) (n : ℕ) (t : Temperature) {k : Model} {m : ℕ} {old new : List Float} → k ≡ Wilson → new ≡ lambdas_of P (places n) t.0 old → m ≡ places n
+    → Made Wilson P (places n) t (record { model = k; alphas = Ok tt; n = m; t = t }) old new
 unfolding tabled_by alphas_by table_by
-wilson_made P n t h e = record { said = rw e; table = h }
+wilson_made P n t q h e = record { said = rw (q, e); table = h }
 
 agree : (k : Model) (P : List Float) (n : ℕ) (t : Temperature) (old : List Float) → length old ≡ 512 → (x : List Float)
     → excess_on (table_by k P (places n) t.0 old) (tabled_by k P (places n) t) x ≡ excess_by k P (places n) t.0 x
@@ -55,18 +55,9 @@ stands M book P n t {k} {r} {old} {new} p q h =
       agrees = λ len x. rw (e, h.said, h.table) (agree M P n t old len x);
     }
 
--- ---- the excess state
-pub nrtl_excess : (m : List Float) (s : Tabled) (x : List Float) {e : Energies} {lg sl : List Float} → s.model ≡ Nrtl
-    → Gives (nrtl_on m s.alphas (places s.n) s.t.0 (at x)) e lg sl → Gives (excess_on m s x) e lg sl
-unfolding excess_on model_on
-nrtl_excess m s x q g = rw q g
-
-pub wilson_excess : (m : List Float) (s : Tabled) (x : List Float) {e : Energies} {lg sl : List Float} → s.model ≡ Wilson
-    → Gives (wilson_on m (places s.n) s.t.0 (at x)) e lg sl → Gives (excess_on m s x) e lg sl
-unfolding excess_on model_on
-wilson_excess m s x q g = rw q g
-
-pub activity-is : (o : Out Excess) {e : Energies} {lg sl : List Float} → Gives o e lg sl → ActivityIs (activity_in o) e.verdict lg sl
-unfolding activity_in bind verdict_of energies_of excess_ln_gammas excess_slopes ln_gamma_of slopes_of
-activity-is (ok s) g = record { verdict = rw g.energies; values = g.values; slopes = g.slopes }
-activity-is (no r) g = record { verdict = rw g.energies; values = g.values; slopes = g.slopes }
+-- ---- the activity of an excess state
+pub activity-is : (o : Out Excess) {e : Result Energies Refusal} {r : Result (Unit {0}) Refusal} {lg sl : List Float} → Gives o e lg sl
+    → outcome_of r ≡ bind (outcome_of e) (λ _. ok tt) → ActivityIs (activity_in o) r lg sl
+unfolding activity_in bind energies_of excess_ln_gammas excess_slopes ln_gamma_of slopes_of
+activity-is (ok s) g q = record { outcome = q ∙ rw g.energies; values = g.values; slopes = g.slopes }
+activity-is (no r) g q = record { outcome = q ∙ rw g.energies; values = g.values; slopes = g.slopes }

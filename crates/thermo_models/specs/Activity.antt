@@ -1,10 +1,9 @@
 -- Excess state and activity as the solvers take them: from the parameters, or from a table and what it stands for. Assumes nothing.
-use Rattle.std.specs.Prelude.{ℕ, ◌≡◌, List, length, Float}
+use Rattle.std.specs.Prelude.{ℕ, ◌≡◌, List, length, Float, Result, Ok}
 use Rattle.floats.specs.Vector.{at, places}
 use Rattle.floats.specs.Outcome.{Out, ok, bind}
 use Rattle.thermo_types.specs.declared.Temperature.{Temperature}
-use Rattle.thermo_types.specs.declared.Verdict.{Verdict}
-use Rattle.thermo_types.specs.declared.Verdict.TheVariants.{Passed}
+use Rattle.outcome.specs.declared.Refusal.{Refusal}
 use Rattle.book.specs.declared.Model.{Model}
 use Rattle.book.specs.declared.Model.TheVariants.{Nrtl, Wilson}
 use Rattle.book.specs.Book.{model_of}
@@ -35,7 +34,7 @@ unfoldable pub activity_of : List ℕ → List Float → ℕ → Float → List 
 activity_of book P n t x = activity_in (excess_of book P n t x)
 
 -- ---- of a table and what it stands for
-unfoldable pub model_on : Model → List Float → Verdict → ℕ → Float → (ℕ → Float) → Out Excess
+unfoldable pub model_on : Model → List Float → Result (Unit {0}) Refusal → ℕ → Float → (ℕ → Float) → Out Excess
 model_on Nrtl table alphas n t x = nrtl_on table alphas n t x
 model_on Wilson table alphas n t x = wilson_on table n t x
 
@@ -50,9 +49,9 @@ unfoldable pub table_by : Model → List Float → ℕ → Float → List Float 
 table_by Nrtl P n t old = table_of P n t old
 table_by Wilson P n t old = lambdas_of P n t old
 
-unfoldable pub alphas_by : Model → List Float → ℕ → Float → Verdict
+unfoldable pub alphas_by : Model → List Float → ℕ → Float → Result (Unit {0}) Refusal
 alphas_by Nrtl P n t = table_verdict P n t
-alphas_by Wilson P n t = Passed
+alphas_by Wilson P n t = Ok tt
 
 unfoldable pub tabled_by : Model → List Float → ℕ → Temperature → Tabled
 tabled_by m P n t = record { model = m; alphas = alphas_by m P n t.0; n = n; t = t }

@@ -1,12 +1,11 @@
 -- Whether T lies in the regression intervals of the pairs present (nrtl.rs, `validity`). Assumes nothing.
-use Rattle.std.specs.Prelude.{ℕ, ◌+◌, ◌-◌, true, false, not, cond, ◌&&◌, ◌||◌, List, Float}
+use Rattle.std.specs.Prelude.{ℕ, ◌+◌, ◌-◌, true, false, not, cond, ◌&&◌, ◌||◌, List, Float, Option, None, Some}
 use Rattle.std.specs.Float.Ieee.{le}
 use Rattle.floats.specs.Arithmetic.{0f}
 use Rattle.floats.specs.Fold.{fold_to}
 use Rattle.floats.specs.Vector.{at}
 use Rattle.book.specs.Places.{words, pair_place}
-use Rattle.records.specs.declared.Regression.{Regression}
-use Rattle.records.specs.declared.Regression.TheVariants.{None, Interval}
+use Rattle.records.specs.declared.Interval.{Interval}
 use Rattle.records.specs.Records.{regression_of}
 use Rattle.liquid.specs.Vapor.{in_range}
 use Rattle.thermo_models.specs.declared.Seen.{Seen}
@@ -15,20 +14,20 @@ use Rattle.thermo_models.specs.declared.ValidityStatus.{ValidityStatus}
 use Rattle.thermo_models.specs.declared.ValidityStatus.TheVariants.{Unassessed, WithinDeclaredDomain, Extrapolated}
 
 -- the interval of the pair (i, j), i < j, of a book of n solvents
-abbrev pub interval_of : List ℕ → ℕ → ℕ → ℕ → Regression
+abbrev pub interval_of : List ℕ → ℕ → ℕ → ℕ → Option Interval
 interval_of book n i j = regression_of (words book (pair_place n i j))
 
 unfoldable pub unseen : Seen
 unseen = record { active = false; missing = false; extrapolated = false; inferred = false }
 
 -- a pair present is noted: without an interval it is missing; with one, T may lie outside it, and it may be inferred
-unfoldable pub noted : Regression → Float → Seen → Seen
+unfoldable pub noted : Option Interval → Float → Seen → Seen
 noted None t s = record { active = true; missing = true; extrapolated = s.extrapolated; inferred = s.inferred }
-noted (Interval lo hi f) t s = record {
+noted (Some r) t s = record {
   active = true;
   missing = s.missing;
-  extrapolated = s.extrapolated || not (in_range lo hi t);
-  inferred = s.inferred || f;
+  extrapolated = s.extrapolated || not (in_range r.low r.high t);
+  inferred = s.inferred || r.inferred;
 }
 
 -- the pair (i, j) counts where neither fraction is ≤ 0

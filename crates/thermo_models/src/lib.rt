@@ -9,22 +9,23 @@ ghost use Rattle.floats.specs.Small.{is_finite};
 ghost use Rattle.floats.specs.Fold.{all_to};
 ghost use Rattle.floats.specs.Vector.{at, vec, places};
 ghost use Rattle.numerics.specs.Numerics.{exp_of};
-ghost use Rattle.book.specs.declared.Model.TheVariants.{Nrtl, Wilson};
 ghost use Rattle.records.specs.Offered.{offered_place, with_pair};
 ghost use Rattle.liquid.specs.Vapor.{vapor_of};
 ghost use Rattle.excess.specs.Answers.{Gives};
 ghost use Rattle.thermo_models.specs.Model.{ActivityIs, PuresAre, pressure_in_domain};
 ghost use Rattle.thermo_models.specs.Domain.{vapor_record, solvent_covers, temperature_in_domain, pures_to, pure_liquids_of};
-ghost use Rattle.thermo_models.specs.Activity.{excess_on, activity_on, Made, Stands};
+ghost use Rattle.thermo_models.specs.Activity.{excess_on, activity_on, Stands};
 ghost use Rattle.thermo_models.specs.Validity.{noted, visited, row_seen, all_seen, status_of, validity_of};
 
 use book::Model;
 use excess::Energies;
-use records::Regression;
-use thermo_types::{HIGHEST_KELVIN, LOWEST_KELVIN, Temperature, Verdict};
+use outcome::Refusal;
+use records::Interval;
+use thermo_types::{HIGHEST_KELVIN, LOWEST_KELVIN, Temperature};
 
 // ---- the domain of temperatures and pressures
 
+#[tactic(auto, unfolding(crate::specs::Domain::solvent_covers))]
 fn solvent_covers(book: &[u8], t: f64, i: usize) -> bool
     ensures { result ≡ solvent_covers book.now t i }
 {
@@ -36,17 +37,11 @@ fn solvent_covers(book: &[u8], t: f64, i: usize) -> bool
 fn all_cover(book: &[u8], t: f64, n: usize) -> bool
     ensures { result ≡ all_to (solvent_covers book.now t) n }
 {
-    let mut i = 0;
-    while i < n {
-        if !solvent_covers(book, t, i) {
-            return false;
-        }
-        i += 1;
-    }
-    true
+    (0..n).all(|i| solvent_covers(book, t, i))
 }
 
 // The model's temperatures and the two ranges of every solvent, absent ones too.
+#[tactic(auto, unfolding(crate::specs::Domain::temperature_in_domain))]
 pub fn check_temperature(book: &[u8], n: usize, t: Temperature) -> bool
     ensures { result ≡ temperature_in_domain book.now (places n) t.0 }
 {
@@ -59,6 +54,7 @@ const LOWEST_PASCAL: f64 = 100.0;
 
 const HIGHEST_PASCAL: f64 = 500000.0;
 
+#[tactic(auto, unfolding(crate::specs::Model::pressure_in_domain))]
 pub fn check_pressure(p: f64) -> bool
     ensures { result ≡ pressure_in_domain p }
 {
@@ -78,8 +74,8 @@ fn fill_logarithms(
 )
     requires { n ≤ 8 }
     ensures ls_after { ls.new ≡ vec (λ i. (vapor_of (vapor_record book.now i) t).ln_pressure) n }
-    ensures dps_after { dps.new ≡ vec (λ i. (vapor_of (vapor_record book.now i) t).slope) n }
-    ensures cs_after { cs.new ≡ vec (λ i. (vapor_of (vapor_record book.now i) t).curvature) n }
+    ensures dps_after { dps.new ≡ vec (λ i. (vapor_of (vapor_record book.now i) t).d_ln_pressure_dt) n }
+    ensures cs_after { cs.new ≡ vec (λ i. (vapor_of (vapor_record book.now i) t).d2_ln_pressure_dt2) n }
 {
     *ls = [0.0; 8];
     *dps = [0.0; 8];
@@ -99,9 +95,7 @@ fn fill_pressures(ls: &[f64; 8], n: usize, ps: &mut [f64; 8])
 {
     *ps = [0.0; 8];
     for i in 0..n / 2 {
-        let p = numerics::exp_two(ls[2 * i], ls[2 * i + 1]);
-        ps[2 * i] = p.0;
-        ps[2 * i + 1] = p.1;
+        (ps[2 * i], ps[2 * i + 1]) = numerics::exp_two(ls[2 * i], ls[2 * i + 1]);
     }
     if n % 2 == 1 {
         ps[n - 1] = numerics::exp(ls[n - 1]);
@@ -112,21 +106,17 @@ fn all_representable(ps: &[f64; 8], ls: &[f64; 8], dps: &[f64; 8], cs: &[f64; 8]
     requires { n ≤ 8 }
     ensures { result ≡ all_to (λ i. is_finite (at ps.now i) && is_finite (at ls.now i) && is_finite (at dps.now i) && is_finite (at cs.now i) && not (le (at ps.now i) 0f)) n }
 {
-    let mut ok = true;
-    for i in 0..n {
-        ok = ok & liquid::is_representable(ps[i], ls[i], dps[i], cs[i]);
-    }
-    ok
+    (0..n).all(|i| liquid::is_representable(ps[i], ls[i], dps[i], cs[i]))
 }
 
-// In the ranges of all solvents: 25 where a vapor pressure isn't representable.
+// In the ranges of all solvents: refused where a vapor pressure isn't representable.
 fn fill_pures(
     book: &[u8],
     n: usize,
     t: Temperature,
     ps: &mut [f64; 8],
     dps: &mut [f64; 8],
-) -> Verdict
+) -> Result<(), Refusal>
     requires { (n ≤ 8) × (all_to (solvent_covers book.now t.0) n ≡ true) }
     ensures { PuresAre (pures_to book.now t.0 n) result ps.new dps.new }
 {
@@ -135,67 +125,48 @@ fn fill_pures(
     fill_logarithms(book, n, t.value(), &mut ls, dps, &mut cs);
     fill_pressures(&ls, n, ps);
     if !all_representable(ps, &ls, dps, &cs, n) {
-        *ps = [0.0; 8];
-        *dps = [0.0; 8];
-        return Verdict::Refused(25);
+        excess::clear(ps, dps);
+        return Err(Refusal::ResultNotFinite);
     }
-    Verdict::Passed
+    Ok(())
 }
 
-// p_sat (Pa) and its logarithmic slope (1/K) of each of the book's first n solvents at t: 22, then 25.
+// p_sat (Pa) and its logarithmic slope (1/K) of each of the book's first n solvents at t; zeros with a refusal.
 pub fn pure_liquids(
     book: &[u8],
     n: usize,
     t: Temperature,
     ps: &mut [f64; 8],
     dps: &mut [f64; 8],
-) -> Verdict
+) -> Result<(), Refusal>
     ensures { PuresAre (pure_liquids_of book.now (places n) t.0) result ps.new dps.new }
 {
     if !check_temperature(book, n, t) {
-        *ps = [0.0; 8];
-        *dps = [0.0; 8];
-        return Verdict::Refused(22);
+        excess::clear(ps, dps);
+        return Err(Refusal::TemperatureOutside);
     }
     fill_pures(book, floats::places(n), t, ps, dps)
 }
 
 // ---- excess state and activity
 
+// ln γ_i of a composition, and its slope by T at fixed x, 1/K.
+#[derive(Clone, Copy)]
+pub struct ActivityCoefficients {
+    pub ln_gamma: [f64; 8],
+    pub slopes: [f64; 8],
+}
+
 // What a table stands for: the model, whether its parameters passed, n solvents, T.
 #[derive(Clone, Copy)]
 pub struct Tabled {
     pub model: Model,
-    pub alphas: Verdict,
+    pub alphas: Result<(), Refusal>,
     pub n: usize,
     pub t: Temperature,
 }
 
-fn nrtl_table(parameters: &[f64; 384], n: usize, t: Temperature, table: &mut [f64; 512]) -> Tabled
-    ensures { Made Nrtl parameters.now (places n) t result table.old table.new }
-{
-    let alphas = nrtl_tables::tables(parameters, n, t, table);
-    Tabled {
-        model: Model::Nrtl,
-        alphas: alphas,
-        n: floats::places(n),
-        t: t,
-    }
-}
-
-fn wilson_table(parameters: &[f64; 384], n: usize, t: Temperature, table: &mut [f64; 512]) -> Tabled
-    ensures { Made Wilson parameters.now (places n) t result table.old table.new }
-{
-    wilson_tables::tables(parameters, n, t, table);
-    Tabled {
-        model: Model::Wilson,
-        alphas: Verdict::Passed,
-        n: floats::places(n),
-        t: t,
-    }
-}
-
-// The tables of the parameters at t by the book's model, worked out once per temperature; "24" is carried in `alphas`.
+// The tables of the parameters at t by the book's model, worked out once per temperature; what NRTL says of its α is carried in `alphas`.
 pub fn tables(
     book: &[u8],
     parameters: &[f64; 384],
@@ -206,26 +177,34 @@ pub fn tables(
     ensures { Stands book.now parameters.now (places n) t result table.old table.new }
 {
     let model = book::model_of(book);
-    match model {
-        Model::Nrtl => nrtl_table(parameters, n, t, table),
-        Model::Wilson => wilson_table(parameters, n, t, table),
+    let alphas = match model {
+        Model::Nrtl => nrtl_tables::tables(parameters, n, t, table),
+        Model::Wilson => {
+            wilson_tables::tables(parameters, n, t, table);
+            Ok(())
+        }
+    };
+    Tabled {
+        model,
+        alphas,
+        n: floats::places(n),
+        t,
     }
 }
 
-// ln γ, slopes and energies of x, from a table and what it stands for: 13, 15, 16, 18, 24, 25.
+// ln γ, slopes and energies of x, from a table and what it stands for.
+#[tactic(auto, unfolding(crate::specs::Activity::excess_on, crate::specs::Activity::model_on))]
 pub fn excess(
     table: &[f64; 512],
     s: Tabled,
     x: &[f64; 8],
     lg: &mut [f64; 8],
     sl: &mut [f64; 8],
-) -> Energies
+) -> Result<Energies, Refusal>
     ensures { Gives (excess_on table.now s x.now) result lg.new sl.new }
 {
-    let model = s.model;
-    let alphas = s.alphas;
-    match model {
-        Model::Nrtl => nrtl::excess(table, alphas, s.n, s.t, x, lg, sl),
+    match s.model {
+        Model::Nrtl => nrtl::excess(table, s.alphas, s.n, s.t, x, lg, sl),
         Model::Wilson => wilson::excess(table, s.n, s.t, x, lg, sl),
     }
 }
@@ -237,10 +216,11 @@ pub fn activity(
     x: &[f64; 8],
     lg: &mut [f64; 8],
     sl: &mut [f64; 8],
-) -> Verdict
+) -> Result<(), Refusal>
     ensures { ActivityIs (activity_on table.now s x.now) result lg.new sl.new }
 {
-    excess(table, s, x, lg, sl).verdict
+    excess(table, s, x, lg, sl)?;
+    Ok(())
 }
 
 // ---- validity
@@ -260,7 +240,7 @@ pub struct Assessment {
 }
 
 // What the pairs passed so far have shown.
-#[derive(Clone, Copy)]
+#[derive(Clone, Copy, Default)]
 struct Seen {
     active: bool,
     missing: bool,
@@ -268,21 +248,21 @@ struct Seen {
     inferred: bool,
 }
 
-fn note(r: Regression, t: f64, s: Seen) -> Seen
-    ensures { result ≡ noted r t s }
+#[tactic(auto, unfolding(crate::specs::Validity::noted))]
+fn note(interval: Option<Interval>, t: f64, s: Seen) -> Seen
+    ensures { result ≡ noted interval t s }
 {
-    match r {
-        Regression::None => Seen {
+    match interval {
+        None => Seen {
             active: true,
             missing: true,
-            extrapolated: s.extrapolated,
-            inferred: s.inferred,
+            ..s
         },
-        Regression::Interval(lo, hi, inferred) => Seen {
+        Some(r) => Seen {
             active: true,
-            missing: s.missing,
-            extrapolated: s.extrapolated | !liquid::in_range(lo, hi, t),
-            inferred: s.inferred | inferred,
+            extrapolated: s.extrapolated | !liquid::in_range(r.low, r.high, t),
+            inferred: s.inferred | r.inferred,
+            ..s
         },
     }
 }
@@ -303,8 +283,7 @@ fn visit(
 {
     if !(x[i] <= 0.0) & !(x[j] <= 0.0) {
         let pair = records::pair_record(book, offered, place, n, i, j);
-        let interval = pair.regression;
-        note(interval, t, s)
+        note(pair.regression, t, s)
     } else {
         s
     }
@@ -318,12 +297,11 @@ fn see_row(
     t: f64,
     x: &[f64; 8],
     i: usize,
-    seen: Seen,
+    mut s: Seen,
 ) -> Seen
     requires { (n ≤ 8) × (i < n) × (place ≡ offered_place n book.now offered.now) }
-    ensures { result ≡ row_seen (with_pair n book.now offered.now) n t x.now i n seen }
+    ensures { result ≡ row_seen (with_pair n book.now offered.now) n t x.now i n s }
 {
-    let mut s = seen;
     for j in i + 1..n {
         s = visit(book, offered, place, n, t, x, i, j, s);
     }
@@ -335,38 +313,34 @@ fn see_all(book: &[u8], offered: &[u8], n: usize, t: f64, x: &[f64; 8]) -> Seen
     ensures { result ≡ all_seen (with_pair n book.now offered.now) n t x.now }
 {
     let place = records::offered_place(book, offered, n);
-    let mut s = Seen {
-        active: false,
-        missing: false,
-        extrapolated: false,
-        inferred: false,
-    };
+    let mut s = Seen::default();
     for i in 0..n {
         s = see_row(book, offered, place, n, t, x, i, s);
     }
     s
 }
 
+#[tactic(auto, unfolding(crate::specs::Validity::status_of))]
 fn status_of(s: Seen) -> ValidityStatus
     ensures { result ≡ status_of s }
 {
     if s.extrapolated {
-        return ValidityStatus::Extrapolated;
+        ValidityStatus::Extrapolated
+    } else if s.missing | !s.active {
+        ValidityStatus::Unassessed
+    } else {
+        ValidityStatus::WithinDeclaredDomain
     }
-    if s.missing | !s.active {
-        return ValidityStatus::Unassessed;
-    }
-    ValidityStatus::WithinDeclaredDomain
 }
 
 // Over pairs with both fractions positive; a pair offered stands in the place of the book's own.
+#[tactic(auto, unfolding(crate::specs::Validity::validity_of))]
 pub fn validity(book: &[u8], offered: &[u8], n: usize, t: Temperature, x: &[f64; 8]) -> Assessment
     ensures { result ≡ validity_of (with_pair (places n) book.now offered.now) (places n) t.0 x.now }
 {
     let s = see_all(book, offered, floats::places(n), t.value(), x);
-    let inferred = s.inferred;
     Assessment {
         status: status_of(s),
-        inferred: inferred,
+        inferred: s.inferred,
     }
 }

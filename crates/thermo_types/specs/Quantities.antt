@@ -3,13 +3,9 @@ use Rattle.std.specs.Prelude.{ℕ, Float}
 use Rattle.std.specs.Float.Ieee.{lt}
 use Rattle.floats.specs.Arithmetic.{#, 0f}
 use Rattle.floats.specs.Small.{is_finite}
-use Rattle.floats.specs.Outcome.{Out, ok, no, need}
+use Rattle.floats.specs.Outcome.{Out, ok, need, bind}
 use Rattle.thermo_types.specs.declared.Temperature.{Temperature}
 use Rattle.thermo_types.specs.declared.Pressure.{Pressure}
-use Rattle.thermo_types.specs.declared.NewTemperature.{NewTemperature}
-use Rattle.thermo_types.specs.declared.NewPressure.{NewPressure}
-use Rattle.thermo_types.specs.declared.NewTemperature.TheVariants as temperature
-use Rattle.thermo_types.specs.declared.NewPressure.TheVariants as pressure
 
 -- a finite positive number, or the refusal r
 unfoldable pub positive_of : Float → ℕ → Out Float
@@ -30,11 +26,10 @@ lowest_kelvin = # 0x4071128f5c28f5c3
 abbrev pub highest_kelvin : Float
 highest_kelvin = # 0x407c200000000000
 
--- as the code answers
-unfoldable pub new_temperature : Out Float → NewTemperature
-new_temperature (ok v) = temperature.Valid (kelvin v)
-new_temperature (no r) = temperature.No r
+-- `Temperature::new`
+abbrev pub temperature_of : Float → Out Temperature
+temperature_of v = bind (positive_of v 13) (λ x. ok (kelvin x))
 
-unfoldable pub new_pressure : Out Float → NewPressure
-new_pressure (ok v) = pressure.Valid (pascal v)
-new_pressure (no r) = pressure.No r
+-- `Pressure::new`
+abbrev pub pressure_of : Float → Out Pressure
+pressure_of v = bind (positive_of v 14) (λ x. ok (pascal x))

@@ -1,4 +1,3 @@
 -- What the contracts of tp_flash cite. Assumes nothing.
 pub mod Split
-pub mod Answers
 pub mod Tp

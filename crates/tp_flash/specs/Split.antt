@@ -11,15 +11,15 @@ use Rattle.numerics.specs.Numerics.{exp_of, ln_of}
 use Rattle.thermo_types.specs.Composition.{normalize_of}
 use Rattle.thermo_models.specs.Model.{Activity}
 use Rattle.rachford_rice.specs.Rachford.{negative}
+use Rattle.rachford_rice.specs.declared.RachfordRiceOutcome.{RachfordRiceOutcome}
+use Rattle.rachford_rice.specs.declared.RachfordRiceOutcome.TheVariants.{LiquidOnly, VaporOnly, TwoPhase}
 use Rattle.saturation.specs.Saturation.{gap_at}
+use Rattle.tp_flash.specs.declared.SplitPoint.{SplitPoint}
+use Rattle.tp_flash.specs.declared.SplitTurn.{SplitTurn}
 
--- a converged split: vapor fraction, liquid, vapor, largest gap of ln fugacities, iterations
-pub record Split : Type 0 where
-  pub vapor_fraction : Float
-  pub liquid : List Float
-  pub vapor : List Float
-  pub residual : Float
-  pub iterations : ℕ
+-- the code's struct: a converged split, its vapor fraction, liquid, vapor, largest gap of ln fugacities, iterations
+abbrev pub Split : Type 0
+Split = SplitPoint
 
 -- RACHFORD_RICE_MAX_ITERATIONS, whatever the options say
 abbrev pub rice_limit : ℕ
@@ -42,10 +42,15 @@ split_gap z lg ps p x y n = fold_to (active (at z) (λ i r. max_of r (gap_at lg 
 unfoldable pub balance_of : Float → List Float → List Float → List Float → ℕ → Float
 balance_of β x y z n = fold_to (λ i r. max_of r (abs_of (β ⊗ at y i ⊕ (1f ⊖ β) ⊗ at x i ⊖ at z i))) 0f n
 
--- a turn's split, and the activity at its liquid
-pub record Turn : Type 0 where
-  pub split : Split
-  pub activity : Activity
+-- the vapor fraction of an outcome; what the negative flash accepts has two phases
+abbrev pub fraction_in : RachfordRiceOutcome → Float
+fraction_in LiquidOnly = 0f
+fraction_in VaporOnly = 1f
+fraction_in (TwoPhase β residual count) = β
+
+-- the code's struct: a turn's split, and the activity at its liquid
+abbrev pub Turn : Type 0
+Turn = SplitTurn
 
 module _ (E : List Float → Out Activity) (ps : List Float) (n : ℕ) (p : Float) (z : List Float) where
   -- the phases x and y with their vapor fraction, and the activity at the liquid x (25 where the gap isn't finite)

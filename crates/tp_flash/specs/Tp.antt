@@ -7,8 +7,6 @@ use Rattle.floats.specs.Small.{min_of, abs_of}
 use Rattle.floats.specs.Vector.{at, zeros8}
 use Rattle.floats.specs.Outcome.{Out, ok, no, bind, need, choose}
 use Rattle.thermo_types.specs.Composition.{with_fractions}
-use Rattle.thermo_types.specs.declared.Verdict.{Verdict}
-use Rattle.thermo_types.specs.declared.Verdict.TheVariants.{Passed, Refused}
 use Rattle.thermo_types.specs.declared.ActivityOptions.{ActivityOptions}
 use Rattle.thermo_models.specs.Model.{Activity, Activities, Liquids, pressure_in_domain}
 use Rattle.saturation.specs.Saturation.{bubble_at, dew_at}
@@ -29,20 +27,9 @@ at_boundary = 1 + 2
 abbrev pub finite_trials : ℕ
 finite_trials = 1 + 4
 
--- pressures in Pa; a single phase has the feed's composition and zeros for the other's; `trials` are of the liquid where there is one
-pub record Flash : Type 0 where
-  pub phases : FlashPhases
-  pub bubble : Float
-  pub dew : Float
-  pub iterations : ℕ
-  pub residual : Float
-  pub balance : Float
-  pub vapor_fraction : Float
-  pub notes : ℕ
-  pub liquid : List Float
-  pub vapor : List Float
-  pub tested : Bool
-  pub trials : Trials
+-- the code's struct: pressures in Pa; a single phase has the feed's composition and zeros for the other's; `trials` are of the liquid where there is one
+abbrev pub Flash : Type 0
+Flash = ActivityTpFlash
 
 -- a vapor fraction inside (0, 1)
 unfoldable pub inside : Float → Bool
@@ -180,12 +167,9 @@ tp_flash E L D n o t z p =
     (bind (L t) (λ pure.
     phases_of (E t) n o z p pure.pressure)))
 
--- ---- as the code answers
-
--- neither compositions nor trials
-abbrev pub phases_with : Verdict → FlashPhases → Saturated → Float → ℕ → ActivityTpFlash
-phases_with v phases saturated β notes = record {
-  verdict = v;
+-- ---- as the code begins one phase: without its composition and its trials
+abbrev pub single_phase : FlashPhases → Saturated → Float → ℕ → Flash
+single_phase phases saturated β notes = record {
   phases = phases;
   bubble = saturated.bubble;
   dew = saturated.dew;
@@ -197,26 +181,5 @@ phases_with v phases saturated β notes = record {
   liquid = zeros8;
   vapor = zeros8;
   tested = false;
-  count = 0;
-  trials = no_trials.trials;
+  trials = no_trials;
 }
-
--- a refusal is given zeros
-unfoldable pub flash_answer : Out Flash → ActivityTpFlash
-flash_answer (ok f) = record {
-  verdict = Passed;
-  phases = f.phases;
-  bubble = f.bubble;
-  dew = f.dew;
-  iterations = f.iterations;
-  residual = f.residual;
-  balance = f.balance;
-  vapor_fraction = f.vapor_fraction;
-  notes = f.notes;
-  liquid = f.liquid;
-  vapor = f.vapor;
-  tested = f.tested;
-  count = f.trials.count;
-  trials = f.trials.trials;
-}
-flash_answer (no r) = phases_with (Refused r) Liquid (record { bubble = 0f; dew = 0f }) 0f 0

@@ -3,19 +3,21 @@
 #![tactic(auto)]
 
 ghost use Rattle.std.specs.Prelude.{◌≡◌, ◌≤◌, ◌<◌, ◌+◌, ◌*◌};
-ghost use Rattle.floats.specs.Vector.{at, places};
+ghost use Rattle.floats.specs.Vector.{at, fill_from, places, zeros8};
 ghost use Rattle.floats.specs.Arithmetic.{1f};
 ghost use Rattle.jet.specs.Jets.{const_j, div_j, scale_j, sub_j};
+ghost use Rattle.jet.specs.declared.Jet.{Jet};
 ghost use Rattle.jet.specs.Planes.{jet_at, two_at, jets, twos};
 ghost use Rattle.excess.specs.State.{state_from};
 ghost use Rattle.excess.specs.Answers.{Gives};
-ghost use Rattle.excess.specs.Steps.{two_of, s_in, r_in, SumTurn, SumsTo, GammasTo};
+ghost use Rattle.excess.specs.Steps.{two_of, s_in, r_in, SumTurn, SumsTo, jet_of, Side, GammasTo};
 ghost use Rattle.wilson.specs.Sums.{row_s, quotients, wilson_from};
 ghost use Rattle.wilson.specs.On.{s_on, ln_s_on, ln_gamma_on, reduced_on, wilson_on};
 
 use excess::Energies;
 use jet::Jet;
-use thermo_types::{Temperature, Verdict};
+use outcome::Refusal;
+use thermo_types::Temperature;
 
 // ---- the sums S and ln S
 
@@ -100,35 +102,24 @@ fn quotient_at(table: &[f64; 512], sums: &[f64; 32], x: &[f64; 8], k: usize, i: 
         .div(two_of(sums, k * 4))
 }
 
-fn quotients_of(table: &[f64; 512], sums: &[f64; 32], x: &[f64; 8], n: usize, i: usize) -> Jet
-    requires { (n ≤ 8) × (i < 8) }
-    ensures { result ≡ quotients (twos table.now 0) (s_in sums.now) (at x.now) n i }
+// Of W solvents from i on, side by side: their sums don't depend on each other, so the machine's lanes share the loop.
+fn quotients_from<const W: usize>(
+    table: &[f64; 512],
+    sums: &[f64; 32],
+    x: &[f64; 8],
+    n: usize,
+    i: usize,
+) -> [Jet; W]
+    requires { (n ≤ 8) × (i + W ≤ 8) }
+    ensures { Side (quotients (twos table.now 0) (s_in sums.now) (at x.now) n) i W result }
 {
-    let mut t = Jet::constant(0.0);
+    let mut q = [Jet::constant(0.0); W];
     for k in 0..n {
-        t = t.add(quotient_at(table, sums, x, k, i));
+        for w in 0..W {
+            q[w] = q[w].add(quotient_at(table, sums, x, k, i + w));
+        }
     }
-    t
-}
-
-// Two solvents side by side: their sums don't depend on each other, so the machine's lanes share the loop.
-#[derive(Clone, Copy)]
-struct Pair {
-    a: Jet,
-    b: Jet,
-}
-
-fn quotient_pair(table: &[f64; 512], sums: &[f64; 32], x: &[f64; 8], n: usize, i: usize) -> Pair
-    requires { (n ≤ 8) × (i < 7) }
-    ensures { (result.a ≡ quotients (twos table.now 0) (s_in sums.now) (at x.now) n i) × (result.b ≡ quotients (twos table.now 0) (s_in sums.now) (at x.now) n (i + 1)) }
-{
-    let mut p = Jet::constant(0.0);
-    let mut q = Jet::constant(0.0);
-    for k in 0..n {
-        p = p.add(quotient_at(table, sums, x, k, i));
-        q = q.add(quotient_at(table, sums, x, k, i + 1));
-    }
-    Pair { a: p, b: q }
+    q
 }
 
 // 1 − ln S_i − q.
@@ -139,59 +130,61 @@ fn ln_gamma_from(sums: &[f64; 32], q: Jet, i: usize) -> Jet
     Jet::constant(1.0).sub(two_of(sums, i * 4 + 2)).sub(q)
 }
 
-fn ln_gamma_at(table: &[f64; 512], sums: &[f64; 32], x: &[f64; 8], n: usize, i: usize) -> Jet
-    requires { (n ≤ 8) × (i < 8) }
-    ensures { result ≡ wilson_from (twos table.now 0) (s_in sums.now) (r_in sums.now) (at x.now) n i }
+fn lns_from<const W: usize>(
+    table: &[f64; 512],
+    sums: &[f64; 32],
+    x: &[f64; 8],
+    n: usize,
+    i: usize,
+) -> [Jet; W]
+    requires { (n ≤ 8) × (i + W ≤ 8) }
+    ensures { Side (wilson_from (twos table.now 0) (s_in sums.now) (r_in sums.now) (at x.now) n) i W result }
 {
-    ln_gamma_from(sums, quotients_of(table, sums, x, n, i), i)
+    let mut l = quotients_from::<W>(table, sums, x, n, i);
+    for w in 0..W {
+        l[w] = ln_gamma_from(sums, l[w], i + w);
+    }
+    l
 }
 
-fn ln_gamma_pair(table: &[f64; 512], sums: &[f64; 32], x: &[f64; 8], n: usize, i: usize) -> Pair
-    requires { (n ≤ 8) × (i < 7) }
-    ensures { (result.a ≡ wilson_from (twos table.now 0) (s_in sums.now) (r_in sums.now) (at x.now) n i) × (result.b ≡ wilson_from (twos table.now 0) (s_in sums.now) (r_in sums.now) (at x.now) n (i + 1)) }
+// One array after the other: that way neighbors of one are one store.
+fn keep_lns<const W: usize>(l: [Jet; W], i: usize, ln_gamma: &mut [f64; 8], slopes: &mut [f64; 8])
+    requires { i + W ≤ 8 }
+    ensures values { ln_gamma.new ≡ fill_from (λ w. (jet_of l.entry w).v) i W ln_gamma.old }
+    ensures slopes { slopes.new ≡ fill_from (λ w. (jet_of l.entry w).d) i W slopes.old }
 {
-    let q = quotient_pair(table, sums, x, n, i);
-    Pair {
-        a: ln_gamma_from(sums, q.a, i),
-        b: ln_gamma_from(sums, q.b, i + 1),
+    for w in 0..W {
+        ln_gamma[i + w] = l[w].v;
+    }
+    for w in 0..W {
+        slopes[i + w] = l[w].d;
     }
 }
 
-fn ln_gammas(
+fn fill_lns(
     table: &[f64; 512],
     sums: &[f64; 32],
     x: &[f64; 8],
     n: usize,
     ln_gamma: &mut [f64; 8],
     slopes: &mut [f64; 8],
-) -> bool
+)
     requires { n ≤ 8 }
-    ensures { GammasTo (wilson_from (twos table.now 0) (s_in sums.now) (r_in sums.now) (at x.now) n)
-        n result ln_gamma.old slopes.old ln_gamma.new slopes.new }
+    ensures { GammasTo (wilson_from (twos table.now 0) (s_in sums.now) (r_in sums.now) (at x.now) n) n ln_gamma.old slopes.old ln_gamma.new slopes.new }
 {
-    let mut finite = true;
     for h in 0..n / 2 {
-        let l = ln_gamma_pair(table, sums, x, n, 2 * h);
-        let p = l.a;
-        let q = l.b;
-        ln_gamma[2 * h] = p.v;
-        ln_gamma[2 * h + 1] = q.v;
-        slopes[2 * h] = p.d;
-        slopes[2 * h + 1] = q.d;
-        finite = finite & (floats::is_finite(p.v) & floats::is_finite(p.d));
-        finite = finite & (floats::is_finite(q.v) & floats::is_finite(q.d));
+        let l = lns_from::<2>(table, sums, x, n, 2 * h);
+        keep_lns(l, 2 * h, ln_gamma, slopes);
     }
-    if n % 2 == 0 {
-        return finite;
+    if n % 2 == 1 {
+        let l = lns_from::<1>(table, sums, x, n, n - 1);
+        keep_lns(l, n - 1, ln_gamma, slopes);
     }
-    let l = ln_gamma_at(table, sums, x, n, n - 1);
-    ln_gamma[n - 1] = l.v;
-    slopes[n - 1] = l.d;
-    finite & (floats::is_finite(l.v) & floats::is_finite(l.d))
 }
 
 // ---- the state
 
+// Of arrays that hold 0.0 everywhere.
 fn state(
     table: &[f64; 512],
     n: usize,
@@ -199,18 +192,14 @@ fn state(
     x: &[f64; 8],
     ln_gamma: &mut [f64; 8],
     slopes: &mut [f64; 8],
-) -> Energies
-    requires { n ≤ 8 }
+) -> Result<Energies, Refusal>
+    requires { (n ≤ 8) × (ln_gamma.now ≡ zeros8) × (slopes.now ≡ zeros8) }
     ensures { Gives (state_from (reduced_on table.now (at x.now) n) (ln_gamma_on table.now (at x.now) n) n t.0) result ln_gamma.new slopes.new }
 {
     let mut sums = [0.0; 32];
-    *ln_gamma = [0.0; 8];
-    *slopes = [0.0; 8];
     let total = fill_sums(table, x, n, &mut sums);
-    if ln_gammas(table, &sums, x, n, ln_gamma, slopes) {
-        return excess::state(total.neg(), t, ln_gamma, slopes);
-    }
-    excess::refuse(25, ln_gamma, slopes)
+    fill_lns(table, &sums, x, n, ln_gamma, slopes);
+    excess::finite_state(total.neg(), n, t, ln_gamma, slopes)
 }
 
 // ln γ and slopes (1/K), 0.0 past n, and the energies at t and the mole fractions x, from a table.
@@ -221,12 +210,10 @@ pub fn excess(
     x: &[f64; 8],
     ln_gamma: &mut [f64; 8],
     slopes: &mut [f64; 8],
-) -> Energies
+) -> Result<Energies, Refusal>
     ensures { Gives (wilson_on table.now (places n) t.0 (at x.now)) result ln_gamma.new slopes.new }
 {
-    let fractions = excess::with_state(t, x, n);
-    match fractions {
-        Verdict::Passed => state(table, floats::places(n), t, x, ln_gamma, slopes),
-        Verdict::Refused(number) => excess::refuse(number, ln_gamma, slopes),
-    }
+    excess::clear(ln_gamma, slopes);
+    excess::with_state(t, x, n)?;
+    state(table, floats::places(n), t, x, ln_gamma, slopes)
 }

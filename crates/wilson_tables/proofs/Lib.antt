@@ -1,2 +1,2 @@
--- Laws of the table that the proofs of wilson_tables cite. Assumes nothing.
-mod Stores
+-- What the proofs of wilson_tables share. Assumes nothing.
+mod Cells

@@ -3,15 +3,15 @@
 // of plane k at k * 64 + i * 8 + j: Λ with two derivatives.
 #![tactic(auto)]
 
-ghost use Rattle.std.specs.Prelude.{◌≡◌, ◌≤◌, ◌<◌, ◌+◌, ◌*◌};
+ghost use Rattle.std.specs.Prelude.{◌≡◌, ℕ};
+ghost use Rattle.std.proofs.Math.Nat.{le-add_right};
 ghost use Rattle.floats.specs.Arithmetic.{1f};
-ghost use Rattle.floats.specs.Vector.{places};
-ghost use Rattle.jet.specs.Jets.{const_j};
-ghost use Rattle.jet.specs.Planes.{spread};
-ghost use Rattle.wilson_tables.specs.Pair.{kelvin_j, ln_lambda_j, lambda_ij};
-ghost use Rattle.wilson_tables.specs.Table.{kept_of, lambda_pairs, lambda_rows, lambdas_of};
+ghost use Rattle.floats.specs.Vector.{at, places};
+ghost use Rattle.jet.specs.Jets.{const_j, exp_j};
+ghost use Rattle.wilson_tables.specs.Pair.{kelvin_j, ln_lambda_j};
+ghost use Rattle.wilson_tables.specs.Table.{kept_of, lambdas_of};
 
-use jet::Jet;
+use jet::{Jet, Pairs};
 use thermo_types::Temperature;
 
 // T as a jet.
@@ -25,64 +25,42 @@ fn kelvin(t: f64) -> Jet
     }
 }
 
-// a + b/T of the pair at e.
-fn ln_lambda(parameters: &[f64; 384], t: f64, e: usize) -> Jet
-    requires { e < 64 }
-    ensures { result ≡ ln_lambda_j parameters.now t e }
+// a + b/T, from a pair's parameters.
+fn ln_lambda(p: [f64; 6], t: f64) -> Jet
+    ensures { result ≡ ln_lambda_j p t 0 }
 {
-    let b = Jet::constant(parameters[e * 6 + 1]).div(kelvin(t));
-    Jet::constant(parameters[e * 6]).add(b)
+    Jet::constant(p[0]).add(Jet::constant(p[1]).div(kelvin(t)))
 }
 
-// Place e of the three planes.
-fn store(e: usize, l: Jet, table: &mut [f64; 512])
-    requires { e < 64 }
-    ensures { table.new ≡ spread (kept_of l) e 3 table.old }
+// The three planes' cells.
+fn kept(l: Jet) -> [f64; 3]
+    ensures { (k : ℕ) → at result k ≡ kept_of l k }
 {
-    table[e] = l.v;
-    table[64 + e] = l.d;
-    table[128 + e] = l.dd;
+    [l.v, l.d, l.dd]
 }
 
-// The pairs (i, j) and (j, i): their two exponentials side by side.
-fn both(parameters: &[f64; 384], t: f64, i: usize, j: usize, table: &mut [f64; 512])
-    requires { (i < 8) × (j < i) }
-    ensures { table.new ≡ spread (kept_of (lambda_ij parameters.now t j i)) (j * 8 + i) 3 (spread (kept_of (lambda_ij parameters.now t i j)) (i * 8 + j) 3 table.old) }
-{
-    let e = i * 8 + j;
-    let o = j * 8 + i;
-    let p = ln_lambda(parameters, t, e);
-    let q = ln_lambda(parameters, t, o);
-    let w = numerics::exp_two(p.v, q.v);
-    store(e, p.exp_with(w.0), table);
-    store(o, q.exp_with(w.1), table);
+// Λ at a temperature, K.
+#[derive(Clone, Copy)]
+struct Lambdas {
+    t: f64,
 }
 
-// Λ_ii = 1.
-fn diagonal(i: usize, table: &mut [f64; 512])
-    requires { i < 8 }
-    ensures { table.new ≡ spread (kept_of (const_j 1f)) (i * 8 + i) 3 table.old }
-{
-    store(i * 8 + i, Jet::constant(1.0), table);
-}
+impl Pairs<3> for Lambdas {
+    ghost cells = { λ s p. kept_of (exp_j (ln_lambda_j p s.t 0)) };
 
-// Row i up to the diagonal, and column i.
-fn border(parameters: &[f64; 384], t: f64, i: usize, table: &mut [f64; 512])
-    requires { i < 8 }
-    ensures { table.new ≡ lambda_pairs (lambda_ij parameters.now t) i i table.old }
-{
-    for j in 0..i {
-        both(parameters, t, i, j, table);
+    ghost own_cells = { λ s. kept_of (const_j 1f) };
+
+    ghost few = { le-add_right 3 5 };
+
+    fn both(&self, p: [f64; 6], q: [f64; 6]) -> ([f64; 3], [f64; 3]) {
+        let u = ln_lambda(p, self.t);
+        let v = ln_lambda(q, self.t);
+        let (e, f) = numerics::exp_two(u.v, v.v);
+        (kept(u.exp_with(e)), kept(v.exp_with(f)))
     }
-}
 
-fn square(parameters: &[f64; 384], t: f64, n: usize, table: &mut [f64; 512])
-    requires { n ≤ 8 }
-    ensures { table.new ≡ lambda_rows (lambda_ij parameters.now t) n n table.old }
-{
-    for i in 0..n {
-        border(parameters, t, i, table);
-        diagonal(i, table);
+    fn own(&self) -> [f64; 3] {
+        kept(Jet::constant(1.0))
     }
 }
 
@@ -90,5 +68,5 @@ fn square(parameters: &[f64; 384], t: f64, n: usize, table: &mut [f64; 512])
 pub fn tables(parameters: &[f64; 384], n: usize, t: Temperature, table: &mut [f64; 512])
     ensures { table.new ≡ lambdas_of parameters.now (places n) t.0 table.old }
 {
-    square(parameters, t.value(), floats::places(n), table);
+    jet::fill_pairs::<3, Lambdas>(&Lambdas { t: t.value() }, parameters, n, table);
 }

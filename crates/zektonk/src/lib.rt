@@ -7,12 +7,14 @@ ghost use Rattle.pool.specs.Pool.{pooled_of};
 ghost use Rattle.batch.specs.Feeds.{feeds_of, slice_of};
 ghost use Rattle.preview.specs.Preview.{preview_of};
 
+use outcome::number_in;
+
 // 0 and the answer's blocks at the front of `out`; or the number of the question that was answered no, and `out` as it was.
 #[unsafe(no_mangle)]
 pub extern "C" fn zektonk_answer(book: &[u8], question: &[u8], out: &mut [u8]) -> u64
     ensures { Answers (sheet_of book.now question.now (length out.old)) result out.old out.new }
 {
-    sheet::answer(book, question, out)
+    number_in(sheet::answer(book, question, out))
 }
 
 // The same with the pool of 1 to 64 drums, each eight counts of micromoles, as the feed.
@@ -20,7 +22,7 @@ pub extern "C" fn zektonk_answer(book: &[u8], question: &[u8], out: &mut [u8]) -
 pub extern "C" fn zektonk_pooled(book: &[u8], question: &[u8], drums: &[u8], out: &mut [u8]) -> u64
     ensures { Answers (pooled_of book.now question.now drums.now (length out.old)) result out.old out.new }
 {
-    pool::answer(book, question, drums, out)
+    number_in(pool::answer(book, question, drums, out))
 }
 
 // One question put to each of 1 to 64 feeds of 64 bytes: 0 and each feed's blocks at the front of its own 4,608 bytes of `out`, an
@@ -29,7 +31,7 @@ pub extern "C" fn zektonk_pooled(book: &[u8], question: &[u8], drums: &[u8], out
 pub extern "C" fn zektonk_feeds(book: &[u8], question: &[u8], feeds: &[u8], out: &mut [u8]) -> u64
     ensures { (result ≡ number_of (feeds_of book.now question.now feeds.now out.old)) × (out.new ≡ slice_of (feeds_of book.now question.now feeds.now out.old) out.old) }
 {
-    batch::answer(book, question, feeds, out)
+    number_in(batch::answer(book, question, feeds, out))
 }
 
 // As `zektonk_answer` on a copy of the book that holds the offered pair block in the place of its own; the book is only read.
@@ -42,5 +44,5 @@ pub extern "C" fn zektonk_preview(
 ) -> u64
     ensures { Answers (preview_of book.now offered.now question.now (length out.old)) result out.old out.new }
 {
-    preview::answer(book, offered, question, out)
+    number_in(preview::answer(book, offered, question, out))
 }

@@ -1,15 +1,25 @@
 -- `batch::answer_feed` meets its contract. Assumes nothing.
-use Rattle.batch.proofs.Calls.{feed-no, feed_yes, feed-warm, feed_ready, keeps_made}
+use mathlib.Core.Path.{sym}
+use borrow.Author.Tests.{le-leb}
+use Rattle.floats.specs.Outcome.{bind, need}
+use Rattle.sheet.specs.Sheet.{roomy}
+use Rattle.sheet.proofs.Laws.{quits}
+use Rattle.batch.proofs.Calls.{rested, feed-warm, feed_ready, keeps-made}
 use Rattle.batch.proofs.answer_feed.Goals as goal
 
-pub returns-in-Refused : goal.returns-in-Refused
-returns-in-Refused c = let p = c.requires in
-    let e = c.read_rest-asked.ensures in
-    record { keeps = p.3; out_after = feed-no _ _ _ _ _ p.2 e _ _ c.in-Refused.is p.0 c.write_refusal.ensures }
+pub returns-in_err-q : goal.returns-in_err-q
+unfolding bind
+returns-in_err-q c = record {
+  keeps = c.requires.2;
+  answers = quits _ _ c.from_residual.ensures.1 (rw (rested _ _ _ _ _ c.requires.1, sym c.in_err-q.ensures));
+}
 
-pub returns-in-Passed : goal.returns-in-Passed
-returns-in-Passed c = let p = c.requires in
-    let e = c.read_rest-asked.ensures in
-    let v = c.in-Passed.is in
-    let h = c.kept_or_made-made.ensures p.3 in
-    record { keeps = keeps_made h; out_after = feed_yes _ _ _ _ _ p.2 e v _ _ (c.reply.ensures p.1 (feed-warm _ _ _ _ _ p.2 e v) (feed_ready _ _ _ _ _ p.2 e v h)) }
+pub returns : goal.returns
+unfolding roomy bind need
+returns c = let p = c.requires in
+    let e = c.in_ok-q.ensures in
+    let h = c.kept_or_made-made.ensures p.2 in
+    record {
+      keeps = keeps-made h;
+      answers = rw (rested _ _ _ _ _ p.1, sym e) (rw (le-leb _ _ p.0) at (c.answer_ready.ensures (feed-warm _ _ _ _ _ p.1 e) (feed_ready _ _ _ _ _ p.1 e h)));
+    }

@@ -1,5 +1,4 @@
 -- `batch::answer_feeds` meets its contract. The loop's invariant: the parts so far are written, and what was made is ready for the question. Assumes nothing.
-use Prim.Native.Nat.{◌≤◌, ◌-◌}
 use mathlib.Core.Path.{◌≡◌}
 use lib.ListN.{length}
 use Rattle.floats.specs.Vector.{places}
@@ -9,8 +8,5 @@ use Rattle.batch.proofs.answer_feeds.Given as goal
 
 abbrev pub invariant-loop-k : goal.invariant-loop-k
 invariant-loop-k l =
-    (l.k ≤ l.count) × (l.out ≡ parts_to l.book l.head.version (places l.head.n) l.question l.feeds l.initial.out l.k) × Keeps (mixture_of l.book (places l.head.n)) l.question l.kept l.table l.ps
+    (l.out ≡ parts_to l.book l.head.version (places l.head.n) l.question l.feeds l.initial.out l.k) × Keeps (mixture_of l.book (places l.head.n)) l.question l.kept l.table l.ps
     × (length l.out ≡ length l.initial.out)
-
-abbrev pub decreases-loop-k : goal.decreases-loop-k
-decreases-loop-k l = l.count - l.k

@@ -4,4 +4,4 @@ use Rattle.blocks.proofs.check_right.Goals as goal
 
 pub returns : goal.returns
 unfolding check_right
-returns c = rw (c.sum_by.ensures, c.word.ensures)
+returns c = rw (c.block_sum.ensures, c.word.ensures)

@@ -6,6 +6,3 @@ use Rattle.blocks.proofs.running_rows.Given as goal
 
 abbrev pub invariant-loop-r : goal.invariant-loop-r
 invariant-loop-r l = Lanes (word l.s) l.a0 l.a1 l.a2 l.a3 l.t0 l.t1 l.t2 l.t3 l.r
-
-abbrev pub decreases-loop-r : goal.decreases-loop-r
-decreases-loop-r l = l.rows - l.r

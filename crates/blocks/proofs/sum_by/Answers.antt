@@ -4,8 +4,8 @@ use Rattle.blocks.proofs.sum_by.Goals as goal
 
 pub returns-in-Plain : goal.returns-in-Plain
 unfolding sum_by
-returns-in-Plain c = rw c.in-Plain.is c.plain_sum.ensures
+returns-in-Plain g c = λ w h. rw c.in-Plain.is (c.plain_sum.ensures w h)
 
 pub returns-in-Running : goal.returns-in-Running
 unfolding sum_by
-returns-in-Running c = rw c.in-Running.is c.running_sum.ensures
+returns-in-Running g c = λ w h. rw c.in-Running.is (c.running_sum.ensures w h)

@@ -1,12 +1,12 @@
--- `book::bounds_finite` meets its contract. The two ways of the test. Assumes nothing.
-use Rattle.std.proofs.Common.{eq-eqb, ne_eqb}
+-- `book::bounds_finite` meets its contract. Assumes nothing.
+use Rattle.std.proofs.Common.{rules}
 use Rattle.book.specs.Book.{bounds_finite}
 use Rattle.book.proofs.bounds_finite.Goals as goal
 
 pub returns-then-word-eq0 : goal.returns-then-word-eq0
 unfolding bounds_finite
-returns-then-word-eq0 c = rw (← c.word.ensures, eq-eqb _ _ c.if-word-eq0.true)
+returns-then-word-eq0 c = search rules
 
-pub returns : goal.returns
+pub returns-else-word-eq0 : goal.returns-else-word-eq0
 unfolding bounds_finite
-returns c = rw (← c.word.ensures, ne_eqb _ _ c.if-word-eq0.false) c.floats_finite.ensures
+returns-else-word-eq0 c = search rules

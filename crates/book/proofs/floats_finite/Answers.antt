@@ -7,13 +7,12 @@ use Rattle.book.proofs.floats_finite.Goals as goal
 
 pub loop-k-init : goal.loop-k-init
 unfolding floats_finite all_to
-loop-k-init c = (omega arith, refl)
+loop-k-init c = refl
 
 pub loop-k-preserved : goal.loop-k-preserved
 unfolding floats_finite
-loop-k-preserved c = let turn = c.loop-k in
-    (omega arith, all_next _ _ (or_top turn.carries c.carry-carries.result) (rw c.word.ensures at c.carry-carries.ensures) turn.invariant.1)
+loop-k-preserved c = all_next _ _ (or_top c.loop-k.carries c.carry-carries.result) (rw c.word.ensures at c.carry-carries.ensures) c.loop-k.invariant
 
 pub returns : goal.returns
 unfolding floats_finite
-returns c = all_done _ _ _ (omega arith) c.loop-k.invariant.1
+returns c = all_done _ _ _ (omega arith) c.loop-k.invariant

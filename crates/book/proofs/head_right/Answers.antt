@@ -1,7 +1,12 @@
--- `book::head_right` meets its contract. From what the callees ensure. Assumes nothing.
+-- `book::head_right` meets its contract. Assumes nothing.
+use Rattle.std.proofs.Common.{rules}
 use Rattle.book.specs.Book.{head_right}
 use Rattle.book.proofs.head_right.Goals as goal
 
-pub returns : goal.returns
+pub returns-then-word-eq1 : goal.returns-then-word-eq1
 unfolding head_right
-returns c = cc
+returns-then-word-eq1 c = search rules
+
+pub returns-else-word-eq1 : goal.returns-else-word-eq1
+unfolding head_right
+returns-else-word-eq1 c = search rules

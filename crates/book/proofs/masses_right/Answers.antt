@@ -1,12 +1,12 @@
--- `book::masses_right` meets its contract. The two ways of the test. Assumes nothing.
-use Rattle.floats.proofs.Folds.{as_tested}
+-- `book::masses_right` meets its contract. Assumes nothing.
+use Rattle.std.proofs.Common.{rules}
 use Rattle.book.specs.Book.{masses_right}
 use Rattle.book.proofs.masses_right.Goals as goal
 
 pub returns-then-not-has_masses : goal.returns-then-not-has_masses
 unfolding masses_right
-returns-then-not-has_masses c = rw (as_tested c.if-not-has_masses.true c.has_masses.ensures)
+returns-then-not-has_masses c = search rules
 
-pub returns : goal.returns
+pub returns-else-not-has_masses : goal.returns-else-not-has_masses
 unfolding masses_right
-returns c = rw (as_tested c.if-not-has_masses.false c.has_masses.ensures) c.masses_positive.ensures
+returns-else-not-has_masses c = search rules

@@ -1,37 +1,49 @@
--- `book::open_offered` meets its contract. Each return rewrites by the tests that led there: one law for a no, one for a yes. Assumes nothing.
-use Rattle.std.proofs.Common.{eq-eqb, ne_eqb}
-use Rattle.book.specs.Book.{offered_of, opened_of}
-use Rattle.floats.proofs.Folds.{not_of_true, as_tested, was_no, was_yes}
-use Rattle.book.proofs.Laws.{says-no, says_yes}
-use Rattle.book.proofs.Sound.{offered_named, finite_equal}
+-- `book::open_offered` meets its contract. Each return rewrites by the tests that led there. Assumes nothing.
+use Rattle.std.proofs.Common.{sym, eq-eqb, ne_eqb}
+use Rattle.floats.specs.Outcome.{need}
+use Rattle.book.specs.Book.{offered_of}
+use Rattle.book.proofs.Sound.{finite_equal}
 use Rattle.book.proofs.open_offered.Goals as goal
 
-pub returns-then-offered-ne512 : goal.returns-then-offered-ne512
-unfolding offered_of
-returns-then-offered-ne512 c = search (says-no, ne_eqb)
+pub returns-in_default : goal.returns-in_default
+unfolding offered_of need
+returns-in_default c = rw (ne_eqb _ 512 c.in_default.ensures.1)
 
 pub returns-then-not-check_right : goal.returns-then-not-check_right
-unfolding offered_of
-returns-then-not-check_right c = search (says_yes, says-no, eq-eqb, was_no)
+unfolding offered_of need
+returns-then-not-check_right c = let s = c.in-Ok.ensures.1.same in
+    let check = rw s at c.if-not-check_right.ensures in
+    rw (eq-eqb _ 512 c.in-Ok.ensures.1.long, ← check)
 
-pub returns-then-not-i-j : goal.returns-then-not-i-j
-unfolding offered_of
-returns-then-not-i-j c = let named = as_tested c.if-not-i-j.true (offered_named _ _ c.word-i.ensures c.word-j.ensures c.pair_right.ensures) in
-    search (says_yes, says-no, eq-eqb, was_yes, named)
+pub returns-then-not-names_pair : goal.returns-then-not-names_pair
+unfolding offered_of need
+returns-then-not-names_pair c = let s = c.in-Ok.ensures.1.same in
+    let check = rw s at c.if-not-check_right.ensures in
+    let names = rw s at c.if-not-names_pair.ensures in
+    rw (eq-eqb _ 512 c.in-Ok.ensures.1.long, ← check, ← names)
 
 pub returns-then-not-one_finite : goal.returns-then-not-one_finite
-unfolding offered_of
-returns-then-not-one_finite c = let named = as_tested c.if-not-i-j.false (offered_named _ _ c.word-i.ensures c.word-j.ensures c.pair_right.ensures) in
-    search (says_yes, says-no, eq-eqb, was_yes, was_no, named)
+unfolding offered_of need
+returns-then-not-one_finite c = let s = c.in-Ok.ensures.1.same in
+    let check = rw s at c.if-not-check_right.ensures in
+    let names = rw s at c.if-not-names_pair.ensures in
+    let finite = rw s at c.if-not-one_finite.ensures in
+    rw (eq-eqb _ 512 c.in-Ok.ensures.1.long, ← check, ← names, ← finite)
 
 pub returns-then-not-one_sound : goal.returns-then-not-one_sound
-unfolding offered_of
-returns-then-not-one_sound c = let named = as_tested c.if-not-i-j.false (offered_named _ _ c.word-i.ensures c.word-j.ensures c.pair_right.ensures) in
-    let alphas = finite_equal _ _ (not_of_true c.if-not-one_finite.false) c.one_finite.ensures c.one_sound.ensures in
-    search (says_yes, says-no, eq-eqb, was_yes, named, as_tested c.if-not-one_sound.true alphas)
+unfolding offered_of need
+returns-then-not-one_sound c = let s = c.in-Ok.ensures.1.same in
+    let check = rw s at c.if-not-check_right.ensures in
+    let names = rw s at c.if-not-names_pair.ensures in
+    let finite = rw s at c.if-not-one_finite.ensures in
+    let sound = rw s at c.if-not-one_sound.ensures in
+    rw (eq-eqb _ 512 c.in-Ok.ensures.1.long, ← check, ← names, ← finite, ← finite_equal _ _ finite sound)
 
 pub returns : goal.returns
-unfolding offered_of opened_of
-returns c = let named = as_tested c.if-not-i-j.false (offered_named _ _ c.word-i.ensures c.word-j.ensures c.pair_right.ensures) in
-    let alphas = finite_equal _ _ (not_of_true c.if-not-one_finite.false) c.one_finite.ensures c.one_sound.ensures in
-    search (says_yes, eq-eqb, was_yes, named, as_tested c.if-not-one_sound.false alphas)
+unfolding offered_of need
+returns c = let s = c.in-Ok.ensures.1.same in
+    let check = rw s at c.if-not-check_right.ensures in
+    let names = rw s at c.if-not-names_pair.ensures in
+    let finite = rw s at c.if-not-one_finite.ensures in
+    let sound = rw s at c.if-not-one_sound.ensures in
+    rw (eq-eqb _ 512 c.in-Ok.ensures.1.long, ← check, ← names, ← finite, ← finite_equal _ _ finite sound)

@@ -1,17 +1,27 @@
 -- `book::rule_of` meets its contract. One law for each return. Assumes nothing.
-use Rattle.book.proofs.Laws.{rule-cut, rule-none, rule-read}
+use Rattle.std.proofs.Common.{rules}
+use borrow.Author.Tests.{tests}
+use Rattle.book.specs.Book.{rule_in}
+use Rattle.book.proofs.Laws.{rule-cut, rule-none, rule-whole}
 use Rattle.book.proofs.rule_of.Goals as goal
+use Rattle.book.proofs.rule_of.Goals.{then-is_empty-via-then-is_empty, then-is_empty-via-else-is_empty+then-book-ne0}
+use Rattle.book.proofs.rule_of.Goals.{else-word-eq1-via-then-word-eq1+else-word-eq3, else-word-eq1-via-else-word-eq1}
 
-pub returns-then-book-ne0 : goal.returns-then-book-ne0
-returns-then-book-ne0 c = rule-cut _ c.if-book-ne0.true
+pub returns-then-is_empty : goal.returns-then-is_empty
+returns-then-is_empty c =
+    elim c.then-is_empty.branch [
+      | then-is_empty-via-then-is_empty w ↦ rule-none _ (search (rules, tests))
+      | then-is_empty-via-else-is_empty+then-book-ne0 w ↦ rule-cut _ w.if-book-ne0.true
+    ]
 
-pub returns-then-book-eq0 : goal.returns-then-book-eq0
-returns-then-book-eq0 c = rule-none _ c.if-book-eq0.true
+pub returns-then-word-eq3 : goal.returns-then-word-eq3
+unfolding rule_in
+returns-then-word-eq3 c = rw (rule-whole _ c.if-book-ne0.false (search (rules, tests))) (search (rules, tests))
 
-pub returns-then-word : goal.returns-then-word
-returns-then-word c = let words = rw (c.word.ensures, c.word-2.ensures, c.whole_block-first.ensures.0) at c.if-word.true in
-    rule-read _ c.if-book-ne0.false c.if-book-eq0.false words
-
-pub returns : goal.returns
-returns c = let words = rw (c.word.ensures, c.word-2.ensures, c.whole_block-first.ensures.0) at c.if-word.false in
-    rule-read _ c.if-book-ne0.false c.if-book-eq0.false words
+pub returns-else-word-eq1 : goal.returns-else-word-eq1
+unfolding rule_in
+returns-else-word-eq1 c = rw (rule-whole _ c.if-book-ne0.false (search (rules, tests)))
+    (elim c.else-word-eq1.branch [
+      | else-word-eq1-via-then-word-eq1+else-word-eq3 w ↦ search (rules, tests)
+      | else-word-eq1-via-else-word-eq1 w ↦ search (rules, tests)
+    ])

@@ -1,12 +1,13 @@
 -- `excess::with_state` meets its contract. Assumes nothing.
-use Rattle.excess.proofs.Tests.{not_finite, not_positive, fractions-asked}
+use mathlib.Core.Path.{sym}
+use Rattle.floats.specs.Outcome.{need}
+use Rattle.excess.proofs.Passing.{positive_first}
 use Rattle.excess.proofs.with_state.Goals as goal
 
-pub returns-then-not-is_finite : goal.returns-then-not-is_finite
-returns-then-not-is_finite c = search not_finite
-
-pub returns-then-not-v : goal.returns-then-not-v
-returns-then-not-v c = search not_positive
+pub returns-then-not-positive : goal.returns-then-not-positive
+unfolding need
+returns-then-not-positive c = rw (positive_first, ← c.value.ensures, sym c.if-not-positive.ensures)
 
 pub returns : goal.returns
-returns c = search fractions-asked
+unfolding need
+returns c = rw (positive_first, ← c.value.ensures, sym c.if-not-positive.ensures) c.with_fractions.ensures

@@ -1,17 +1,8 @@
-use Rattle.exports.specs.Slices.{eight_of}
-use Rattle.floats.proofs.Fills.{fill-turn, fill_done}
-use Rattle.floats.specs.Vector.{fill}
-use mathlib.Core.Path.{refl}
-use native.Mathlib.Omega.{arith}
+-- `exports::eight` meets its contract. Assumes nothing.
+use lib.Ieee.{of_bits}
+use Rattle.exports.proofs.Ways.{eight_is}
 use Rattle.exports.proofs.eight.Goals as goal
 
-pub loop-i-init : goal.loop-i-init
-unfolding fill
-loop-i-init c = (omega arith, refl)
-
-pub loop-i-preserved : goal.loop-i-preserved
-loop-i-preserved c = (omega arith, fill-turn _ _ _ c.entry.ensures c.loop-i.invariant.1)
-
 pub returns : goal.returns
-unfolding eight_of
-returns c = fill_done _ _ _ _ (omega arith) c.loop-i.invariant.1
+unfolding of_bits
+returns c = eight_is c.args.s.now c.places-m.ensures c.copy_from_slice.ensures.after

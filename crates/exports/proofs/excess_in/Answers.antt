@@ -1,12 +1,13 @@
 -- `exports::excess_in` meets its contract. Assumes nothing.
-use Rattle.exports.proofs.Ways.{excess-no, excess-ok}
+use mathlib.Core.Path.{refl}
+use Rattle.outcome.proofs.Exits.{met}
+use Rattle.exports.proofs.Ways.{number-no}
+use Rattle.exports.proofs.States.{excess-no, excess-ok}
 use Rattle.exports.proofs.excess_in.Goals as goal
 
-pub returns-in-Refused : goal.returns-in-Refused
-returns-in-Refused c = search excess-no
-
-pub store_state-requires : goal.store_state-requires
-store_state-requires c = c.requires
+pub returns-in_err-e : goal.returns-in_err-e
+returns-in_err-e c = rw (number-no _ (met c.in_err-e.field-0.0 c.from_residual.result c.from_residual.ensures.1))
+    (excess-no _ _ _ c.parameters.ensures c.tables-s.ensures c.in_err-e.ensures refl)
 
 pub returns : goal.returns
-returns c = search excess-ok
+returns c = excess-ok _ _ _ c.parameters.ensures c.tables-s.ensures c.in_ok-e.ensures refl c.validity-a.ensures c.store_state.ensures

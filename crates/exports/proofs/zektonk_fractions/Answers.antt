@@ -1,14 +1,8 @@
-use Rattle.exports.specs.Slices.{outcome_number, verdict_number}
-use Rattle.thermo_types.specs.Verdicts.{verdict_of}
-use Rattle.floats.specs.Outcome.{Out, ok, no}
-use Prim.Native.Nat.{ℕ}
-use mathlib.Core.Path.{◌≡◌, refl}
+-- `exports::zektonk_fractions` meets its contract: what comes after the tests has no part in the number. Assumes nothing.
+use mathlib.Core.Path.{◌∙◌}
+use Rattle.thermo_types.proofs.Passing.{fractions_first}
+use Rattle.exports.proofs.Ways.{number_then}
 use Rattle.exports.proofs.zektonk_fractions.Goals as goal
 
-number_is : (o : Out ℕ) → verdict_number (verdict_of o) ≡ outcome_number o
-unfolding verdict_number verdict_of outcome_number
-number_is (ok a) = refl
-number_is (no r) = refl
-
 pub returns : goal.returns
-returns c = rw (c.refusal.ensures, c.with_fractions.ensures, c.eight-a.ensures) (number_is _)
+returns c = rw (fractions_first, ← c.eight.ensures, ← c.with_fractions.ensures) (c.number_in.ensures ∙ number_then c.with_fractions.result _)

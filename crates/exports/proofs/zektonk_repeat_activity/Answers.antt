@@ -1,11 +1,10 @@
-use Rattle.sheet.proofs.Shared.{kelvin-ok, kelvin-no}
-use Rattle.exports.specs.Slices.{repeated}
+-- `exports::zektonk_repeat_activity` meets its contract. Assumes nothing.
+use mathlib.Core.Path.{sym, ◌∙◌}
+use Rattle.exports.proofs.Ways.{repeated-ok, repeated-no}
 use Rattle.exports.proofs.zektonk_repeat_activity.Goals as goal
 
-pub returns-in-Valid : goal.returns-in-Valid
-unfolding repeated
-returns-in-Valid c = rw (kelvin-ok _ c.new-made.ensures c.in-Valid.is) c.repeat_from.ensures
+pub returns-in-Ok : goal.returns-in-Ok
+returns-in-Ok c = c.repeat_from.ensures ∙ sym (repeated-ok _ _ c.in-Ok.ensures)
 
-pub returns-in-No : goal.returns-in-No
-unfolding repeated
-returns-in-No c = rw (kelvin-no _ c.new-made.ensures c.in-No.is)
+pub returns-in-Err : goal.returns-in-Err
+returns-in-Err c = sym (repeated-no _ _ c.in-Err.ensures)

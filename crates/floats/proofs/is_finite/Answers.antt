@@ -1,7 +1,7 @@
 -- `floats::is_finite` meets its contract, by cases on x.
 use mathlib.Core.Path.{◌≡◌, refl}
 use mathlib.Core.Bool.{true, false, false≢true, true≢false}
-use lib.Ieee.{Float, nan, inf, fin, binary64, of_bits, lt, nan_bits}
+use lib.Ieee.{Float, nan, inf, fin, binary64, of_bits, lt}
 use Rattle.floats.specs.Small.{is_finite}
 use Rattle.floats.proofs.is_finite.Goals as goal
 
@@ -18,16 +18,8 @@ above nan h = refl
 above (inf s) h = refl
 above (fin s m e) h = absurd (true≢false h)
 
-pub float_from_bits-t-2 : goal.float_from_bits-t-2
-unfolding nan_bits
-float_from_bits-t-2 c = tt
-
-pub float_from_bits-result : goal.float_from_bits-result
-unfolding nan_bits
-float_from_bits-result c = tt
-
 pub returns-then-x : goal.returns-then-x
 returns-then-x c = below c.args.x c.if-x.true
 
 pub returns-else-x : goal.returns-else-x
-returns-else-x c = above c.args.x c.if-x.false
+returns-else-x c = rw c.if-x.false (above c.args.x c.if-x.false)

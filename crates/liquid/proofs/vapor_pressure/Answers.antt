@@ -1,10 +1,20 @@
 -- `liquid::vapor_pressure` meets its contract. Assumes nothing.
-use Rattle.floats.proofs.Folds.{not_of_true}
-use Rattle.liquid.proofs.Ways.{range_no, range_yes}
+use mathlib.Core.Path.{sym}
+use Rattle.floats.specs.Outcome.{need}
+use Rattle.liquid.specs.Vapor.{vapor_pressure_of}
+use Rattle.liquid.proofs.Ways.{vapor_is, sound_is}
 use Rattle.liquid.proofs.vapor_pressure.Goals as goal
 
 pub returns-then-not-in_range : goal.returns-then-not-in_range
-returns-then-not-in_range c = search range_no
+unfolding vapor_pressure_of need
+returns-then-not-in_range c = rw (← c.value-v.ensures, sym c.if-not-in_range.ensures)
+
+pub returns-then-not-is_representable : goal.returns-then-not-is_representable
+unfolding vapor_pressure_of need
+returns-then-not-is_representable c =
+    rw (← c.value-v.ensures, sym c.in_range.ensures, c.if-not-in_range.false, vapor_is _ _ c.exp-pressure.ensures c.ln_pressure-l.ensures, sound_is, sym c.if-not-is_representable.ensures)
 
 pub returns : goal.returns
-returns c = range_yes c.args.a c.args.t.0 c.value-v.ensures c.in_range.ensures (not_of_true c.if-not-in_range.false) c.exp.ensures c.ln_pressure-l.ensures c.tested.ensures
+unfolding vapor_pressure_of need
+returns c =
+    rw (← c.value-v.ensures, sym c.in_range.ensures, c.if-not-in_range.false, vapor_is _ _ c.exp-pressure.ensures c.ln_pressure-l.ensures, sound_is, sym c.if-not-is_representable.ensures)

@@ -1,5 +1,4 @@
 -- `liquid_stability::composition` meets its contract. The invariant: the shares so far. Assumes nothing.
-use Prim.Native.Nat.{◌≤◌, ◌-◌}
 use mathlib.Core.Bool.{cond}
 use mathlib.Core.Path.{◌≡◌}
 use lib.Ieee.{lt}
@@ -8,7 +7,4 @@ use Rattle.floats.specs.Vector.{at, vec}
 use Rattle.liquid_stability.proofs.composition.Given as goal
 
 abbrev pub invariant-loop-i : goal.invariant-loop-i
-invariant-loop-i l = (l.i ≤ l.n) × (l.w ≡ vec (λ k. cond (lt 0f (at l.x k)) (at l.big k ⊘ l.s) 0f) l.i)
-
-abbrev pub decreases-loop-i : goal.decreases-loop-i
-decreases-loop-i l = l.n - l.i
+invariant-loop-i l = l.w ≡ vec (λ k. cond (lt 0f (at l.x k)) (at l.big k ⊘ l.s) 0f) l.i

@@ -1,8 +1,11 @@
--- `liquid_stability::is_unstable` meets its contract. The test is the definition's own. Assumes nothing.
-use mathlib.Core.Path.{refl}
+-- `liquid_stability::is_unstable` meets its contract. Assumes nothing.
 use Rattle.liquid_stability.specs.Stability.{unstable}
 use Rattle.liquid_stability.proofs.is_unstable.Goals as goal
 
-pub returns : goal.returns
+pub returns-then-tm-threshold : goal.returns-then-tm-threshold
 unfolding unstable
-returns c = refl
+returns-then-tm-threshold c = rw c.if-tm-threshold.true
+
+pub returns-else-tm-threshold : goal.returns-else-tm-threshold
+unfolding unstable
+returns-else-tm-threshold c = rw c.if-tm-threshold.false

@@ -1,11 +1,7 @@
 -- `liquid_stability::next` meets its contract. The invariant: ln W so far. Assumes nothing.
-use Prim.Native.Nat.{◌≤◌, ◌-◌}
 use mathlib.Core.Path.{◌≡◌}
 use Rattle.liquid_stability.specs.Stability.{next_of}
 use Rattle.liquid_stability.proofs.next.Given as goal
 
 abbrev pub invariant-loop-i : goal.invariant-loop-i
-invariant-loop-i l = (l.i ≤ l.n) × (l.ln_w ≡ next_of l.d l.lg l.i)
-
-abbrev pub decreases-loop-i : goal.decreases-loop-i
-decreases-loop-i l = l.n - l.i
+invariant-loop-i l = l.ln_w ≡ next_of l.d l.lg l.i

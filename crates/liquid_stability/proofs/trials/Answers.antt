@@ -1,24 +1,25 @@
+use mathlib.Core.Path.{◌∙◌, refl, sym}
+use native.Mathlib.Numerals.{add-one}
 use native.Mathlib.Omega.{arith}
-use Rattle.liquid_stability.proofs.Laws.{trials-none, trials-refused, trials_done, trials_skip, trials-more}
+use Rattle.floats.specs.Outcome.{ok}
+use Rattle.outcome.proofs.Exits.{met}
+use Rattle.liquid_stability.specs.Stability.{no_trials, with_trial, trials_to}
+use Rattle.liquid_stability.proofs.Laws.{trials-refused, trials_skip, trials-more}
 use Rattle.liquid_stability.proofs.trials.Goals as goal
-use Rattle.liquid_stability.proofs.trials.Goals.{then-x-j+in_default, else-x-j}
+use Rattle.liquid_stability.proofs.trials.Goals.{then-x-j+in_ok-found, else-x-j}
 
 pub loop-j-init : goal.loop-j-init
-loop-j-init c = (omega arith, omega arith, trials-none _ _ _ _ _ c.no_trial-none.ensures)
+unfolding no_trials trials_to
+loop-j-init c = rw c.no_trials-all.ensures (omega arith, refl)
 
-pub returns-in-Refused : goal.returns-in-Refused
-returns-in-Refused c = search trials-refused
+pub returns-in_err-found : goal.returns-in_err-found
+returns-in_err-found c = met _ _ c.from_residual.ensures.1
+    ∙ sym (trials-refused _ _ _ _ _ _ c.loop-j.invariant.1 c.if-x-j.true c.requires.1 c.loop-j-test.true c.in_err-found.ensures)
 
 pub loop-j-preserved : goal.loop-j-preserved
-loop-j-preserved c = (
-  omega arith,
-  elim c.if-x-j.branch [ then-x-j+in_default w ↦ omega arith | else-x-j w ↦ omega arith ],
-  elim c.if-x-j.branch [
-    | then-x-j+in_default w ↦ trials-more _ _ _ _ _ _ c.loop-j.invariant.2 w.if-x-j.true c.requires.1 w.trial-s.ensures w.in_default.is w.is_unstable.ensures w.trials-is
-        w.count-is w.stable-is
-    | else-x-j w ↦ trials_skip _ _ _ _ _ _ c.loop-j.invariant.2 w.if-x-j.false w.trials-is w.count-is w.stable-is
-  ],
-)
-
-pub returns : goal.returns
-returns c = trials_done _ _ _ _ _ _ (omega arith) c.loop-j.invariant.2
+unfolding with_trial
+loop-j-preserved c = elim c.if-x-j.branch [
+  | then-x-j+in_ok-found w ↦ rw (w.all-is, w.is_unstable.ensures, add-one c.loop-j.all.count)
+      (omega arith, trials-more _ _ _ _ _ _ c.loop-j.invariant.1 w.if-x-j.true c.requires.1 w.in_ok-found.ensures)
+  | else-x-j w ↦ rw w.all-is (omega arith, trials_skip _ _ _ _ _ _ c.loop-j.invariant.1 w.if-x-j.false)
+]

@@ -1,12 +1,18 @@
 -- `liquid_stability::turn` meets its contract. The parts of a turn, put together. Assumes nothing.
-use Rattle.liquid_stability.proofs.Laws.{turn-refused, turn_judged}
+use Rattle.outcome.proofs.Exits.{met}
+use Rattle.liquid_stability.proofs.Laws.{turn-refused, turn-unjudged, turn_judged}
 use Rattle.liquid_stability.proofs.turn.Goals as goal
 
-pub returns-in-Refused : goal.returns-in-Refused
-returns-in-Refused c = search turn-refused
+pub returns-in_err-lg : goal.returns-in_err-lg
+returns-in_err-lg c = turn-refused _ _ _ c.requires _ _ _ c.amounts-big.ensures c.total-s.ensures c.composition-w.ensures
+    _ c.in_err-lg.ensures (met _ _ c.from_residual.ensures.1)
+
+pub returns-in_err-found : goal.returns-in_err-found
+returns-in_err-found c = let m = c.measure-m.ensures in
+    turn-unjudged _ _ _ c.requires _ _ _ c.amounts-big.ensures c.total-s.ensures c.composition-w.ensures
+    c.in_ok-lg.ensures m.0 m.1 m.2 _ c.in_err-found.ensures (met _ _ c.from_residual-in_err-found.ensures.1)
 
 pub returns : goal.returns
 returns c = let m = c.measure-m.ensures in
-    let g = c.ln_gamma-v.ensures in
-    turn_judged _ _ _ c.requires _ _ _ c.amounts-big.ensures c.total-s.ensures c.composition-w.ensures g.0 g.1
-    c.in_default.is m.0 m.1 m.2 c.judge-judged.ensures c.next-ln_next.ensures
+    turn_judged _ _ _ c.requires _ _ _ c.amounts-big.ensures c.total-s.ensures c.composition-w.ensures
+    c.in_ok-lg.ensures m.0 m.1 m.2 c.in_ok-found.ensures c.next.ensures

@@ -4,7 +4,7 @@ use native.Mathlib.Omega.{arith}
 use Rattle.nrtl.proofs.clear_past.Goals as goal
 
 pub returns-then-n-eq1 : goal.returns-then-n-eq1
-returns-then-n-eq1 c = record { cleared = record { odd = λ e. refl; even = λ e. absurd (omega arith) }; cleared_2 = record { odd = λ e. refl; even = λ e. absurd (omega arith) } }
+returns-then-n-eq1 c = record { values = record { odd = λ e. refl; even = λ e. absurd (omega arith) }; slopes = record { odd = λ e. refl; even = λ e. absurd (omega arith) } }
 
 pub returns-else-n-eq1 : goal.returns-else-n-eq1
-returns-else-n-eq1 c = record { cleared = record { odd = λ e. absurd (omega arith); even = λ e. refl }; cleared_2 = record { odd = λ e. absurd (omega arith); even = λ e. refl } }
+returns-else-n-eq1 c = record { values = record { odd = λ e. absurd (omega arith); even = λ e. refl }; slopes = record { odd = λ e. absurd (omega arith); even = λ e. refl } }

@@ -11,12 +11,12 @@ loop-i-init c = (omega arith, omega arith, omega arith, refl, refl)
 pub loop-i-preserved : goal.loop-i-preserved
 loop-i-preserved c = let q = c.sum_quad.ensures in
     let a = c.loop-i.invariant in
-    (omega arith, omega arith, omega arith, quad_turn _ _ _ _ q.sums_after a.3, quad_turn _ _ _ _ q.ratios_after a.4)
+    (omega arith, omega arith, omega arith, quad_turn _ _ _ _ q.sums a.3, quad_turn _ _ _ _ q.ratios a.4)
 
 pub returns-then-i-n : goal.returns-then-i-n
 returns-then-i-n c = let q = c.sum_pair.ensures in
     let a = c.loop-i.invariant in
-    record { sums_after = lanes_done _ _ _ _ _ (omega arith) (pair_turn _ _ _ _ q.sums_after a.3); ratios_after = lanes_done _ _ _ _ _ (omega arith) (pair_turn _ _ _ _ q.ratios_after a.4) }
+    record { sums = lanes_done _ _ _ _ _ (omega arith) (pair_turn _ _ _ _ q.sums a.3); ratios = lanes_done _ _ _ _ _ (omega arith) (pair_turn _ _ _ _ q.ratios a.4) }
 
 pub returns-else-i-n : goal.returns-else-i-n
-returns-else-i-n c = let a = c.loop-i.invariant in record { sums_after = lanes_done _ _ _ _ _ (omega arith) a.3; ratios_after = lanes_done _ _ _ _ _ (omega arith) a.4 }
+returns-else-i-n c = let a = c.loop-i.invariant in record { sums = lanes_done _ _ _ _ _ (omega arith) a.3; ratios = lanes_done _ _ _ _ _ (omega arith) a.4 }

@@ -3,4 +3,4 @@ use Rattle.nrtl.proofs.Lanes.{pair-kept, ratio-kept}
 use Rattle.nrtl.proofs.keep_sums.Goals as goal
 
 pub returns : goal.returns
-returns c = record { sums_after = search pair-kept; ratios_after = search ratio-kept }
+returns c = record { sums = search pair-kept; ratios = search ratio-kept }

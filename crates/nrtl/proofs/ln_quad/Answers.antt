@@ -5,6 +5,6 @@ use Rattle.nrtl.proofs.ln_quad.Goals as goal
 
 pub returns : goal.returns
 returns c = let a = c.args in record {
-  ln_gamma_after = lns_quad (λ (j : Jet). j.v) _ _ a.ln_gamma.now c.quad_lns-l.ensures c.keep_lns.ensures.ln_gamma_after c.keep_lns-2.ensures.ln_gamma_after;
-  slopes_after = lns_quad (λ (j : Jet). j.d) _ _ a.slopes.now c.quad_lns-l.ensures c.keep_lns.ensures.slopes_after c.keep_lns-2.ensures.slopes_after;
+  values = lns_quad (λ (j : Jet). j.v) _ _ a.ln_gamma.now c.quad_lns-l.ensures c.keep_lns.ensures.values c.keep_lns-2.ensures.values;
+  slopes = lns_quad (λ (j : Jet). j.d) _ _ a.slopes.now c.quad_lns-l.ensures c.keep_lns.ensures.slopes c.keep_lns-2.ensures.slopes;
 }

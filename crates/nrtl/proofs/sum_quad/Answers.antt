@@ -3,4 +3,4 @@ use Rattle.nrtl.proofs.Lanes.{sums_quad, ratios_quad}
 use Rattle.nrtl.proofs.sum_quad.Goals as goal
 
 pub returns : goal.returns
-returns c = record { sums_after = sums_quad _ 2 _ _ c.quad_sums-s.ensures c.keep_sums.ensures.sums_after c.keep_sums-2.ensures.sums_after; ratios_after = ratios_quad _ _ _ _ c.quad_sums-c.ensures c.quad_sums-s.ensures c.keep_sums.ensures.ratios_after c.keep_sums-2.ensures.ratios_after }
+returns c = record { sums = sums_quad _ 2 _ _ c.quad_sums-s.ensures c.keep_sums.ensures.sums c.keep_sums-2.ensures.sums; ratios = ratios_quad _ _ _ _ c.quad_sums-c.ensures c.quad_sums-s.ensures c.keep_sums.ensures.ratios c.keep_sums-2.ensures.ratios }

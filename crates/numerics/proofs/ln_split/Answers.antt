@@ -3,7 +3,7 @@ use Rattle.std.proofs.Common.{◌≡◌, ◌<◌, ℤ, pos, ◌+ℤ◌, arith, w
 use lib.Signed.{mag}
 use mir.ValLaws.{to_z-of_z}
 use Rattle.numerics.specs.Numerics.{ln_split}
-use Rattle.numerics.proofs.Powers.{small, in_float_lem, suc_mag}
+use Rattle.numerics.proofs.Powers.{small, suc_mag}
 use Rattle.numerics.proofs.ln_split.Goals as goal
 
 -- k and k + 1 as the machine reads them back
@@ -16,17 +16,6 @@ module _ (k : ℤ) (range : SFits w64 k) (few : mag k < 1999) where
 
   more-is : to_z w64 (of_z w64 (k +ℤ pos 1)) ≡ k +ℤ pos 1
   more-is = to_z-of_z w64 (k +ℤ pos 1) more-fits
-
-pub overflow_add-k : goal.overflow_add-k
-overflow_add-k c = rw (k-is c.args.k c.ranges.k c.requires) (more-fits c.args.k c.ranges.k c.requires)
-
-pub int_to_float-k : goal.int_to_float-k
-int_to_float-k c =
-    rw (k-is c.args.k c.ranges.k c.requires, more-is c.args.k c.ranges.k c.requires)
-    (in_float_lem (c.args.k +ℤ pos 1) (suc_mag c.args.k c.requires))
-
-pub int_to_float-k-else-m : goal.int_to_float-k-else-m
-int_to_float-k-else-m c = let h = c.requires in rw (k-is c.args.k c.ranges.k c.requires) (in_float_lem c.args.k (omega arith))
 
 pub returns-then-m : goal.returns-then-m
 unfolding ln_split

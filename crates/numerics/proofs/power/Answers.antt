@@ -2,9 +2,8 @@
 use Rattle.std.proofs.Common.{◌≡◌, ◌*◌, ◌<◌, ℤ, SFits, pos, ◌+ℤ◌, arith, w64, to_z, of_z}
 use lib.Signed.{mag}
 use lib.Ieee.{nan_bits, binary64}
-use mir.ValLaws.{to_z-of_z}
 use Rattle.floats.proofs.Nan.{no_nan}
-use Rattle.numerics.proofs.Powers.{bias, bias_in, plus-fits, field_back, power-is, no_nan_field}
+use Rattle.numerics.proofs.Powers.{bias, bias_in, field_back, power-is, no_nan_field}
 use Rattle.numerics.proofs.power.Goals as goal
 
 -- what the machine adds up, read back
@@ -14,15 +13,6 @@ module _ (a : ℤ) (range : SFits w64 a) (few : mag a < 1022) where
 
   in-range : (0 < bias a) × (bias a < 2046)
   in-range = bias_in a few
-
-pub overflow_add-result : goal.overflow_add-result
-overflow_add-result c = rw (to_z-of_z w64 c.args.a c.ranges.a) (plus-fits c.args.a c.requires)
-
-pub overflow_cast-result : goal.overflow_cast-result
-overflow_cast-result c = let b = in-range c.args.a c.ranges.a c.requires in rw (is c.args.a c.ranges.a c.requires) (tt, omega arith)
-
-pub overflow_mul-result : goal.overflow_mul-result
-overflow_mul-result c = let b = in-range c.args.a c.ranges.a c.requires in rw (is c.args.a c.ranges.a c.requires) (omega arith)
 
 pub float_from_bits-result : goal.float_from_bits-result
 float_from_bits-result c =

@@ -4,4 +4,4 @@ use Rattle.pool.proofs.Laws.{normalized_vec}
 use Rattle.pool.proofs.pool_feed.Goals as goal
 
 pub returns : goal.returns
-returns c = normalized_vec _ _ (min-le_right _ 8) c.amounts-x.ensures c.normalize.ensures
+returns c = normalized_vec _ _ (min-le_right _ 8) c.amounts.ensures c.normalize.ensures

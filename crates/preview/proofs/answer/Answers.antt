@@ -1,12 +1,32 @@
 -- `preview::answer` meets its contract. Assumes nothing.
-use Rattle.preview.proofs.Laws.{book-no, offered_no, offered_ok}
+use mathlib.Core.Path.{sym}
+use borrow.Author.Tests.{le-leb, lt-leb}
+use Rattle.floats.specs.Outcome.{bind, need}
+use Rattle.sheet.specs.Sheet.{roomy, sheet_from}
+use Rattle.sheet.proofs.Laws.{refuses, quits}
+use Rattle.preview.specs.Preview.{preview_of}
+use Rattle.preview.proofs.Laws.{copy-question, opened}
 use Rattle.preview.proofs.answer.Goals as goal
 
-pub returns-in-No : goal.returns-in-No
-returns-in-No c = search book-no
+pub returns-in_err-head : goal.returns-in_err-head
+unfolding preview_of bind
+returns-in_err-head c = quits _ _ c.from_residual.ensures.1 (rw (sym c.in_err-head.ensures))
 
-pub returns-in-No-tried : goal.returns-in-No-tried
-returns-in-No-tried c = search offered_no
+pub returns-in_err-open_offered : goal.returns-in_err-open_offered
+unfolding preview_of bind
+returns-in_err-open_offered c = quits _ _ c.from_residual-in_err-open_offered.ensures.1 (rw (sym c.in_ok-head.ensures, ← c.rule_of-rule.ensures, sym c.in_err-open_offered.ensures))
 
-pub returns-in-Book-tried : goal.returns-in-Book-tried
-returns-in-Book-tried c = search offered_ok
+pub returns-then-out-lt-ANSWER_ROOM : goal.returns-then-out-lt-ANSWER_ROOM
+unfolding sheet_from roomy need
+returns-then-out-lt-ANSWER_ROOM c = refuses (rw (opened _ _ _ _ c.in_ok-head.ensures c.rule_of-rule.ensures c.in_ok-open_offered.ensures, lt-leb _ _ c.if-out-lt-ANSWER_ROOM.true))
+
+pub returns-in_err-q : goal.returns-in_err-q
+unfolding sheet_from roomy bind need
+returns-in_err-q c = let u = c.rule_of-rule.ensures in
+    quits _ _ c.from_residual-in_err-q.ensures.1 (rw (opened _ _ _ _ c.in_ok-head.ensures u c.in_ok-open_offered.ensures, le-leb _ _ c.if-out-lt-ANSWER_ROOM.false, copy-question, ← u, sym c.in_err-q.ensures))
+
+pub returns : goal.returns
+unfolding sheet_from roomy bind need
+returns c = let u = c.rule_of-rule.ensures in
+    let l = c.if-out-lt-ANSWER_ROOM.false in
+    rw (opened _ _ _ _ c.in_ok-head.ensures u c.in_ok-open_offered.ensures, le-leb _ _ l, copy-question, ← u, sym c.in_ok-q.ensures) (rw (le-leb _ _ l) at c.answer_offered.ensures)

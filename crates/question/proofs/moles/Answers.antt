@@ -1,11 +1,17 @@
 -- `question::moles` meets its contract. Assumes nothing.
-use mathlib.Core.Path.{refl}
+use mathlib.Core.Path.{◌∙◌, sym}
 use native.Mathlib.Nat.{min-le_right}
-use Rattle.question.proofs.Laws.{moles-by-mass, moles_as_given}
+use borrow.Author.Tests.{eq-eqb, ne_eqb}
+use Rattle.floats.specs.Outcome.{choose}
+use Rattle.question.specs.Asked.{moles_of}
+use Rattle.question.proofs.Laws.{normalize_vec}
 use Rattle.question.proofs.moles.Goals as goal
 
 pub returns-then-word-eq1 : goal.returns-then-word-eq1
-returns-then-word-eq1 c = moles-by-mass _ _ _ _ c.word.ensures (min-le_right _ 8) c.if-word-eq1.true c.over_masses-amounts.ensures c.normalize.ensures
+unfolding moles_of choose
+returns-then-word-eq1 c = rw (sym c.word.ensures, eq-eqb c.word.result 1 c.if-word-eq1.true)
+    (c.normalize.ensures ∙ rw c.over_masses.ensures (normalize_vec _ _ _ (min-le_right _ 8)))
 
-pub returns : goal.returns
-returns c = moles_as_given _ _ _ _ c.word.ensures c.if-word-eq1.false refl
+pub returns-else-word-eq1 : goal.returns-else-word-eq1
+unfolding moles_of choose
+returns-else-word-eq1 c = rw (sym c.word.ensures, ne_eqb c.word.result 1 c.if-word-eq1.false)

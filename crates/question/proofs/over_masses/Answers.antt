@@ -1,19 +1,12 @@
-use mathlib.Core.Path.{◌≡◌, refl}
-use native.Mathlib.Omega.{arith}
-use lib.ListN.{length-set}
+use mathlib.Core.Path.{refl}
 use Rattle.floats.specs.Vector.{fill}
-use Rattle.floats.proofs.Fills.{fill-turn, fill_done}
+use Rattle.floats.proofs.Fills.{fill-turn}
 use Rattle.question.proofs.over_masses.Goals as goal
 
 pub loop-i-init : goal.loop-i-init
 unfolding fill
-loop-i-init c = (omega arith, refl, refl)
+loop-i-init c = refl
 
 pub loop-i-preserved : goal.loop-i-preserved
 loop-i-preserved c = let m = rw c.block.ensures at c.float_at.ensures in
-    let loop = c.loop-i in
-    (omega arith, fill-turn _ _ _ (rw m) loop.invariant.1, simp length-set loop.invariant.2)
-
-pub returns : goal.returns
-returns c = let e : c.loop-i.i ≡ c.places-m.result = omega arith in
-    rw (← c.places-m.ensures) (fill_done _ _ _ _ e c.loop-i.invariant.1)
+    fill-turn _ _ _ (rw m) c.loop-i.invariant

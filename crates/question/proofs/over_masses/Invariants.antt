@@ -1,7 +1,5 @@
 -- `question::over_masses` meets its contract. The loop's invariant: the entries passed are filled. Assumes nothing.
-use Prim.Native.Nat.{◌≤◌, ◌-◌}
 use mathlib.Core.Path.{◌≡◌}
-use lib.ListN.{length}
 use Rattle.floats.specs.Arithmetic.{◌⊘◌}
 use Rattle.floats.specs.Vector.{at, vec}
 use Rattle.book.specs.Places.{words}
@@ -9,7 +7,4 @@ use Rattle.book.specs.Book.{molar_mass}
 use Rattle.question.proofs.over_masses.Given as goal
 
 abbrev pub invariant-loop-i : goal.invariant-loop-i
-invariant-loop-i l = (l.i ≤ l.m) × (l.moles ≡ vec (λ k. at l.x k ⊘ molar_mass (words l.book) k) l.i) × (length l.moles ≡ 8)
-
-abbrev pub decreases-loop-i : goal.decreases-loop-i
-decreases-loop-i l = l.m - l.i
+invariant-loop-i l = l.moles ≡ vec (λ k. at l.x k ⊘ molar_mass (words l.book) k) l.i

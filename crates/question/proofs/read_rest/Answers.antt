@@ -1,14 +1,23 @@
 -- `question::read_rest` meets its contract. Assumes nothing.
+use mathlib.Core.Path.{sym}
+use Rattle.floats.specs.Outcome.{bind}
+use Rattle.outcome.proofs.Exits.{met}
 use Rattle.question.specs.Asked.{rest_of}
-use Rattle.question.proofs.Laws.{inputs_no, inputs_yes}
+use Rattle.question.proofs.Laws.{inputs_behind, limits_behind}
 use Rattle.question.proofs.read_rest.Goals as goal
 
-pub returns-in-Refused : goal.returns-in-Refused
-unfolding rest_of
-returns-in-Refused c = rw (← c.floats_from-k.ensures)
-    (inputs_no _ _ _ _ _ c.check_inputs-verdict.ensures c.in-Refused.is c.refused.ensures)
+pub returns-in_err-check_inputs : goal.returns-in_err-check_inputs
+unfolding rest_of bind
+returns-in_err-check_inputs c = rw (← c.floats_from-k.ensures, inputs_behind, sym c.in_err-check_inputs.ensures, met _ c.from_residual.result c.from_residual.ensures.1)
 
-pub returns-in-Passed : goal.returns-in-Passed
-unfolding rest_of
-returns-in-Passed c = rw (← c.floats_from-k.ensures)
-    (inputs_yes _ _ _ _ _ c.check_inputs-verdict.ensures c.in-Passed.is c.read_moles.ensures)
+pub returns-in_err-z : goal.returns-in_err-z
+unfolding rest_of bind
+returns-in_err-z c = rw (← c.floats_from-k.ensures, inputs_behind, sym c.in_ok-check_inputs.ensures, sym c.in_err-z.ensures, met _ c.from_residual-in_err-z.result c.from_residual-in_err-z.ensures.1)
+
+pub returns-in_err-check_limits : goal.returns-in_err-check_limits
+unfolding rest_of bind
+returns-in_err-check_limits c = rw (← c.floats_from-k.ensures, inputs_behind, sym c.in_ok-check_inputs.ensures, sym c.in_ok-z.ensures, limits_behind, sym c.in_err-check_limits.ensures, met _ c.from_residual-in_err-check_limits.result c.from_residual-in_err-check_limits.ensures.1)
+
+pub returns : goal.returns
+unfolding rest_of bind
+returns c = rw (← c.floats_from-k.ensures, inputs_behind, sym c.in_ok-check_inputs.ensures, sym c.in_ok-z.ensures, limits_behind, sym c.in_ok-check_limits.ensures, c.question_from.ensures)

@@ -1,9 +1,5 @@
-use native.Mathlib.Omega.{arith}
-use Rattle.rachford_rice.proofs.Laws.{loop_start, loop_out, loop_stops, loop_last, loop_more}
+use Rattle.rachford_rice.proofs.Laws.{loop_out, loop_stops, loop_last, loop_more}
 use Rattle.rachford_rice.proofs.iterate.Goals as goal
-
-pub loop-done-init : goal.loop-done-init
-loop-done-init c = (omega arith, loop_start _ _ _ _ _ _ _)
 
 pub returns-then-not-is_finite : goal.returns-then-not-is_finite
 returns-then-not-is_finite c = search loop_stops
@@ -12,7 +8,7 @@ pub returns-then-turn : goal.returns-then-turn
 returns-then-turn c = search loop_last
 
 pub loop-done-preserved : goal.loop-done-preserved
-loop-done-preserved c = (omega arith, search loop_more)
+loop-done-preserved c = search loop_more
 
 pub returns : goal.returns
 returns c = search loop_out

@@ -1,5 +1,5 @@
 -- `rachford_rice::iterate` meets its contract. The loop's invariant: what is left to run from here gives the same as the whole run. Assumes nothing.
-use Prim.Native.Nat.{◌≤◌, ◌-◌}
+use Prim.Native.Nat.{◌-◌}
 use mathlib.Core.Path.{◌≡◌}
 use Rattle.floats.specs.Arithmetic.{½}
 use Rattle.floats.specs.Vector.{at}
@@ -7,8 +7,4 @@ use Rattle.rachford_rice.specs.Rachford.{iterate}
 use Rattle.rachford_rice.proofs.iterate.Given as goal
 
 abbrev pub invariant-loop-done : goal.invariant-loop-done
-invariant-loop-done l = (l.done ≤ l.limit)
-    × (iterate (at l.z) (at l.k) l.n (l.limit - l.done) l.done l.lo l.hi l.beta ≡ iterate (at l.z) (at l.k) l.n l.limit 0 l.low l.high ½)
-
-abbrev pub decreases-loop-done : goal.decreases-loop-done
-decreases-loop-done l = l.limit - l.done
+invariant-loop-done l = iterate (at l.z) (at l.k) l.n (l.limit - l.done) l.done l.lo l.hi l.beta ≡ iterate (at l.z) (at l.k) l.n l.limit 0 l.fn.lo l.fn.hi ½

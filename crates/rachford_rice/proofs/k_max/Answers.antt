@@ -1,23 +1,8 @@
-use mathlib.Core.Path.{refl}
-use native.Mathlib.Omega.{arith}
-use lib.Ieee.{nan_bits}
-use Rattle.floats.specs.Fold.{fold_to}
-use Rattle.floats.proofs.Folds.{fold_turn, fold_done}
+-- `rachford_rice::k_max` meets its contract: what is kept is what `floats::max` gives. Assumes nothing.
+use Rattle.floats.specs.Small.{max_of}
 use Rattle.rachford_rice.specs.Rachford.{k_max}
 use Rattle.rachford_rice.proofs.k_max.Goals as goal
 
-pub float_from_bits-s : goal.float_from_bits-s
-unfolding nan_bits
-float_from_bits-s c = tt
-
-pub loop-i-init : goal.loop-i-init
-unfolding k_max fold_to
-loop-i-init c = (omega arith, refl)
-
-pub loop-i-preserved : goal.loop-i-preserved
-unfolding k_max
-loop-i-preserved c = (omega arith, fold_turn _ _ _ c.max_term-s.ensures c.loop-i.invariant.1)
-
 pub returns : goal.returns
 unfolding k_max
-returns c = fold_done _ _ _ _ (omega arith) c.loop-i.invariant.1
+returns c = c.k_chosen.ensures max_of (λ a b r h. h)

@@ -7,11 +7,11 @@ use Rattle.rachford_rice.proofs.liquid_parts.Goals as goal
 
 pub loop-i-init : goal.loop-i-init
 unfolding fill
-loop-i-init c = (omega arith, refl)
+loop-i-init c = refl
 
 pub loop-i-preserved : goal.loop-i-preserved
 unfolding liquid_part
-loop-i-preserved c = (omega arith, fill-turn _ _ _ c.liquid_part.ensures c.loop-i.invariant.1)
+loop-i-preserved c = fill-turn _ _ _ c.liquid_part.ensures c.loop-i.invariant
 
 pub returns : goal.returns
-returns c = fill_done _ _ _ _ (omega arith) c.loop-i.invariant.1
+returns c = fill_done _ _ _ _ (omega arith) c.loop-i.invariant

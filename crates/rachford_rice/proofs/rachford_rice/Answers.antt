@@ -1,15 +1,48 @@
--- `rachford_rice::rachford_rice` meets its contract. Assumes nothing.
-use Rattle.rachford_rice.proofs.Laws.{classify_refused, classify_liquid, classify_vapor, classify_both}
+-- `rachford_rice::rachford_rice` meets its contract: by the tests, and then by g(0) and g(1). Assumes nothing.
+use Rattle.floats.specs.Outcome.{bind, choose}
+use Rattle.outcome.proofs.Exits.{met}
+use Rattle.rachford_rice.specs.Rachford.{constrained, negative}
+use Rattle.rachford_rice.proofs.Laws.{validate_then}
 use Rattle.rachford_rice.proofs.rachford_rice.Goals as goal
 
-pub returns-in-Refused : goal.returns-in-Refused
-returns-in-Refused c = search classify_refused
+pub returns-in_err-validate : goal.returns-in_err-validate
+unfolding constrained bind
+returns-in_err-validate c = rw (← validate_then, ← c.in_err-validate.ensures) (met c.in_err-validate.field-0.0 c.from_residual.result c.from_residual.ensures.1)
 
 pub returns-then-rachford_rice_residual : goal.returns-then-rachford_rice_residual
-returns-then-rachford_rice_residual c = search classify_liquid
+unfolding constrained bind choose
+returns-then-rachford_rice_residual c = rw (
+  ← validate_then,
+  ← c.in_ok-validate.ensures,
+  ← c.places-m.ensures,
+  ← c.rachford_rice_residual.ensures,
+  c.if-rachford_rice_residual.true,
+  c.one_phase.ensures,
+)
 
 pub returns-then-rachford_rice_residual-2 : goal.returns-then-rachford_rice_residual-2
-returns-then-rachford_rice_residual-2 c = search classify_vapor
+unfolding constrained bind choose
+returns-then-rachford_rice_residual-2 c = rw (
+  ← validate_then,
+  ← c.in_ok-validate.ensures,
+  ← c.places-m.ensures,
+  ← c.rachford_rice_residual.ensures,
+  c.if-rachford_rice_residual.false,
+  ← c.rachford_rice_residual-2.ensures,
+  c.if-rachford_rice_residual-2.true,
+  c.one_phase-then-rachford_rice_residual-2.ensures,
+)
 
 pub returns : goal.returns
-returns c = search classify_both
+unfolding constrained negative bind choose
+returns c = rw (
+  ← validate_then,
+  ← c.in_ok-validate.ensures,
+  ← validate_then,
+  ← c.in_ok-validate.ensures,
+  ← c.places-m.ensures,
+  ← c.rachford_rice_residual.ensures,
+  c.if-rachford_rice_residual.false,
+  ← c.rachford_rice_residual-2.ensures,
+  c.if-rachford_rice_residual-2.false,
+) c.between.ensures

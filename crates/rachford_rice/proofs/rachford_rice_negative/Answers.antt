@@ -1,9 +1,15 @@
 -- `rachford_rice::rachford_rice_negative` meets its contract. Assumes nothing.
-use Rattle.rachford_rice.proofs.Laws.{split-refused, split-passed}
+use mathlib.Core.Path.{sym}
+use Rattle.floats.specs.Outcome.{bind}
+use Rattle.outcome.proofs.Exits.{met}
+use Rattle.rachford_rice.specs.Rachford.{negative}
+use Rattle.rachford_rice.proofs.Laws.{validate_then}
 use Rattle.rachford_rice.proofs.rachford_rice_negative.Goals as goal
 
-pub returns-in-Refused : goal.returns-in-Refused
-returns-in-Refused c = search split-refused
+pub returns-in_err-validate : goal.returns-in_err-validate
+unfolding negative bind
+returns-in_err-validate c = rw (← validate_then, ← c.in_err-validate.ensures) (met c.in_err-validate.field-0.0 c.from_residual.result c.from_residual.ensures.1)
 
-pub returns-in-Passed : goal.returns-in-Passed
-returns-in-Passed c = search split-passed
+pub returns : goal.returns
+unfolding negative bind
+returns c = rw (← validate_then, ← c.in_ok-validate.ensures, ← c.places.ensures) c.between.ensures

@@ -1,18 +1,15 @@
+-- `rachford_rice::rachford_rice_residual` meets its contract: the fold over the entries. Assumes nothing.
 use mathlib.Core.Path.{refl}
-use native.Mathlib.Omega.{arith}
-use Rattle.floats.specs.Fold.{fold_to}
-use Rattle.floats.proofs.Folds.{fold_turn, fold_done}
-use Rattle.rachford_rice.specs.Rachford.{residual_of}
+use lib.Ieee.{Float}
+use Rattle.std.proofs.Common.{rules}
+use Rattle.floats.specs.Arithmetic.{◌⊕◌, ◌⊖◌, ◌⊗◌, ◌⊘◌, 0f, 1f}
+use Rattle.floats.specs.Fold.{active}
+use Rattle.floats.specs.Vector.{at}
+use Rattle.floats.proofs.Chains.{fold_of_range}
+use Rattle.rachford_rice.specs.Rachford.{over, residual_of}
 use Rattle.rachford_rice.proofs.rachford_rice_residual.Goals as goal
-
-pub loop-i-init : goal.loop-i-init
-unfolding residual_of fold_to
-loop-i-init c = (omega arith, refl)
-
-pub loop-i-preserved : goal.loop-i-preserved
-unfolding residual_of
-loop-i-preserved c = (omega arith, fold_turn _ _ _ c.residual_term-s.ensures c.loop-i.invariant.1)
 
 pub returns : goal.returns
 unfolding residual_of
-returns c = fold_done _ _ _ _ (omega arith) c.loop-i.invariant.1
+returns c = let z = at c.args.z.now in let k = at c.args.k.now in
+    fold_of_range (active z (λ i s. s ⊕ z i ⊗ (k i ⊖ 1f) ⊘ over k c.args.beta i)) 0f c.args.n refl c.fold.ensures.ran (λ s i r f q. search rules)

@@ -1,24 +1,17 @@
+-- `rachford_rice::residual_and_slope` meets its contract: the fold over the entries, taken apart. Assumes nothing.
 use mathlib.Core.Path.{refl}
-use native.Mathlib.Omega.{arith}
-use Rattle.floats.specs.Fold.{fold_to}
-use Rattle.floats.proofs.Folds.{fold_turn, fold_done}
-use Rattle.rachford_rice.specs.Rachford.{residual_of}
-use Rattle.rachford_rice.proofs.Laws.{slope-turn, slope_done, slope_sum}
+use Rattle.std.proofs.Common.{rules}
+use Rattle.floats.specs.Arithmetic.{0f}
+use Rattle.floats.specs.Fold.{active}
+use Rattle.floats.specs.Vector.{at}
+use Rattle.floats.proofs.Chains.{fold_of_range, folds_of_range}
+use Rattle.rachford_rice.proofs.Laws.{both_terms, residual-is, slope-is}
 use Rattle.rachford_rice.proofs.residual_and_slope.Goals as goal
 
-pub loop-i-init : goal.loop-i-init
-unfolding residual_of slope_sum fold_to
-loop-i-init c = (omega arith, refl, refl)
-
-pub loop-i-preserved : goal.loop-i-preserved
-unfolding residual_of
-loop-i-preserved c = (
-  omega arith,
-  fold_turn _ _ _ c.add_terms-s.ensures.residual_value c.loop-i.invariant.1,
-  slope-turn _ _ _ _
-      c.add_terms-s.ensures.slope_value c.loop-i.invariant.2,
-)
+pub fold-residual-requires-clause-callable : goal.fold-residual-requires-clause-callable
+fold-residual-requires-clause-callable c = folds_of_range (λ a x b q k. search rules) (λ a x l. search rules)
 
 pub returns : goal.returns
-unfolding residual_of
-returns c = record { residual_value = fold_done _ _ _ _ (omega arith) c.loop-i.invariant.1; slope_value = slope_done _ _ _ _ _ (omega arith) c.loop-i.invariant.2 }
+returns c = let z = at c.args.z.now in let k = at c.args.k.now in let β = c.args.beta in let n = c.args.n in
+    let e = fold_of_range (active z (both_terms z k β n)) (0f, 0f) n refl c.fold-residual.ensures.ran (λ s i r f q. search rules) in
+    record { residual_value = residual-is z k β n e; slope_value = slope-is z k β n e }

@@ -1,4 +1,3 @@
--- `rachford_rice::solution` meets its contract. Assumes nothing.
 use Rattle.rachford_rice.proofs.Laws.{solution-is}
 use Rattle.rachford_rice.proofs.solution.Goals as goal
 

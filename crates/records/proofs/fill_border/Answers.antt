@@ -6,10 +6,10 @@ use Rattle.records.proofs.fill_border.Goals as goal
 
 pub loop-j-init : goal.loop-j-init
 unfolding fold_to
-loop-j-init c = (omega arith, refl)
+loop-j-init c = refl
 
 pub loop-j-preserved : goal.loop-j-preserved
-loop-j-preserved c = (omega arith, fold_turn _ _ _ c.fill_both.ensures c.loop-j.invariant.1)
+loop-j-preserved c = fold_turn _ _ _ c.fill_both.ensures c.loop-j.invariant
 
 pub returns : goal.returns
-returns c = fold_done _ _ _ _ (omega arith) c.loop-j.invariant.1
+returns c = fold_done _ _ _ _ (omega arith) c.loop-j.invariant

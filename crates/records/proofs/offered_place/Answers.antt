@@ -2,19 +2,17 @@
 use native.Mathlib.Omega.{arith}
 use Rattle.records.proofs.Offered.{place-cut, place_order, place-past, place_found, place_short}
 use Rattle.records.proofs.offered_place.Goals as goal
+use Rattle.records.proofs.offered_place.Goals.{then-j-i-via-then-j-i, then-j-i-via-else-j-i+then-m-j}
 
 pub returns-then-offered-ne512 : goal.returns-then-offered-ne512
 returns-then-offered-ne512 c = place-cut _ _ _ c.if-offered-ne512.true
 
 pub returns-then-j-i : goal.returns-then-j-i
-returns-then-j-i c = place_order _ _ _ c.if-offered-ne512.false c.word-i.ensures c.word-j.ensures c.places-m.ensures c.if-j-i.true
-
-pub returns-then-m-j : goal.returns-then-m-j
-returns-then-m-j c = place-past _ _ _ c.if-offered-ne512.false c.word-i.ensures c.word-j.ensures c.places-m.ensures c.if-j-i.false c.if-m-j.true
-
-pub pair_place-place-requires : goal.pair_place-place-requires
-pair_place-place-requires c = let few = c.places-m.ensures in
-    omega (arith, few)
+returns-then-j-i c =
+    elim c.then-j-i.branch [
+      | then-j-i-via-then-j-i w ↦ place_order _ _ _ c.if-offered-ne512.false c.word-i.ensures c.word-j.ensures c.places-m.ensures w.if-j-i.true
+      | then-j-i-via-else-j-i+then-m-j w ↦ place-past _ _ _ c.if-offered-ne512.false c.word-i.ensures c.word-j.ensures c.places-m.ensures w.if-j-i.false w.if-m-j.true
+    ]
 
 pub returns-then-place-book : goal.returns-then-place-book
 returns-then-place-book c = place_found _ _ _ c.if-offered-ne512.false c.word-i.ensures c.word-j.ensures c.places-m.ensures c.if-j-i.false c.if-m-j.false

@@ -1,12 +1,8 @@
 -- `replies::put_floats` meets its contract. The loop's invariant: the words passed are stored. Assumes nothing.
-use Prim.Native.Nat.{◌≤◌, ◌-◌}
 use mathlib.Core.Path.{◌≡◌}
 use Rattle.floats.specs.Small.{bits_of}
 use Rattle.floats.specs.Vector.{at, fill_from}
 use Rattle.replies.proofs.put_floats.Given as goal
 
 abbrev pub invariant-loop-i : goal.invariant-loop-i
-invariant-loop-i l = (l.i ≤ 8) × (l.ws ≡ fill_from (λ k. bits_of (at l.x k)) l.from l.i l.initial.ws)
-
-abbrev pub decreases-loop-i : goal.decreases-loop-i
-decreases-loop-i l = 8 - l.i
+invariant-loop-i l = l.ws ≡ fill_from (λ k. bits_of (at l.x k)) l.from l.i l.initial.ws

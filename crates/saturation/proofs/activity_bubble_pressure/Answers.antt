@@ -1,18 +1,38 @@
 -- `saturation::activity_bubble_pressure` meets its contract. Assumes nothing.
-use Rattle.saturation.proofs.Laws.{task-no-activity, task-refused, task-outside, task_infinite, task_good}
+use Rattle.floats.specs.Outcome.{bind, need}
+use Rattle.outcome.proofs.Exits.{met}
+use Rattle.thermo_models.proofs.Answers.{activity-passed, activity-refused}
+use Rattle.saturation.specs.Saturation.{bubble_at, residual, bubble_task}
 use Rattle.saturation.proofs.activity_bubble_pressure.Goals as goal
 
-pub returns-in-Refused : goal.returns-in-Refused
-returns-in-Refused c = search task-no-activity
+pub returns-in_err-activity : goal.returns-in_err-activity
+unfolding bubble_task bubble_at bind
+returns-in_err-activity c = rw (met c.in_err-activity.field-0.0 c.from_residual.result c.from_residual.ensures.1, activity-refused _ c.in_err-activity.ensures)
 
-pub returns-in-Refused-positive : goal.returns-in-Refused-positive
-returns-in-Refused-positive c = search task-refused
+pub returns-in_err-pressure : goal.returns-in_err-pressure
+unfolding bubble_task bubble_at bind
+returns-in_err-pressure c =
+    rw (
+      met c.in_err-pressure.field-0.0 c.from_residual-in_err-pressure.result c.from_residual-in_err-pressure.ensures.1,
+      activity-passed _ c.in_ok-activity.ensures,
+      ← c.in_err-pressure.ensures,
+    )
 
 pub returns-then-not-check_pressure : goal.returns-then-not-check_pressure
-returns-then-not-check_pressure c = search task-outside
+unfolding bubble_task bubble_at bind need
+returns-then-not-check_pressure c = rw (activity-passed _ c.in_ok-activity.ensures, ← c.in_ok-pressure.ensures, ← c.if-not-check_pressure.ensures)
 
-pub returns-in-Refused-finite : goal.returns-in-Refused-finite
-returns-in-Refused-finite c = search task_infinite
+pub returns-in_err-residual : goal.returns-in_err-residual
+unfolding bubble_task bubble_at residual bind need
+returns-in_err-residual c =
+    rw (
+      met c.in_err-residual.field-0.0 c.from_residual-in_err-residual.result c.from_residual-in_err-residual.ensures.1,
+      activity-passed _ c.in_ok-activity.ensures,
+      ← c.in_ok-pressure.ensures,
+      ← c.if-not-check_pressure.ensures,
+      ← c.in_err-residual.ensures,
+    )
 
-pub returns-in-Passed-finite : goal.returns-in-Passed-finite
-returns-in-Passed-finite c = search task_good
+pub returns : goal.returns
+unfolding bubble_task bubble_at residual bind need
+returns c = rw (activity-passed _ c.in_ok-activity.ensures, ← c.in_ok-pressure.ensures, ← c.if-not-check_pressure.ensures, ← c.in_ok-residual.ensures, ← c.value.ensures)

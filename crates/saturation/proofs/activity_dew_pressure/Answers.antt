@@ -1,12 +1,17 @@
 -- `saturation::activity_dew_pressure` meets its contract. Assumes nothing.
-use Rattle.saturation.proofs.Laws.{found-refused, found-outside, found_good}
+use Rattle.floats.specs.Outcome.{bind, need}
+use Rattle.outcome.proofs.Exits.{met}
+use Rattle.saturation.specs.Saturation.{dew_task}
 use Rattle.saturation.proofs.activity_dew_pressure.Goals as goal
 
-pub returns-in-Refused : goal.returns-in-Refused
-returns-in-Refused c = search found-refused
+pub returns-in_err-pressure : goal.returns-in_err-pressure
+unfolding dew_task bind
+returns-in_err-pressure c = rw (met c.in_err-pressure.field-0.0 c.from_residual.result c.from_residual.ensures.1, ← c.in_err-pressure.ensures)
 
 pub returns-then-not-check_pressure : goal.returns-then-not-check_pressure
-returns-then-not-check_pressure c = search found-outside
+unfolding dew_task bind need
+returns-then-not-check_pressure c = rw (← c.in_ok-pressure.ensures, ← c.if-not-check_pressure.ensures)
 
 pub returns : goal.returns
-returns c = search found_good
+unfolding dew_task bind need
+returns c = rw (← c.in_ok-pressure.ensures, ← c.if-not-check_pressure.ensures, ← c.value.ensures)

@@ -1,17 +1,19 @@
-use Rattle.saturation.proofs.Laws.{loop_start, loop_out, loop_refused, loop_done, loop_more}
+-- `saturation::dew_at` meets its contract. Assumes nothing.
+use Rattle.outcome.proofs.Exits.{met}
+use Rattle.saturation.proofs.Laws.{loop_start, loop_out, loop-refused, loop_done, loop_more}
 use Rattle.saturation.proofs.dew_at.Goals as goal
 
 pub loop-done-init : goal.loop-done-init
 loop-done-init c = search loop_start
 
-pub returns-in-Refused : goal.returns-in-Refused
-returns-in-Refused c = search loop_refused
+pub returns-in_err-turn : goal.returns-in_err-turn
+returns-in_err-turn c = rw (met c.in_err-turn.field-0.0 c.from_residual.result c.from_residual.ensures.1) (loop-refused _ _ _ _ _ _ _ _ c.loop-done.invariant c.loop-done-test.true c.in_err-turn.ensures)
 
-pub returns-then-step-o : goal.returns-then-step-o
-returns-then-step-o c = search loop_done
+pub returns-then-turn-o : goal.returns-then-turn-o
+returns-then-turn-o c = rw c.dew_point.ensures (loop_done _ _ _ _ _ _ _ _ c.loop-done.invariant c.loop-done-test.true c.in_ok-turn.ensures c.if-turn-o.true)
 
 pub loop-done-preserved : goal.loop-done-preserved
-loop-done-preserved c = search loop_more
+loop-done-preserved c = loop_more _ _ _ _ _ _ _ _ c.loop-done.invariant c.loop-done-test.true c.in_ok-turn.ensures c.if-turn-o.false
 
 pub returns : goal.returns
 returns c = search loop_out

@@ -1,15 +1,24 @@
 -- `saturation::dew_point` meets its contract. Assumes nothing.
-use Rattle.saturation.proofs.Laws.{point_vanished, point_refused, point_infinite, point_good}
+use Rattle.floats.specs.Outcome.{bind}
+use Rattle.outcome.proofs.Exits.{met}
+use Rattle.saturation.proofs.Laws.{places_is, point-from}
 use Rattle.saturation.proofs.dew_point.Goals as goal
 
-pub returns-in-Refused : goal.returns-in-Refused
-returns-in-Refused c = search point_vanished
+pub returns-in_err-pressure : goal.returns-in_err-pressure
+unfolding bind
+returns-in_err-pressure c = rw (met c.in_err-pressure.field-0.0 c.from_residual.result c.from_residual.ensures.1, point-from, ← c.in_err-pressure.ensures)
 
-pub returns-in-Refused-verdict : goal.returns-in-Refused-verdict
-returns-in-Refused-verdict c = search point_refused
+pub returns-in_err-residual : goal.returns-in_err-residual
+unfolding bind
+returns-in_err-residual c =
+    rw (
+      met c.in_err-residual.field-0.0 c.from_residual-in_err-residual.result c.from_residual-in_err-residual.ensures.1,
+      point-from,
+      ← c.in_ok-pressure.ensures,
+      ← places_is _ c.requires,
+      ← c.in_err-residual.ensures,
+    )
 
-pub returns-in-Refused-finite : goal.returns-in-Refused-finite
-returns-in-Refused-finite c = search point_infinite
-
-pub returns-in-Passed-finite : goal.returns-in-Passed-finite
-returns-in-Passed-finite c = search point_good
+pub returns : goal.returns
+unfolding bind
+returns c = rw (point-from, ← c.in_ok-pressure.ensures, ← places_is _ c.requires, ← c.in_ok-residual.ensures)

@@ -1,18 +1,19 @@
 -- `saturation::dew_turn` meets its contract. Assumes nothing.
-use Rattle.saturation.proofs.Laws.{turn_vanished, turn-refused, turn-change, turn-pressure, turn_good}
+use Rattle.floats.specs.Outcome.{bind, need}
+use Rattle.outcome.proofs.Exits.{met}
+use Rattle.saturation.proofs.Laws.{tests, turn-from}
 use Rattle.saturation.proofs.dew_turn.Goals as goal
 
-pub returns-in-Refused : goal.returns-in-Refused
-returns-in-Refused c = search turn_vanished
-
-pub returns-in-Refused-verdict : goal.returns-in-Refused-verdict
-returns-in-Refused-verdict c = search turn-refused
+pub returns-in_err-pressure : goal.returns-in_err-pressure
+unfolding bind
+returns-in_err-pressure c = rw (met c.in_err-pressure.field-0.0 c.from_residual.result c.from_residual.ensures.1, turn-from, ← c.in_err-pressure.ensures)
 
 pub returns-then-not-is_finite : goal.returns-then-not-is_finite
-returns-then-not-is_finite c = search turn-change
-
-pub returns-then-not-is_finite-2 : goal.returns-then-not-is_finite-2
-returns-then-not-is_finite-2 c = search turn-pressure
+unfolding bind need
+returns-then-not-is_finite c =
+    rw (turn-from, ← c.in_ok-pressure.ensures, ← c.largest_change-change.ensures, ← c.is_finite.ensures, ← c.is_finite-2.ensures, tests, c.if-not-is_finite.true)
 
 pub returns : goal.returns
-returns c = search turn_good
+unfolding bind need
+returns c =
+    rw (turn-from, ← c.in_ok-pressure.ensures, ← c.largest_change-change.ensures, ← c.is_finite.ensures, ← c.is_finite-2.ensures, tests, c.if-not-is_finite.false, ← c.largest_change-change.ensures)

@@ -1,11 +1,7 @@
 -- `saturation::largest_change` meets its contract. Assumes nothing.
-use Prim.Native.Nat.{◌≤◌, ◌-◌}
 use mathlib.Core.Path.{◌≡◌}
 use Rattle.saturation.specs.Saturation.{change_of}
 use Rattle.saturation.proofs.largest_change.Given as goal
 
 abbrev pub invariant-loop-i : goal.invariant-loop-i
-invariant-loop-i l = (l.i ≤ l.n) × (l.r ≡ change_of l.y l.new l.old l.i)
-
-abbrev pub decreases-loop-i : goal.decreases-loop-i
-decreases-loop-i l = l.n - l.i
+invariant-loop-i l = l.r ≡ change_of l.y l.new l.old l.i

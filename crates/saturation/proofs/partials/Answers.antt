@@ -7,12 +7,12 @@ use Rattle.saturation.proofs.partials.Goals as goal
 
 pub loop-i-init : goal.loop-i-init
 unfolding fill
-loop-i-init c = (omega arith, refl)
+loop-i-init c = refl
 
 pub loop-i-preserved : goal.loop-i-preserved
 unfolding partial_of
 loop-i-preserved c = let γ : _ = c.exps-gamma.ensures c.loop-i.i (omega arith) in
-    (omega arith, fill-turn _ _ _ (rw γ at c.partial.ensures) c.loop-i.invariant.1)
+    fill-turn _ _ _ (rw γ at c.partial.ensures) c.loop-i.invariant
 
 pub returns : goal.returns
-returns c = fill_done _ _ _ _ (omega arith) c.loop-i.invariant.1
+returns c = fill_done _ _ _ _ (omega arith) c.loop-i.invariant

@@ -1,14 +1,21 @@
-use Rattle.std.proofs.Common.{refl, arith, rules}
+use Rattle.std.proofs.Common.{refl, arith}
 use Rattle.floats.proofs.Folds.{fold_turn, fold_done}
 use Rattle.floats.specs.Fold.{fold_to}
 use Rattle.saturation_temperature.proofs.dew_slope.Goals as goal
+use Rattle.saturation_temperature.proofs.dew_slope.Goals.{then-y-i, else-y-i}
 
 pub loop-i-init : goal.loop-i-init
 unfolding fold_to
-loop-i-init c = (omega arith, refl)
+loop-i-init c = refl
 
 pub loop-i-preserved : goal.loop-i-preserved
-loop-i-preserved c = (omega arith, fold_turn _ _ _ c.sloped-s.ensures (search rules))
+loop-i-preserved c =
+    fold_turn _ _ _
+    (elim c.if-y-i.branch [
+      | then-y-i w ↦ rw (w.if-y-i.true, w.s-is)
+      | else-y-i w ↦ rw (w.if-y-i.false, w.s-is)
+    ])
+    c.loop-i.invariant
 
 pub returns : goal.returns
-returns c = fold_done _ _ _ _ (omega arith) c.loop-i.invariant.1
+returns c = fold_done _ _ _ _ (omega arith) c.loop-i.invariant

@@ -1,9 +1,13 @@
 -- `saturation_temperature::dew_with` meets its contract. Assumes nothing.
-use Rattle.saturation_temperature.proofs.Points.{dew_infinite, dew_good}
+use Rattle.floats.specs.Outcome.{bind}
+use Rattle.outcome.proofs.Exits.{met}
+use Rattle.saturation_temperature.specs.Boiling.{dew_saturation}
 use Rattle.saturation_temperature.proofs.dew_with.Goals as goal
 
-pub returns-in-Refused : goal.returns-in-Refused
-returns-in-Refused c = λ E o e u. search dew_infinite
+pub returns-in_err-gap : goal.returns-in_err-gap
+unfolding dew_saturation bind
+returns-in_err-gap c = λ E o e. rw (met c.in_err-gap.field-0.0 c.from_residual.result c.from_residual.ensures.1, e, ← c.in_err-gap.ensures)
 
-pub returns-in-Passed : goal.returns-in-Passed
-returns-in-Passed c = λ E o e u. search dew_good
+pub returns : goal.returns
+unfolding dew_saturation bind
+returns c = λ E o e. rw (e, ← c.in_ok-gap.ensures, ← c.ln.ensures, ← c.abs.ensures, ← c.max.ensures)

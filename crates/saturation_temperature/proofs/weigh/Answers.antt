@@ -1,13 +1,30 @@
-use Rattle.std.proofs.Common.{arith}
-use Rattle.saturation_temperature.proofs.Points.{weighed-none, weighed-turn, weighed_done}
+use Rattle.std.proofs.Common.{◌≡◌, arith, refl}
+use Rattle.floats.specs.Fold.{fold_to}
+use Rattle.floats.proofs.Folds.{fold_turn}
+use Rattle.saturation_temperature.specs.Boiling.{weight_sum, weight_slope}
 use Rattle.saturation_temperature.proofs.weigh.Goals as goal
+use Rattle.saturation_temperature.proofs.weigh.Goals.{then-x-i, else-x-i}
 
 pub loop-i-init : goal.loop-i-init
-loop-i-init c = (omega arith, weighed-none _ _ _ _ _)
+unfolding weight_sum weight_slope fold_to
+loop-i-init c = record { sum = refl; slopes = refl }
 
 pub loop-i-preserved : goal.loop-i-preserved
-loop-i-preserved c = let γ : _ = c.exps-gamma.ensures c.loop-i.i (omega arith) in
-    (omega arith, weighed-turn _ _ _ _ _ _ γ c.weighed-s.ensures c.loop-i.invariant.1)
+unfolding weight_sum weight_slope
+loop-i-preserved c =
+    let γ : _ = c.exps-gamma.ensures c.loop-i.i (omega arith) in
+    elim c.if-x-i.branch [
+      | then-x-i w ↦ record {
+        sum = fold_turn _ _ _ (rw (w.if-x-i.true, w.sum-is, γ)) c.loop-i.invariant.sum;
+        slopes = fold_turn _ _ _ (rw (w.if-x-i.true, w.slope-is, γ)) c.loop-i.invariant.slopes;
+      }
+      | else-x-i w ↦ record {
+        sum = fold_turn _ _ _ (rw (w.if-x-i.false, w.sum-is)) c.loop-i.invariant.sum;
+        slopes = fold_turn _ _ _ (rw (w.if-x-i.false, w.slope-is)) c.loop-i.invariant.slopes;
+      }
+    ]
 
 pub returns : goal.returns
-returns c = weighed_done _ _ _ _ _ _ _ (omega arith) c.loop-i.invariant.1
+returns c =
+    let e : c.loop-i.i ≡ c.args.n = omega arith in
+    rw e at c.loop-i.invariant

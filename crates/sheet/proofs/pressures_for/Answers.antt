@@ -1,24 +1,23 @@
 -- `sheet::pressures_for` meets its contract. Assumes nothing.
-use Rattle.sheet.proofs.Shared.{pascal-no, pascal-ok, pressures-same, pressures-none, pressures-no, pressures-unread, pressures-pure, pressures-other}
-use mathlib.Core.Path.{◌∙◌}
-use mathlib.Core.Logic.{◌⊎◌, inl, inr}
-use Prim.Native.Nat.{◌≤◌, ◌<◌}
-use native.Mathlib.Omega.{arith}
-use Rattle.floats.proofs.Outcomes.{bind-no, bind_yes}
+use mathlib.Core.Path.{sym, ◌∙◌}
+use Rattle.floats.proofs.Outcomes.{bind_yes, bind-no}
+use Rattle.outcome.proofs.Exits.{met}
+use Rattle.sheet.proofs.Shared.{pascal-no, pascal-ok}
+use Rattle.sheet.proofs.Dispatch.{pressures-unread, pressures-pure, pressures-rest}
 use Rattle.sheet.proofs.pressures_for.Goals as goal
-use Rattle.sheet.proofs.pressures_for.Goals.{in_default-via-then-task-lt1, in_default-via-else-task-lt1+else-task-lt4}
 
-pub returns-in-1 : goal.returns-in-1
-returns-in-1 c P copy = pressures-none _ (pressures-unread _ _ _ c.in-1.is)
+pub returns-in-Activity : goal.returns-in-Activity
+returns-in-Activity c P copy = sym (pressures-unread _ _ _ _ _ c.unwrap_or.ensures c.try_from.ensures c.in-Activity.is)
 
-pub returns-in-2 : goal.returns-in-2
-returns-in-2 c P copy = pressures-same (pressures-pure _ _ _ c.in-2.in_default-own.rest.1 (omega arith) (omega arith)) c.pure_pressures.ensures
+pub returns-in-BubblePressure : goal.returns-in-BubblePressure
+returns-in-BubblePressure c P copy = c.pure_pressures.ensures ∙ sym (pressures-pure _ _ _ _ _ c.unwrap_or.ensures c.try_from.ensures c.in-BubblePressure.is)
 
-pub returns-in-No : goal.returns-in-No
-returns-in-No c P copy = let a : (c.args.task < 1) ⊎ (4 ≤ c.args.task) = elim c.in_default.branch [ in_default-via-then-task-lt1 w ↦ inl (omega arith) | in_default-via-else-task-lt1+else-task-lt4 w ↦ inr (omega arith) ] in
-    pressures-no _ (pressures-other _ _ _ c.in_default-1.rest.1 a ∙ bind-no _ (pascal-no _ c.new-made.ensures c.in-No.is))
+pub returns-in_err-p-in_default : goal.returns-in_err-p-in_default
+returns-in_err-p-in_default c P copy = let n = c.in_default in
+    let r = pressures-rest _ _ _ _ _ c.unwrap_or.ensures c.try_from.ensures n.not-Activity n.not-BubblePressure n.not-DewPressure n.not-Stability in
+    met _ c.from_residual.result c.from_residual.ensures.1 ∙ sym (r ∙ bind-no _ (pascal-no _ c.in_err-p-in_default.ensures))
 
-pub returns-in-Valid : goal.returns-in-Valid
-returns-in-Valid c P copy = let a : (c.args.task < 1) ⊎ (4 ≤ c.args.task) = elim c.in_default.branch [ in_default-via-then-task-lt1 w ↦ inl (omega arith) | in_default-via-else-task-lt1+else-task-lt4 w ↦ inr (omega arith) ] in
-    let o = pressures-other _ _ _ c.in_default-1.rest.1 a in
-    pressures-same (o ∙ bind_yes _ (pascal-ok _ c.new-made.ensures c.in-Valid.is)) (c.flash_pressures.ensures P copy)
+pub returns-in_ok-p-in_default : goal.returns-in_ok-p-in_default
+returns-in_ok-p-in_default c P copy = let n = c.in_default in
+    let r = pressures-rest _ _ _ _ _ c.unwrap_or.ensures c.try_from.ensures n.not-Activity n.not-BubblePressure n.not-DewPressure n.not-Stability in
+    c.flash_pressures.ensures P copy ∙ sym (r ∙ bind_yes _ (pascal-ok _ c.in_ok-p-in_default.ensures))

@@ -1,12 +1,17 @@
 -- `sheet::ready_offered` meets its contract. Assumes nothing.
-use Rattle.sheet.proofs.Shared.{pressures-copied, ready_cold, ready_refused, ready_made}
+use mathlib.Core.Path.{◌∙◌}
+use Rattle.floats.proofs.Outcomes.{bind_yes, bind-no}
+use Rattle.sheet.proofs.Shared.{kelvin-no, kelvin-ok, pressures-copied, made-no, made-ok}
 use Rattle.sheet.proofs.ready_offered.Goals as goal
 
-pub returns-in-No : goal.returns-in-No
-returns-in-No c l = search ready_cold
+pub returns-in_err-t : goal.returns-in_err-t
+returns-in_err-t c l = made-no _ _ _ _ _ _ c.from_residual.ensures.1 (bind-no _ (kelvin-no _ c.in_err-t.ensures))
 
-pub returns-in-Refused : goal.returns-in-Refused
-returns-in-Refused c l = ready_refused _ _ _ _ c.new-made.ensures c.in-Valid.is (pressures-copied _ _ _ _ _ _ c.pressures_for-verdict.ensures) c.in-Refused.is
+pub returns-in_err-ps : goal.returns-in_err-ps
+returns-in_err-ps c l = let p = pressures-copied _ _ _ _ _ _ c.in_err-ps.ensures in
+    made-no _ _ _ _ _ _ c.from_residual-in_err-ps.ensures.1 (bind_yes _ (kelvin-ok _ c.in_ok-t.ensures) ∙ p)
 
-pub returns-in-Passed : goal.returns-in-Passed
-returns-in-Passed c l = ready_made _ _ _ _ c.new-made.ensures c.in-Valid.is (pressures-copied _ _ _ _ _ _ c.pressures_for-verdict.ensures) c.in-Passed.is (c.tables_at.ensures l)
+pub returns : goal.returns
+returns c l = let a = c.tables_at.ensures l in
+    let p = pressures-copied _ _ _ _ _ _ c.in_ok-ps.ensures in
+    made-ok _ _ _ _ (rw a.0 (kelvin-ok _ c.in_ok-t.ensures)) (rw a.0 p) a.1

@@ -1,10 +1,16 @@
 -- `sheet::task_7` meets its contract. Assumes nothing.
+use mathlib.Core.Path.{sym, ◌∙◌}
 use native.Mathlib.Omega.{arith}
-use Rattle.sheet.proofs.Replies.{flash_fits, flash_says}
+use Rattle.floats.proofs.Outcomes.{bind_yes, bind-no}
+use Rattle.sheet.proofs.Laws.{same_as, quits}
+use Rattle.sheet.proofs.Replies.{flash-at, flash_fits}
 use Rattle.sheet.proofs.task_7.Goals as goal
 
+pub returns-in_err-f : goal.returns-in_err-f
+returns-in_err-f c m h w = quits _ _ c.from_residual.ensures.1 (bind-no _ (flash-at _ h _ w ∙ bind-no _ (sym c.in_err-f.ensures)))
+
 pub write_answer-requires : goal.write_answer-requires
-write_answer-requires c = let z = flash_fits _ _ _ _ _ _ c.activity_tp_flash-f.ensures c.flash_block-b.ensures in (z.0, z.1, omega arith)
+write_answer-requires c = (rw c.flash_block-b.ensures (flash_fits _ _ _ _ _ _ c.in_ok-f.ensures), omega arith)
 
 pub returns : goal.returns
-returns c m h w = search (flash_says, h, w)
+returns c m h w = same_as (bind_yes _ (flash-at _ h _ w ∙ bind_yes _ (sym c.in_ok-f.ensures))) (rw (c.flash_block-b.ensures, c.value.ensures, c.value-2.ensures) at c.write_answer.ensures)

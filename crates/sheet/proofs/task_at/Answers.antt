@@ -1,21 +1,63 @@
 -- `sheet::task_at` meets its contract. Assumes nothing.
-use Rattle.sheet.proofs.Dispatch.{at_1, bubble-at, dew-at, at_6, at_rest}
-use Rattle.sheet.proofs.Shared.{pressures-rest}
-use mathlib.Core.Path.{sym, ◌∙◌}
+use mathlib.Core.Path.{sym, ap, ◌∙◌}
+use mathlib.Core.Logic.{inl, inr}
+use Rattle.floats.proofs.Outcomes.{bind_yes, bind-no}
+use Rattle.sheet.specs.Tasks.{saturated}
+use Rattle.sheet.specs.Sheet.{replied}
+use Rattle.sheet.proofs.Laws.{same_as, quits}
+use Rattle.sheet.proofs.Shared.{pascal-no, pascal-ok}
+use Rattle.sheet.proofs.Replies.{bubble-at, dew-at}
+use Rattle.sheet.proofs.Dispatch.{at_1, at_2, at_3, at_6, at_rest, pressures-pure, pressures-rest}
 use Rattle.sheet.proofs.task_at.Goals as goal
 
-pub returns-in-1 : goal.returns-in-1
-returns-in-1 c h w = at_1 _ _ _ _ c.in-1.is (c.task_1.ensures h)
+pub returns-in-Activity : goal.returns-in-Activity
+returns-in-Activity c h w = same_as (ap (replied _ _) (at_1 _ _ _ _ c.unwrap_or.ensures c.try_from.ensures c.in-Activity.is)) (c.task_1.ensures h)
 
-pub returns-in-2 : goal.returns-in-2
-returns-in-2 c h w = search (bubble-at, h, w)
+pub returns-in_err-point-in-BubblePressure : goal.returns-in_err-point-in-BubblePressure
+unfolding saturated
+returns-in_err-point-in-BubblePressure c h w = let d = c.unwrap_or.ensures in
+    let e = c.try_from.ensures in
+    let k = c.in-BubblePressure.is in
+    let b = sym (pressures-pure _ _ _ _ _ d e (inl k)) ∙ w in
+    quits _ _ c.from_residual.ensures.1 (bind-no _ (at_2 _ _ _ _ d e k ∙ bubble-at _ h b ∙ bind-no _ (sym c.in_err-point-in-BubblePressure.ensures)))
 
-pub returns-in-3 : goal.returns-in-3
-returns-in-3 c h w = search (dew-at, h, w)
+pub returns-in_ok-point-in-BubblePressure : goal.returns-in_ok-point-in-BubblePressure
+unfolding saturated
+returns-in_ok-point-in-BubblePressure c h w = let d = c.unwrap_or.ensures in
+    let e = c.try_from.ensures in
+    let k = c.in-BubblePressure.is in
+    let b = sym (pressures-pure _ _ _ _ _ d e (inl k)) ∙ w in
+    same_as (bind_yes _ (at_2 _ _ _ _ d e k ∙ bubble-at _ h b ∙ bind_yes _ (sym c.in_ok-point-in-BubblePressure.ensures))) (rw c.saturation_block.ensures at c.write_alone.ensures)
 
-pub returns-in-6 : goal.returns-in-6
-returns-in-6 c h w = at_6 _ _ _ _ c.in-6.is (c.task_6.ensures _ h)
+pub returns-in_err-point-in-DewPressure : goal.returns-in_err-point-in-DewPressure
+unfolding saturated
+returns-in_err-point-in-DewPressure c h w = let d = c.unwrap_or.ensures in
+    let e = c.try_from.ensures in
+    let k = c.in-DewPressure.is in
+    let b = sym (pressures-pure _ _ _ _ _ d e (inr k)) ∙ w in
+    quits _ _ c.from_residual-in_err-point-in-DewPressure.ensures.1 (bind-no _ (at_3 _ _ _ _ d e k ∙ dew-at _ h b ∙ bind-no _ (sym c.in_err-point-in-DewPressure.ensures)))
 
-pub returns-in_default : goal.returns-in_default
-returns-in_default c h w = let n = c.in_default.in_default-own.rest in
-    at_rest _ _ _ _ n.0.0.0.1 n.0.0.1 n.0.1 n.1 (c.task_at_pressure.ensures _ h (sym (pressures-rest _ _ _ n.0.0.0.1 n.1 n.0.0.1 n.0.1) ∙ w))
+pub returns-in_ok-point-in-DewPressure : goal.returns-in_ok-point-in-DewPressure
+unfolding saturated
+returns-in_ok-point-in-DewPressure c h w = let d = c.unwrap_or.ensures in
+    let e = c.try_from.ensures in
+    let k = c.in-DewPressure.is in
+    let b = sym (pressures-pure _ _ _ _ _ d e (inr k)) ∙ w in
+    same_as (bind_yes _ (at_3 _ _ _ _ d e k ∙ dew-at _ h b ∙ bind_yes _ (sym c.in_ok-point-in-DewPressure.ensures))) (rw c.saturation_block-in-DewPressure.ensures at c.write_alone-in-DewPressure.ensures)
+
+pub returns-in-Stability : goal.returns-in-Stability
+returns-in-Stability c h w = same_as (ap (replied _ _) (at_6 _ _ _ _ c.unwrap_or.ensures c.try_from.ensures c.in-Stability.is)) (c.task_6.ensures _ h)
+
+pub returns-in_err-p-in_default : goal.returns-in_err-p-in_default
+returns-in_err-p-in_default c h w = let n = c.in_default in
+    let r = at_rest _ _ _ _ c.unwrap_or.ensures c.try_from.ensures n.not-Activity n.not-BubblePressure n.not-DewPressure n.not-Stability in
+    quits _ _ c.from_residual-in_err-p-in_default.ensures.1 (bind-no _ (r ∙ bind-no _ (pascal-no _ c.in_err-p-in_default.ensures)))
+
+pub returns-in_ok-p-in_default : goal.returns-in_ok-p-in_default
+returns-in_ok-p-in_default c h w = let d = c.unwrap_or.ensures in
+    let e = c.try_from.ensures in
+    let n = c.in_default in
+    let o = pascal-ok _ c.in_ok-p-in_default.ensures in
+    let r = at_rest _ _ _ _ d e n.not-Activity n.not-BubblePressure n.not-DewPressure n.not-Stability in
+    let f = pressures-rest _ _ _ _ _ d e n.not-Activity n.not-BubblePressure n.not-DewPressure n.not-Stability in
+    same_as (ap (replied _ _) (r ∙ bind_yes _ o)) (c.task_7.ensures _ h (sym (f ∙ bind_yes _ o) ∙ w))

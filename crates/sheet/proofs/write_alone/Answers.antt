@@ -1,9 +1,6 @@
 -- `sheet::write_alone` meets its contract. Assumes nothing.
-use Rattle.sheet.proofs.Laws.{head-no, head_yes}
+use Rattle.sheet.proofs.Laws.{alone_yes}
 use Rattle.sheet.proofs.write_alone.Goals as goal
 
-pub returns-in-Refused : goal.returns-in-Refused
-returns-in-Refused c = search head-no
-
-pub returns-in-Passed : goal.returns-in-Passed
-returns-in-Passed c = search head_yes
+pub returns : goal.returns
+returns c = search alone_yes

@@ -1,9 +1,15 @@
--- `sheet::write_answer` meets its contract. Assumes nothing.
-use Rattle.sheet.proofs.Laws.{head-no, answer_yes}
+use native.Mathlib.Omega.{arith}
+use mathlib.Core.Path.{◌≡◌, refl}
+use Rattle.sheet.proofs.Laws.{behind-none, behind-turn, answer_yes}
 use Rattle.sheet.proofs.write_answer.Goals as goal
 
-pub returns-in-Refused : goal.returns-in-Refused
-returns-in-Refused c = search head-no
+pub loop-k-init : goal.loop-k-init
+loop-k-init c = (behind-none _ _ _ (omega arith), refl)
 
-pub returns-in-Passed : goal.returns-in-Passed
-returns-in-Passed c = search answer_yes
+pub loop-k-preserved : goal.loop-k-preserved
+loop-k-preserved c = let l = c.loop-k in
+    (behind-turn _ l.invariant.0 (omega arith) c.write_trial.ensures, omega arith)
+
+pub returns : goal.returns
+returns c = let e : c.loop-k.k ≡ c.args.b.state.trials = omega arith in
+    answer_yes _ _ _ _ (omega arith) c.answer_words.ensures c.write_block.ensures (rw (← e) c.loop-k.invariant.0.row)

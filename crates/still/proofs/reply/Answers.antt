@@ -2,8 +2,8 @@
 use Rattle.still.proofs.Laws.{sent_answer, sent_refusal}
 use Rattle.still.proofs.reply.Goals as goal
 
-pub returns-then-number-eq0 : goal.returns-then-number-eq0
-returns-then-number-eq0 c = search sent_answer
+pub returns-in-Ok : goal.returns-in-Ok
+returns-in-Ok c = sent_answer _ _ c.requires c.in-Ok.ensures c.answer_length.ensures
 
-pub returns : goal.returns
-returns c = search sent_refusal
+pub returns-in-Err : goal.returns-in-Err
+returns-in-Err c = sent_refusal _ _ c.requires c.in-Err.refusal c.in-Err.ensures c.rule_of.ensures (rw c.from.ensures at c.write_refusal.ensures)

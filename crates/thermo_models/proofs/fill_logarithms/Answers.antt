@@ -6,16 +6,17 @@ use Rattle.thermo_models.proofs.Pures.{logarithm_of}
 use Rattle.thermo_models.proofs.fill_logarithms.Goals as goal
 
 pub loop-i-init : goal.loop-i-init
-loop-i-init c = (omega arith, unfold fill in refl, unfold fill in refl, unfold fill in refl)
+unfolding fill
+loop-i-init c = (refl, refl, refl)
 
 pub loop-i-preserved : goal.loop-i-preserved
-loop-i-preserved c = let a = c.loop-i in
+loop-i-preserved c = let a = c.loop-i.invariant in
     let h = logarithm_of _ c.vapor_pressure_record.ensures c.ln_pressure-l.ensures in
-    (omega arith, fill-turn _ _ _ h.0 a.invariant.1, fill-turn _ _ _ h.1 a.invariant.2, fill-turn _ _ _ h.2 a.invariant.3)
+    (fill-turn _ _ _ h.0 a.0, fill-turn _ _ _ h.1 a.1, fill-turn _ _ _ h.2 a.2)
 
 pub returns : goal.returns
 returns c = let a = c.loop-i.invariant in record {
-  ls_after = fill_done _ _ _ _ (omega arith) a.1;
-  dps_after = fill_done _ _ _ _ (omega arith) a.2;
-  cs_after = fill_done _ _ _ _ (omega arith) a.3;
+  ls_after = fill_done _ _ _ _ (omega arith) a.0;
+  dps_after = fill_done _ _ _ _ (omega arith) a.1;
+  cs_after = fill_done _ _ _ _ (omega arith) a.2;
 }

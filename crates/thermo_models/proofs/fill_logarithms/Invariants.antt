@@ -1,6 +1,5 @@
 -- `thermo_models::fill_logarithms` meets its contract. Assumes nothing.
 use mathlib.Core.Path.{◌≡◌}
-use Prim.Native.Nat.{◌≤◌, ◌-◌}
 use Rattle.floats.specs.Vector.{vec}
 use Rattle.liquid.specs.Vapor.{vapor_of}
 use Rattle.thermo_models.specs.Domain.{vapor_record}
@@ -8,10 +7,6 @@ use Rattle.thermo_models.proofs.fill_logarithms.Given as goal
 
 abbrev pub invariant-loop-i : goal.invariant-loop-i
 invariant-loop-i l =
-    (l.i ≤ l.n)
-    × (l.ls ≡ vec (λ k. (vapor_of (vapor_record l.book k) l.t).ln_pressure) l.i)
-    × (l.dps ≡ vec (λ k. (vapor_of (vapor_record l.book k) l.t).slope) l.i)
-    × (l.cs ≡ vec (λ k. (vapor_of (vapor_record l.book k) l.t).curvature) l.i)
-
-abbrev pub decreases-loop-i : goal.decreases-loop-i
-decreases-loop-i l = l.n - l.i
+    (l.ls ≡ vec (λ k. (vapor_of (vapor_record l.book k) l.t).ln_pressure) l.i)
+    × (l.dps ≡ vec (λ k. (vapor_of (vapor_record l.book k) l.t).d_ln_pressure_dt) l.i)
+    × (l.cs ≡ vec (λ k. (vapor_of (vapor_record l.book k) l.t).d2_ln_pressure_dt2) l.i)

@@ -7,14 +7,15 @@ use Rattle.thermo_models.proofs.Pures.{pressures-turn}
 use Rattle.thermo_models.proofs.fill_pressures.Goals as goal
 
 pub loop-i-init : goal.loop-i-init
-loop-i-init c = (omega arith, unfold fill in refl)
+unfolding fill
+loop-i-init c = refl
 
 pub loop-i-preserved : goal.loop-i-preserved
-loop-i-preserved c = (omega arith, pressures-turn c.args.ls.now c.loop-i.i c.exp_two-p.ensures c.loop-i.invariant.1)
+loop-i-preserved c = pressures-turn c.args.ls.now c.loop-i.i c.exp_two.ensures c.loop-i.invariant
 
 pub returns-then-n-eq1 : goal.returns-then-n-eq1
 returns-then-n-eq1 c = fill_done _ (c.args.n - 1 + 1) c.args.n _ (omega arith)
-    (fill-turn _ (c.args.n - 1) _ c.exp.ensures (fill_done _ (2 * c.loop-i.i) (c.args.n - 1) _ (omega arith) c.loop-i.invariant.1))
+    (fill-turn _ (c.args.n - 1) _ c.exp.ensures (fill_done _ (2 * c.loop-i.i) (c.args.n - 1) _ (omega arith) c.loop-i.invariant))
 
 pub returns-else-n-eq1 : goal.returns-else-n-eq1
-returns-else-n-eq1 c = fill_done _ (2 * c.loop-i.i) c.args.n _ (omega arith) c.loop-i.invariant.1
+returns-else-n-eq1 c = fill_done _ (2 * c.loop-i.i) c.args.n _ (omega arith) c.loop-i.invariant

@@ -1,12 +1,13 @@
 -- `thermo_models::fill_pures` meets its contract, by what its parts fill. Assumes nothing.
-use Rattle.floats.proofs.Folds.{not_of_false, not_of_true}
 use Rattle.thermo_models.proofs.Pures.{pures_refused, pures_passed, pures_given, pures_none}
 use Rattle.thermo_models.proofs.fill_pures.Goals as goal
 
 pub returns-then-not-all_representable : goal.returns-then-not-all_representable
 returns-then-not-all_representable c = let h = rw c.value.ensures at c.fill_logarithms.ensures in
-    pures_none (pures_refused _ _ _ c.requires.0 c.requires.1 h.ls_after h.dps_after h.cs_after c.fill_pressures.ensures c.all_representable.ensures (not_of_false c.if-not-all_representable.true))
+    pures_none _
+    (pures_refused _ _ _ c.requires.0 c.requires.1 h.ls_after h.dps_after h.cs_after c.fill_pressures.ensures c.all_representable.ensures c.if-not-all_representable.true)
+    c.clear.ensures.cleared_values c.clear.ensures.cleared_slopes
 
 pub returns : goal.returns
 returns c = let h = rw c.value.ensures at c.fill_logarithms.ensures in
-    pures_given (pures_passed _ _ _ c.requires.0 c.requires.1 h.ls_after h.dps_after h.cs_after c.fill_pressures.ensures c.all_representable.ensures (not_of_true c.if-not-all_representable.false))
+    pures_given (pures_passed _ _ _ c.requires.0 c.requires.1 h.ls_after h.dps_after h.cs_after c.fill_pressures.ensures c.all_representable.ensures c.if-not-all_representable.false)

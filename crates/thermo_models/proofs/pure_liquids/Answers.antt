@@ -1,14 +1,19 @@
 -- `thermo_models::pure_liquids` meets its contract: the domain's test, then the liquids. Assumes nothing.
+use mathlib.Core.Path.{sym}
 use native.Mathlib.Omega.{arith}
-use Rattle.floats.proofs.Folds.{as_tested}
-use Rattle.thermo_models.proofs.Pures.{covers, pures_outside, pures_inside}
+use Rattle.floats.proofs.Outcomes.{need-no}
+use Rattle.floats.specs.Outcome.{need}
+use Rattle.thermo_models.specs.Domain.{pure_liquids_of}
+use Rattle.thermo_models.proofs.Pures.{covers, pures_none}
 use Rattle.thermo_models.proofs.pure_liquids.Goals as goal
 
 pub returns-then-not-check_temperature : goal.returns-then-not-check_temperature
-returns-then-not-check_temperature c = pures_outside _ _ _ (as_tested c.if-not-check_temperature.true c.check_temperature.ensures)
+unfolding pure_liquids_of
+returns-then-not-check_temperature c = pures_none _ (need-no 22 _ (sym c.if-not-check_temperature.ensures)) c.clear.ensures.cleared_values c.clear.ensures.cleared_slopes
 
 pub fill_pures-requires : goal.fill_pures-requires
-fill_pures-requires c = (omega arith, rw (← c.places.ensures) at (covers _ _ _ (as_tested c.if-not-check_temperature.false c.check_temperature.ensures)))
+fill_pures-requires c = (omega arith, rw (← c.places.ensures) at (covers _ _ _ c.if-not-check_temperature.ensures))
 
 pub returns : goal.returns
-returns c = pures_inside _ _ _ (as_tested c.if-not-check_temperature.false c.check_temperature.ensures) (rw c.places.ensures at c.fill_pures.ensures)
+unfolding pure_liquids_of need
+returns c = rw (← c.if-not-check_temperature.ensures, ← c.places.ensures) c.fill_pures.ensures

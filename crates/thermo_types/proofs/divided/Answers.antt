@@ -1,15 +1,15 @@
-use Rattle.floats.proofs.Fills.{fill-turn, fill_done}
-use Rattle.floats.specs.Vector.{fill}
 use mathlib.Core.Path.{refl}
 use native.Mathlib.Omega.{arith}
+use Rattle.floats.specs.Vector.{fill}
+use Rattle.floats.proofs.Fills.{fill-turn, fill_done}
 use Rattle.thermo_types.proofs.divided.Goals as goal
 
 pub loop-i-init : goal.loop-i-init
 unfolding fill
-loop-i-init c = (omega arith, refl)
+loop-i-init c = refl
 
 pub loop-i-preserved : goal.loop-i-preserved
-loop-i-preserved c = (omega arith, fill-turn _ _ _ refl c.loop-i.invariant.1)
+loop-i-preserved c = fill-turn _ _ _ refl c.loop-i.invariant
 
 pub returns : goal.returns
-returns c = fill_done _ _ _ _ (omega arith) c.loop-i.invariant.1
+returns c = fill_done _ _ _ _ (omega arith) c.loop-i.invariant

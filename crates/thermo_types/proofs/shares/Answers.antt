@@ -1,6 +1,7 @@
--- `thermo_types::shares` meets its contract. Assumes nothing.
-use Rattle.thermo_types.proofs.Normalizing.{shares-is}
+use mathlib.Core.Path.{sym}
+use Rattle.thermo_types.specs.Composition.{shares_of}
 use Rattle.thermo_types.proofs.shares.Goals as goal
 
 pub returns : goal.returns
-returns c = search shares-is
+unfolding shares_of
+returns c = rw (sym c.sum.ensures) c.divided.ensures

@@ -1,18 +1,32 @@
 -- `tp_flash::as_both` meets its contract. Assumes nothing.
-use Rattle.tp_flash.proofs.Laws.{both-refused, both-unstable, both-vapor, both-liquid, both-passed}
+use Rattle.floats.specs.Outcome.{bind}
+use Rattle.floats.specs.Vector.{at}
+use Rattle.outcome.proofs.Exits.{met}
+use Rattle.thermo_types.proofs.Passing.{fractions_first}
+use Rattle.tp_flash.specs.Tp.{as_both}
 use Rattle.tp_flash.proofs.as_both.Goals as goal
 
-pub returns-in-Refused : goal.returns-in-Refused
-returns-in-Refused c = search both-refused
+pub returns-in_err-trials : goal.returns-in_err-trials
+unfolding as_both bind
+returns-in_err-trials c = rw (met c.in_err-trials.field-0.0 c.from_residual.result c.from_residual.ensures.1, ← c.in_err-trials.ensures)
 
-pub returns-then-not-stability : goal.returns-then-not-stability
-returns-then-not-stability c = search both-unstable
+pub returns-in_err-with_fractions : goal.returns-in_err-with_fractions
+unfolding as_both bind
+returns-in_err-with_fractions c = let r = c.from_residual-in_err-with_fractions in
+    rw (met c.in_err-with_fractions.field-0.0 r.result r.ensures.1, ← c.in_ok-trials.ensures, fractions_first (at c.args.split.vapor) _ _, ← c.in_err-with_fractions.ensures)
 
-pub returns-in-Refused-vapor : goal.returns-in-Refused-vapor
-returns-in-Refused-vapor c = search both-vapor
-
-pub returns-in-Refused-liquid : goal.returns-in-Refused-liquid
-returns-in-Refused-liquid c = search both-liquid
+pub returns-in_err-with_fractions-2 : goal.returns-in_err-with_fractions-2
+unfolding as_both bind
+returns-in_err-with_fractions-2 c = let r = c.from_residual-in_err-with_fractions-2 in
+    rw (
+      met c.in_err-with_fractions-2.field-0.0 r.result r.ensures.1,
+      ← c.in_ok-trials.ensures,
+      fractions_first (at c.args.split.vapor) _ _,
+      ← c.in_ok-with_fractions.ensures,
+      fractions_first,
+      ← c.in_err-with_fractions-2.ensures,
+    )
 
 pub returns : goal.returns
-returns c = search both-passed
+unfolding as_both bind
+returns c = rw (← c.in_ok-trials.ensures, fractions_first (at c.args.split.vapor) _ _, ← c.in_ok-with_fractions.ensures, fractions_first, ← c.in_ok-with_fractions-2.ensures, c.balance.ensures)

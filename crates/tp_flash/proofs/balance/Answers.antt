@@ -1,17 +1,14 @@
-use mathlib.Core.Path.{refl}
-use native.Mathlib.Omega.{arith}
-use Rattle.floats.proofs.Folds.{fold_turn, fold_done}
-use Rattle.floats.specs.Fold.{fold_to}
+-- `tp_flash::balance` meets its contract. Assumes nothing.
+use Rattle.std.proofs.Common.{rules}
+use lib.Ieee.{Float}
+use Rattle.floats.proofs.Chains.{fold_of_range}
+use Rattle.floats.specs.Arithmetic.{◌⊕◌, ◌⊖◌, ◌⊗◌, 0f, 1f}
+use Rattle.floats.specs.Small.{max_of, abs_of}
+use Rattle.floats.specs.Vector.{at, places}
 use Rattle.tp_flash.specs.Split.{balance_of}
 use Rattle.tp_flash.proofs.balance.Goals as goal
 
-pub loop-i-init : goal.loop-i-init
-unfolding fold_to
-loop-i-init c = (omega arith, refl)
-
-pub loop-i-preserved : goal.loop-i-preserved
-loop-i-preserved c = (omega arith, fold_turn _ _ _ (rw c.abs.ensures at c.max-r.ensures) c.loop-i.invariant.1)
-
 pub returns : goal.returns
 unfolding balance_of
-returns c = rw (← c.places-m.ensures) (fold_done _ _ _ _ (omega arith) c.loop-i.invariant.1)
+returns c = fold_of_range (λ i (r : Float). max_of r (abs_of (c.args.beta ⊗ at c.args.y.now i ⊕ (1f ⊖ c.args.beta) ⊗ at c.args.x.now i ⊖ at c.args.z.now i)))
+    0f (places c.args.n) c.places.ensures c.fold.ensures.ran (λ s i r f k. search rules)

@@ -1,12 +1,16 @@
 -- `tp_flash::from_split` meets its contract. Assumes nothing.
-use Rattle.tp_flash.proofs.Laws.{split_edge, split-both, split-outside}
+use Rattle.floats.specs.Outcome.{need, choose}
+use Rattle.tp_flash.specs.Tp.{from_split}
 use Rattle.tp_flash.proofs.from_split.Goals as goal
 
-pub returns-then-within-near_edge : goal.returns-then-within-near_edge
-returns-then-within-near_edge c = search split_edge
+pub returns-then-inside : goal.returns-then-inside
+unfolding from_split need choose
+returns-then-inside c = rw (← c.if-inside.ensures) c.as_both.ensures
 
-pub returns-then-within : goal.returns-then-within
-returns-then-within c = search split-both
+pub returns-then-near_edge : goal.returns-then-near_edge
+unfolding from_split choose
+returns-then-near_edge c = rw (← c.if-inside.ensures, ← c.if-near_edge.ensures) c.at_boundary.ensures
 
-pub returns-else-within : goal.returns-else-within
-returns-else-within c = search split-outside
+pub returns-else-near_edge : goal.returns-else-near_edge
+unfolding from_split need choose
+returns-else-near_edge c = rw (← c.if-inside.ensures, ← c.if-near_edge.ensures)

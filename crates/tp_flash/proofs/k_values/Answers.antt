@@ -1,18 +1,21 @@
-use mathlib.Core.Path.{refl}
+use mathlib.Core.Path.{◌≡◌, refl}
 use native.Mathlib.Omega.{arith}
-use Rattle.floats.proofs.Fills.{fill-turn, fill_done}
-use Rattle.floats.specs.Vector.{fill}
+use Rattle.floats.proofs.Fills.{fill-turn}
+use Rattle.floats.specs.Vector.{fill, places}
 use Rattle.tp_flash.specs.Split.{k_values}
 use Rattle.tp_flash.proofs.k_values.Goals as goal
+use Rattle.tp_flash.proofs.k_values.Goals.{then-z-i, else-z-i}
 
 pub loop-i-init : goal.loop-i-init
 unfolding fill
-loop-i-init c = (omega arith, refl)
+loop-i-init c = refl
 
 pub loop-i-preserved : goal.loop-i-preserved
-loop-i-preserved c = (omega arith, fill-turn _ _ _ c.k_value.ensures c.loop-i.invariant.1)
+loop-i-preserved c = fill-turn _ _ _ (elim c.if-z-i.branch [
+  | then-z-i w ↦ rw (w.if-z-i.true, w.k-is, w.exp.ensures, w.ln.ensures)
+  | else-z-i w ↦ rw (w.if-z-i.false, w.k-is)
+]) c.loop-i.invariant
 
 pub returns : goal.returns
 unfolding k_values
-returns c = rw (← c.value.ensures, ← c.ln-lnp.ensures, ← c.places-m.ensures)
-    (fill_done _ _ _ _ (omega arith) c.loop-i.invariant.1)
+returns c = let e : c.loop-i.i ≡ places c.args.n = omega arith in rw (← e, ← c.value.ensures, ← c.ln-ln_p.ensures) c.loop-i.invariant

@@ -1,5 +1,4 @@
--- `tp_flash::k_values` meets its contract. The loop's invariant: the first i entries are K. The measure is what is left of the count. Assumes nothing.
-use Prim.Native.Nat.{◌≤◌, ◌-◌}
+-- `tp_flash::k_values` meets its contract. The invariant: K so far. Assumes nothing.
 use mathlib.Core.Bool.{cond}
 use mathlib.Core.Path.{◌≡◌}
 use lib.Ieee.{lt}
@@ -9,7 +8,4 @@ use Rattle.numerics.specs.Numerics.{exp_of, ln_of}
 use Rattle.tp_flash.proofs.k_values.Given as goal
 
 abbrev pub invariant-loop-i : goal.invariant-loop-i
-invariant-loop-i l = (l.i ≤ l.m) × (l.k ≡ vec (λ j. cond (lt 0f (at l.z j)) (exp_of (at l.lg j ⊕ ln_of (at l.ps j) ⊖ l.lnp)) 1f) l.i)
-
-abbrev pub decreases-loop-i : goal.decreases-loop-i
-decreases-loop-i l = l.m - l.i
+invariant-loop-i l = l.k ≡ vec (λ j. cond (lt 0f (at l.z j)) (exp_of (at l.lg j ⊕ ln_of (at l.ps j) ⊖ l.ln_p)) 1f) l.i

@@ -1,15 +1,24 @@
+use mathlib.Core.Path.{◌∙◌}
 use native.Mathlib.Omega.{arith}
-use Rattle.tp_flash.proofs.Laws.{loop_start, loop_out, loop_stop, loop_more}
+use Rattle.floats.specs.Outcome.{bind, choose}
+use Rattle.outcome.proofs.Exits.{met}
+use Rattle.tp_flash.proofs.Laws.{loop_start, loop_out, loop_on}
 use Rattle.tp_flash.proofs.split_from.Goals as goal
 
 pub loop-done-init : goal.loop-done-init
-loop-done-init c = (omega arith, loop_start _ _ _ _ _ _ _ _)
+loop-done-init c = loop_start _ _ _ _ _ _ _ _
 
-pub returns-then-stops_at : goal.returns-then-stops_at
-returns-then-stops_at c = search loop_stop
+pub returns-in_err-turn : goal.returns-in_err-turn
+unfolding bind
+returns-in_err-turn c = met _ _ c.from_residual.ensures.1 ∙ loop_on _ _ _ _ _ _ _ _ _ c.loop-done.invariant c.loop-done-test.true c.in_err-turn.ensures
+
+pub returns-then-turn-o : goal.returns-then-turn-o
+unfolding bind choose
+returns-then-turn-o c = rw c.if-turn-o.true at (loop_on _ _ _ _ _ _ _ _ _ c.loop-done.invariant c.loop-done-test.true c.in_ok-turn.ensures)
 
 pub loop-done-preserved : goal.loop-done-preserved
-loop-done-preserved c = (omega arith, search loop_more)
+unfolding bind choose
+loop-done-preserved c = rw c.if-turn-o.false at (loop_on _ _ _ _ _ _ _ _ _ c.loop-done.invariant c.loop-done-test.true c.in_ok-turn.ensures)
 
 pub returns : goal.returns
-returns c = search loop_out
+returns c = loop_out _ _ _ _ _ _ _ _ _ c.loop-done.invariant c.loop-done-test.false

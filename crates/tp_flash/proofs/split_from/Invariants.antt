@@ -1,5 +1,5 @@
--- `tp_flash::split_from` meets its contract. The loop's invariant: what is left to run from here gives the same as the whole run. Assumes nothing.
-use Prim.Native.Nat.{◌≤◌, ◌-◌}
+-- `tp_flash::split_from` meets its contract. The invariant: what is left to run from here is the whole run. Assumes nothing.
+use Prim.Native.Nat.{◌-◌}
 use mathlib.Core.Path.{◌≡◌}
 use Rattle.floats.specs.Vector.{places}
 use Rattle.thermo_models.specs.Activity.{activity_on}
@@ -9,7 +9,4 @@ use Rattle.tp_flash.proofs.split_from.Given as goal
 abbrev pub invariant-loop-done : goal.invariant-loop-done
 invariant-loop-done l =
     let run = split_from (activity_on l.table l.at) l.ps (places l.at.n) l.p.0 l.z l.o.tolerance in
-    (l.done ≤ l.o.max_iterations) × (run (l.o.max_iterations - l.done) l.done l.lg ≡ run l.o.max_iterations 0 l.start)
-
-abbrev pub decreases-loop-done : goal.decreases-loop-done
-decreases-loop-done l = l.o.max_iterations - l.done
+    run (l.o.max_iterations - l.done) l.done l.lg ≡ run l.o.max_iterations 0 l.start

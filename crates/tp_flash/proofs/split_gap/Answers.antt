@@ -1,18 +1,22 @@
-use mathlib.Core.Path.{refl}
+use mathlib.Core.Path.{◌≡◌, refl}
 use native.Mathlib.Omega.{arith}
-use Rattle.floats.proofs.Folds.{fold_turn, fold_done}
 use Rattle.floats.specs.Fold.{fold_to}
+use Rattle.floats.specs.Vector.{places}
+use Rattle.liquid_stability.proofs.Laws.{present-turn, absent-turn}
 use Rattle.tp_flash.specs.Split.{split_gap}
 use Rattle.tp_flash.proofs.split_gap.Goals as goal
+use Rattle.tp_flash.proofs.split_gap.Goals.{then-z-i, else-z-i}
 
 pub loop-i-init : goal.loop-i-init
 unfolding fold_to
-loop-i-init c = (omega arith, refl)
+loop-i-init c = refl
 
 pub loop-i-preserved : goal.loop-i-preserved
-loop-i-preserved c = (omega arith, fold_turn _ _ _ c.gap_term-r.ensures c.loop-i.invariant.1)
+loop-i-preserved c = elim c.if-z-i.branch [
+  | then-z-i w ↦ present-turn _ _ _ _ c.loop-i.invariant w.if-z-i.true (rw (w.r-is, w.max-r.ensures, w.abs.ensures, w.ln.ensures, w.ln-then-z-i.ensures, w.ln-then-z-i-2.ensures))
+  | else-z-i w ↦ absent-turn _ _ _ _ c.loop-i.invariant w.if-z-i.false w.r-is
+]
 
 pub returns : goal.returns
 unfolding split_gap
-returns c = rw (← c.value.ensures, ← c.ln-lnp.ensures, ← c.places-m.ensures)
-    (fold_done _ _ _ _ (omega arith) c.loop-i.invariant.1)
+returns c = let e : c.loop-i.i ≡ places c.args.n = omega arith in rw (← e, ← c.value.ensures, ← c.ln-ln_p.ensures) c.loop-i.invariant

@@ -1,14 +1,19 @@
 -- `tp_flash::turn_at` meets its contract. Assumes nothing.
-use Rattle.floats.proofs.Folds.{not_of_true}
-use Rattle.tp_flash.proofs.Laws.{turn-refused, turn_gap, turn_good}
+use mathlib.Core.Path.{sym}
+use Rattle.floats.specs.Outcome.{bind, need}
+use Rattle.outcome.proofs.Exits.{met}
+use Rattle.thermo_models.proofs.Answers.{activity-passed, activity-refused}
+use Rattle.tp_flash.specs.Split.{turn_at}
 use Rattle.tp_flash.proofs.turn_at.Goals as goal
 
-pub returns-in-Refused : goal.returns-in-Refused
-returns-in-Refused c = search turn-refused
+pub returns-in_err-activity : goal.returns-in_err-activity
+unfolding turn_at bind
+returns-in_err-activity c = rw (met c.in_err-activity.field-0.0 c.from_residual.result c.from_residual.ensures.1, activity-refused _ c.in_err-activity.ensures)
 
 pub returns-then-not-is_finite : goal.returns-then-not-is_finite
-returns-then-not-is_finite c = search turn_gap
+unfolding turn_at bind need
+returns-then-not-is_finite c = rw (activity-passed _ c.in_ok-activity.ensures, ← c.split_gap-residual.ensures, sym c.if-not-is_finite.ensures)
 
 pub returns : goal.returns
-returns c = turn_good _ _ _ _ _ _ _ _ _ c.activity-verdict.ensures c.in_default.is c.split_gap-residual.ensures c.is_finite.ensures
-    (not_of_true c.if-not-is_finite.false)
+unfolding turn_at bind need
+returns c = rw (activity-passed _ c.in_ok-activity.ensures, ← c.split_gap-residual.ensures, sym c.if-not-is_finite.ensures)

@@ -4,4 +4,4 @@ use Rattle.wilson_tables.proofs.ln_lambda.Goals as goal
 
 pub returns : goal.returns
 unfolding ln_lambda_j
-returns c = rw (← c.constant.ensures, ← c.kelvin.ensures, ← c.div-b.ensures, ← c.constant-2.ensures) c.add.ensures
+returns c = cc

@@ -1,16 +1,12 @@
-use Rattle.thermo_types.specs.Quantities.{positive_of, new_pressure}
-use Rattle.floats.specs.Outcome.{need}
-use Rattle.floats.proofs.Folds.{as_tested}
+use mathlib.Core.Path.{sym}
+use Rattle.floats.specs.Outcome.{bind}
+use Rattle.outcome.proofs.Exits.{met}
 use Rattle.thermo_types.proofs.Pressure.new.Goals as goal
 
-pub returns-then-not-is_finite : goal.returns-then-not-is_finite
-unfolding positive_of need new_pressure
-returns-then-not-is_finite c = rw (as_tested c.if-not-is_finite.true c.is_finite.ensures)
+pub returns-in_err-positive : goal.returns-in_err-positive
+unfolding bind
+returns-in_err-positive c = rw (met c.in_err-positive.field-0.0 c.from_residual.result c.from_residual.ensures.1, sym c.in_err-positive.ensures)
 
-pub returns-then-v : goal.returns-then-v
-unfolding positive_of need new_pressure
-returns-then-v c = rw (as_tested c.if-not-is_finite.false c.is_finite.ensures, c.if-v.true)
-
-pub returns-else-v : goal.returns-else-v
-unfolding positive_of need new_pressure
-returns-else-v c = rw (as_tested c.if-not-is_finite.false c.is_finite.ensures, c.if-v.false)
+pub returns : goal.returns
+unfolding bind
+returns c = rw (sym c.in_ok-positive.ensures)

@@ -1,8 +1,0 @@
--- `floats::abs` meets its contract. Assumes nothing.
-use Rattle.floats.proofs.abs.Goals as goal
-
-pub returns-then-x : goal.returns-then-x
-returns-then-x c = rw c.if-x.true
-
-pub returns-else-x : goal.returns-else-x
-returns-else-x c = rw c.if-x.false

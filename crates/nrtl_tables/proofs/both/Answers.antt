@@ -1,6 +1,0 @@
--- `nrtl_tables::both` meets its contract. Assumes nothing.
-use Rattle.nrtl_tables.proofs.Stores.{both-made}
-use Rattle.nrtl_tables.proofs.both.Goals as goal
-
-pub returns : goal.returns
-returns c = search both-made

@@ -1,5 +1,0 @@
--- `numerics::raised` meets its contract. Assumes nothing.
-use Rattle.numerics.proofs.raised.Goals as goal
-
-pub returns-then-up : goal.returns-then-up
-returns-then-up c = rw c.if-up.true

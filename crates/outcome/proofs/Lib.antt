@@ -1,0 +1,2 @@
+-- Lemmas that the crates above use. Assumes nothing.
+pub mod Exits

@@ -1,0 +1,2 @@
+-- What the contracts of outcome cite. Assumes nothing.
+pub mod Refused

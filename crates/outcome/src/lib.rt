@@ -1,0 +1,66 @@
+// The refusals: the questions of docs/FORMAT.md, each by its name and number.
+#![tactic(auto)]
+
+ghost use Rattle.std.specs.Prelude.{◌≡◌};
+ghost use Rattle.outcome.specs.Refused.{number, number_in};
+
+// The question that was answered no.
+#[derive(Clone, Copy, PartialEq, Eq)]
+pub enum Refusal {
+    BookLength = 1,
+    BookCheck,
+    BookHead,
+    SolventBlock,
+    SolventNumber,
+    SolventTwice,
+    PairBlock,
+    PairNumber,
+    PairAlphas,
+    AnswerShort,
+    QuestionBlock,
+    Task,
+    Temperature,
+    Pressure,
+    NotFinite,
+    FractionNegative,
+    KNotPositive,
+    FractionSum,
+    Options,
+    LimitZero,
+    LimitHigh,
+    TemperatureOutside,
+    PressureOutside,
+    AlphaNotPositive,
+    ResultNotFinite,
+    NotBracketed,
+    NotConverged,
+    KOneSided,
+    LiquidUnstable,
+    VaporFractionOutside,
+    DrumsLength,
+    DrumsTotal,
+    FeedsLength,
+    NotNormalizable,
+    MolarMass,
+    FeedKind,
+    BookModel,
+    BookVersion,
+}
+
+impl From<Refusal> for u64 {
+    ghost from_gives = { λ refusal n. n ≡ number refusal };
+
+    fn from(refusal: Refusal) -> u64 {
+        refusal as u64
+    }
+}
+
+// What a call gives in C: 0, or the refusal's number.
+pub fn number_in(answered: Result<(), Refusal>) -> u64
+    ensures { result ≡ number_in answered }
+{
+    match answered {
+        Ok(()) => 0,
+        Err(refusal) => u64::from(refusal),
+    }
+}

@@ -1,2 +1,0 @@
--- Laws that the proofs of exports share. Assumes nothing.
-pub mod Laws

@@ -1,8 +1,0 @@
--- `saturation::partial` meets its contract. Assumes nothing.
-use Rattle.saturation.proofs.partial.Goals as goal
-
-pub returns-then-x : goal.returns-then-x
-returns-then-x c = rw c.if-x.true
-
-pub returns-else-x : goal.returns-else-x
-returns-else-x c = rw c.if-x.false
