@@ -5,17 +5,14 @@
 ghost use Rattle.std.specs.Prelude.{◌≡◌, List, ℕ, ◌≤◌, ◌*◌, length};
 ghost use Rattle.floats.specs.Small.{float};
 ghost use Rattle.floats.specs.Vector.{places};
-ghost use Rattle.floats.specs.Fold.{fold_to};
-ghost use Rattle.floats.specs.Outcome.{ok};
-ghost use Rattle.outcome.specs.Refused.{number, number_in};
+ghost use Rattle.outcome.specs.Refused.{number_in};
 ghost use Rattle.blocks.specs.Words.{word};
-ghost use Rattle.blocks.specs.Bytes.{put};
 ghost use Rattle.book.specs.Book.{rule_of};
 ghost use Rattle.question.specs.Inputs.{task_found};
 ghost use Rattle.thermo_models.specs.Mixture.{mixture_of};
-ghost use Rattle.replies.specs.Blocks.{answer_room, refusal_bytes};
+ghost use Rattle.replies.specs.Blocks.{answer_room};
 ghost use Rattle.sheet.specs.Ready.{Readied};
-ghost use Rattle.sheet.specs.Sheet.{Answers, number_of, reply_of};
+ghost use Rattle.sheet.specs.Sheet.{Answers, number_of};
 ghost use Rattle.batch.specs.Feeds.{feeds_right, task_among, feed_to, parts_to, feeds_of, slice_of, Keeps};
 
 use blocks::{Rule, word};
@@ -76,47 +73,26 @@ fn answer_feed(
     book: &[u8],
     head: Head,
     question: &[u8],
+    among: Result<Task, Refusal>,
     x: &[f64; 8],
     kept: &mut Option<Result<Tabled, Refusal>>,
     table: &mut [f64; 512],
     ps: &mut [f64; 8],
     out: &mut [u8],
 ) -> Result<(), Refusal>
-    requires { (answer_room ≤ length out.old) × ((task : ℕ) × (ok task ≡ task_among book.now head.version question.now)) × Keeps (mixture_of book.now (places head.n)) question.now kept.old table.old ps.old }
+    requires { (answer_room ≤ length out.old) × (task_found among ≡ task_among book.now head.version question.now) × Keeps (mixture_of book.now (places head.n)) question.now kept.old table.old ps.old }
     ensures keeps { Keeps (mixture_of book.now (places head.n)) question.now kept.new table.new ps.new }
     ensures answers { Answers (feed_to book.now head.version (places head.n) question.now x.now) (number_in result) out.old out.new }
 {
+    among?;
     let q = read_rest(question, book, head.n, x)?;
     let made = kept_or_made(book, head.n, question, *kept, table, ps);
     *kept = Some(made);
     sheet::answer_ready(book, head.n, made, table, ps, q, out)
 }
 
-// Its reply: a refusal is a block too.
-fn reply_feed(
-    rule: Rule,
-    book: &[u8],
-    head: Head,
-    question: &[u8],
-    x: &[f64; 8],
-    kept: &mut Option<Result<Tabled, Refusal>>,
-    table: &mut [f64; 512],
-    ps: &mut [f64; 8],
-    out: &mut [u8],
-)
-    requires { (answer_room ≤ length out.old) × ((task : ℕ) × (ok task ≡ task_among book.now head.version question.now)) × Keeps (mixture_of book.now (places head.n)) question.now kept.old table.old ps.old }
-    ensures keeps { Keeps (mixture_of book.now (places head.n)) question.now kept.new table.new ps.new }
-    ensures out_after { out.new ≡ put out.old 0 (reply_of rule question.now (feed_to book.now head.version (places head.n) question.now x.now)) }
-{
-    let answered = answer_feed(book, head, question, x, kept, table, ps, out);
-    if let Err(refusal) = answered {
-        replies::write_refusal(rule, question, u64::from(refusal), out);
-    }
-}
-
-// What one feed needs is kept for the others: the tables and vapor pressures are worked out once.
+// A refusal is a block too. What one feed needs is kept for the others: the tables and vapor pressures are worked out once.
 fn answer_feeds(
-    rule: Rule,
     book: &[u8],
     head: Head,
     question: &[u8],
@@ -124,51 +100,23 @@ fn answer_feeds(
     count: usize,
     out: &mut [u8],
 )
-    requires { (count ≤ 64) × (answer_room * count ≤ length out.old) × (rule ≡ rule_of book.now) × ((task : ℕ) × (ok task ≡ task_among book.now head.version question.now)) }
+    requires { (count ≤ 64) × (answer_room * count ≤ length out.old) }
     ensures { out.new ≡ parts_to book.now head.version (places head.n) question.now feeds.now out.old count }
 {
+    let rule = book::rule_of(book);
+    let among = task_among(rule, head.version, question);
     let mut table = [0.0; 512];
     let mut ps = [0.0; 8];
     let mut kept = None;
     for k in 0..count {
         let x = floats_from(feeds, 8 * k, head.n);
-        reply_feed(
-            rule,
-            book,
-            head,
-            question,
-            &x,
-            &mut kept,
-            &mut table,
-            &mut ps,
-            &mut out[ANSWER_ROOM * k..],
+        let part = &mut out[ANSWER_ROOM * k..];
+        let answered = answer_feed(
+            book, head, question, among, &x, &mut kept, &mut table, &mut ps, part,
         );
-    }
-}
-
-// The same refusal for every feed.
-fn refuse_feeds(rule: Rule, question: &[u8], refusal: Refusal, count: usize, out: &mut [u8])
-    requires { (count ≤ 64) × (answer_room * count ≤ length out.old) }
-    ensures { out.new ≡ fold_to (λ j (l : List ℕ). put l (answer_room * j) (refusal_bytes rule question.now (number refusal))) out.old count }
-{
-    for k in 0..count {
-        replies::write_refusal(
-            rule,
-            question,
-            u64::from(refusal),
-            &mut out[ANSWER_ROOM * k..],
-        );
-    }
-}
-
-fn answer_all(book: &[u8], head: Head, question: &[u8], feeds: &[u8], count: usize, out: &mut [u8])
-    requires { (count ≤ 64) × (answer_room * count ≤ length out.old) }
-    ensures { out.new ≡ parts_to book.now head.version (places head.n) question.now feeds.now out.old count }
-{
-    let rule = book::rule_of(book);
-    match task_among(rule, head.version, question) {
-        Err(refusal) => refuse_feeds(rule, question, refusal, count, out),
-        Ok(_) => answer_feeds(rule, book, head, question, feeds, count, out),
+        if let Err(refusal) = answered {
+            replies::write_refusal(rule, question, u64::from(refusal), part);
+        }
     }
 }
 
@@ -185,6 +133,6 @@ pub fn answer(book: &[u8], question: &[u8], feeds: &[u8], out: &mut [u8]) -> Res
     if out.len() < ANSWER_ROOM * count {
         return Err(Refusal::AnswerShort);
     }
-    answer_all(book, head, question, feeds, count, out);
+    answer_feeds(book, head, question, feeds, count, out);
     Ok(())
 }

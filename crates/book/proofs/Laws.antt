@@ -1,5 +1,5 @@
 -- Laws of questions in a row and of the places of pairs. Assumes nothing.
-use Rattle.std.proofs.Common.{◌≡◌, ℕ, zero, suc, ◌+◌, ◌-◌, ◌*◌, ◌%◌, ◌<◌, ◌≤◌, Bool, true, false, cond, not, ◌&&◌, eqb, ltb, leb, List, length, sym, refl, ◌∙◌, true≢false, add-one, arith, le-ltb, lt-ltb, eq-eqb, ne_eqb, leb-true}
+use Rattle.std.proofs.Common.{◌≡◌, ℕ, zero, suc, ◌+◌, ◌-◌, ◌*◌, ◌%◌, ◌<◌, ◌≤◌, Bool, true, false, cond, not, ◌&&◌, eqb, ltb, leb, List, length, sym, refl, ◌∙◌, true≢false, add-one, arith, lt-ltb, eq-eqb, ne_eqb, leb-true}
 use Rattle.blocks.specs.declared.Rule.TheVariants.{Plain, Running}
 use Rattle.floats.specs.Fold.{all_to}
 use Rattle.floats.specs.Outcome.{no, need}
@@ -35,11 +35,6 @@ rule-whole s e f = rw (eq-eqb (length s % 512) 0 e, some (length s) f)
 pub rule-sized : (s : List ℕ) (n : ℕ) → length s ≡ 512 * block_count n → rule_of s ≡ rule_in (words s 0)
 rule-sized s n e = rule-whole s (omega arith) (λ (z : length s ≡ 0). omega arith)
 
-pub rule-read : (s : List ℕ) {b : Bool} → length s % 512 ≡ 0 → (length s ≡ 0 → ⊥) → (eqb (words s 0 0) 1 && eqb (words s 0 1) 3) ≡ b
-    → cond b Running Plain ≡ rule_of s
-unfolding rule_in
-rule-read s e f h = rw (rule-whole s e f, h)
-
 -- the rows of pairs end where the book does, and a count of pairs is small: at n up to 8 antt computes it
 fitting : ℕ → ℕ → Bool
 fitting n i = leb (row_from n i) (block_count n)
@@ -71,12 +66,6 @@ place-above n i j = omega (arith, row-above n i)
 pub place-within : (n i j : ℕ) → n ≤ 8 → i < j → j < n → pair_place n i j < block_count n
 unfolding pair_place
 place-within n i j a h l = omega (arith, row_fits n (i + 1) a (omega arith), row_next n i)
-
-pub same : {a b x y : ℕ} → x ≡ a → y ≡ b → x ≡ y → not (eqb a b) ≡ false
-same {a} {b} p q e = rw (eq-eqb a b (sym p ∙ e ∙ q))
-
-pub other : {a b x y : ℕ} → x ≡ a → y ≡ b → (x ≡ y → ⊥) → not (eqb a b) ≡ true
-other {a} {b} p q f = rw (ne_eqb a b (λ e. f (p ∙ e ∙ sym q)))
 
 second : (a : Bool) {b : Bool} → a && b ≡ true → b ≡ true
 second true e = e

@@ -1,5 +1,5 @@
 -- What one scan of a block shows: the floats that a question asks for are among the finite ones, and equal words are equal floats. Assumes nothing.
-use Rattle.std.proofs.Common.{◌≡◌, ℕ, zero, suc, ◌+◌, ◌-◌, ◌*◌, ◌<◌, ◌≤◌, Bool, true, false, cond, not, ◌&&◌, T, eqb, ltb, List, length, sym, refl, ap, ◌∙◌, true≢false, arith, take_all, eqb-true}
+use Rattle.std.proofs.Common.{◌≡◌, ℕ, zero, suc, ◌+◌, ◌-◌, ◌*◌, ◌<◌, ◌≤◌, Bool, true, false, cond, ◌&&◌, T, eqb, List, length, sym, refl, ap, ◌∙◌, true≢false, arith, take_all, eqb-true}
 use mathlib.Core.Bool.{false≢true}
 use native.Mathlib.Nat.{min-le_right}
 use lib.Dec.{eqb_refl}
@@ -13,7 +13,7 @@ use Rattle.book.specs.declared.Model.{Model}
 use Rattle.book.specs.declared.Model.TheVariants.{Nrtl, Wilson}
 use Rattle.book.specs.declared.Head.{Head}
 use Rattle.book.specs.Places.{words, pair_count, row_from}
-use Rattle.book.specs.Book.{floats_finite, range_right, term_count, record_right, records_right, pair_right, row_right, offered_right}
+use Rattle.book.specs.Book.{floats_finite, range_right, term_count, record_right, records_right, row_right}
 use Rattle.book.specs.Book.{parameters_finite, bounds_finite, pair_finite, alphas_equal, pairs_of}
 
 first : (a b : Bool) → a && b ≡ true → a ≡ true

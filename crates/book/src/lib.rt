@@ -2,7 +2,7 @@
 #![tactic(auto)]
 
 ghost use Rattle.std.specs.Prelude.{◌≡◌, ◌+◌, ◌-◌, ◌*◌, ◌<◌, ◌≤◌, ◌&&◌, length, nat_lt};
-ghost use Rattle.blocks.specs.Words.{word, word_from, block, check_right};
+ghost use Rattle.blocks.specs.Words.{word, block, check_right};
 ghost use Rattle.floats.specs.Small.{is_finite, positive, float_of, float};
 ghost use Rattle.floats.specs.Fold.{all_to};
 ghost use Rattle.book.specs.Places.{words, pair_count, block_count, row_from};

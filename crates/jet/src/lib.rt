@@ -28,7 +28,7 @@ impl Jet {
         ensures { result ≡ two_j v slope }
     {
         Self {
-            v: v,
+            v,
             d: slope,
             dd: 0.0,
         }
@@ -90,7 +90,7 @@ impl Jet {
         let q = self.v / o.v;
         let d = (self.d - q * o.d) / o.v;
         let dd = (self.dd - 2.0 * d * o.d - q * o.dd) / o.v;
-        Jet { v: q, d: d, dd: dd }
+        Jet { v: q, d, dd }
     }
 
     // exp of self, where e is exp of its value.

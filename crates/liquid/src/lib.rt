@@ -110,15 +110,14 @@ pub fn is_representable(pressure: f64, ln_p: f64, d1: f64, d2: f64) -> bool
 fn from_sums(t_r: f64, reducing_value: f64, t: f64, sums: Sums) -> Logarithm
     ensures { (result.value ≡ (vapor_from t_r reducing_value t sums).ln_pressure) × (result.slope ≡ (vapor_from t_r reducing_value t sums).d_ln_pressure_dt) × (result.curvature ≡ (vapor_from t_r reducing_value t sums).d2_ln_pressure_dt2) }
 {
-    let s = sums.s;
-    let ds = sums.ds;
+    let Sums { s, ds, d2s } = sums;
     let q = t_r / t;
     let dq = -t_r / (t * t);
     let d2q = 2.0 * t_r / (t * t * t);
     Logarithm {
         value: numerics::ln(reducing_value) + q * s,
         slope: dq * s + q * ds,
-        curvature: d2q * s + 2.0 * dq * ds + q * sums.d2s,
+        curvature: d2q * s + 2.0 * dq * ds + q * d2s,
     }
 }
 
@@ -126,11 +125,9 @@ fn from_sums(t_r: f64, reducing_value: f64, t: f64, sums: Sums) -> Logarithm
 pub fn ln_pressure(a: Ancillary, t: f64) -> Logarithm
     ensures { (result.value ≡ (vapor_of a t).ln_pressure) × (result.slope ≡ (vapor_of a t).d_ln_pressure_dt) × (result.curvature ≡ (vapor_of a t).d2_ln_pressure_dt2) }
 {
-    let t_r = a.t_r;
-    let n = a.n;
-    let e = a.t;
-    let s = sum_terms(&n, &e, t_r, 1.0 - t / t_r, floats::places(a.count));
-    from_sums(t_r, a.reducing_value, t, s)
+    let theta = 1.0 - t / a.t_r;
+    let sums = sum_terms(&a.n, &a.t, a.t_r, theta, floats::places(a.count));
+    from_sums(a.t_r, a.reducing_value, t, sums)
 }
 
 // Outside the correlation's range: 22; not representable: 25.

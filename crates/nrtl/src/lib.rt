@@ -76,6 +76,7 @@ fn jet_in(l: &[f64; 24], i: usize) -> Jet
 
 // ---- the sums S and R = C / S
 
+// Kept: wilson has a jet_at and a two_at too. One pub fn for both has no `requires`, and would mask each index of these loops.
 fn jet_at(table: &[f64; 512], b: usize, e: usize) -> Jet
     requires { (b ≤ 320) × (e < 64) }
     ensures { result ≡ jet_at table.now b e }

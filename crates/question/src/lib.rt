@@ -256,7 +256,8 @@ fn moles(q: &[u8], book: &[u8], n: usize, x: &[f64; 8]) -> Result<[f64; 8], Refu
     ensures { outcome_of result ≡ moles_of (word q.now) (molar_mass (words book.now)) (places n) x.now }
 {
     if word(q, 27) == 1 {
-        thermo_types::normalize(&over_masses(book, n, x), n)
+        let amounts = over_masses(book, n, x);
+        thermo_types::normalize(&amounts, n)
     } else {
         Ok(*x)
     }

@@ -5,13 +5,12 @@ ghost use Rattle.std.specs.Prelude.{◌≡◌, ◌≤◌, ◌<◌, ◌+◌, ◌*
 ghost use Rattle.blocks.specs.Words.{word, block};
 ghost use Rattle.floats.specs.Arithmetic.{0f};
 ghost use Rattle.floats.specs.Vector.{vec, places, fill_from};
-ghost use Rattle.book.specs.declared.Model.TheVariants.{Nrtl, Wilson};
 ghost use Rattle.book.specs.Places.{words, row_from, pair_place};
 ghost use Rattle.floats.specs.Small.{float};
 ghost use Rattle.book.specs.Book.{model_of};
 ghost use Rattle.records.specs.Records.{ancillary_of, range_of, regression_of, pair_of};
 ghost use Rattle.records.specs.Offered.{offered_place, pair_at, with_pair};
-ghost use Rattle.records.specs.Parameters.{terms_of, term_in, wilson_term, pair_term, lower_from, parameter, both_of, parameter_both, parameter_border, parameter_rows, parameters_of};
+ghost use Rattle.records.specs.Parameters.{terms_of, term_in, wilson_term, pair_term, lower_from, parameter, parameter_both, parameter_border, parameter_rows, parameters_of};
 
 use blocks::word;
 use book::Model;
@@ -95,13 +94,13 @@ fn ancillary_at(s: &[u8], f: usize) -> Ancillary
     ensures { result ≡ ancillary_of (word s.now) f }
 {
     Ancillary {
+        count: floats::places(word(s, f + 4) as usize),
+        n: eight_floats(s, f + 5),
+        t: eight_floats(s, f + 13),
         t_r: float_at(s, f),
         reducing_value: float_at(s, f + 1),
         low: float_at(s, f + 2),
         high: float_at(s, f + 3),
-        count: floats::places(word(s, f + 4) as usize),
-        n: eight_floats(s, f + 5),
-        t: eight_floats(s, f + 13),
     }
 }
 
@@ -181,17 +180,19 @@ fn regression_at(s: &[u8]) -> Option<Interval>
     })
 }
 
-// Tau of the pair (i, j) from word 3 on, alpha from word 11 on.
+// Tau of the pair (i, j) from word 3 on, alpha from word 11 on. The last word first: past the test for it the others need none,
+// those of the caller neither.
+#[inline(always)]
 fn nrtl_terms(s: &[u8]) -> Terms
     ensures { result ≡ terms_of (term_in (word s.now) 3) }
 {
     Terms {
+        a1: float_at(s, 12),
+        a0: float_at(s, 11),
         t0: float_at(s, 3),
         t1: float_at(s, 4),
         t2: float_at(s, 5),
         t3: float_at(s, 6),
-        a0: float_at(s, 11),
-        a1: float_at(s, 12),
     }
 }
 
@@ -201,13 +202,14 @@ fn wilson_terms(s: &[u8], f: usize) -> Terms
     ensures { result ≡ terms_of (wilson_term (word s.now) f) }
 {
     Terms {
-        t0: float_at(s, f),
         t1: float_at(s, f + 1),
+        t0: float_at(s, f),
         ..NONE
     }
 }
 
 // Of the pair (i, j), i < j, and of (j, i), in their block. NRTL has one alpha for both.
+#[inline(always)]
 fn both_terms(model: Model, s: &[u8]) -> (Terms, Terms)
     ensures upper { result.0 ≡ terms_of (pair_term model (word s.now) 3) }
     ensures lower { result.1 ≡ terms_of (pair_term model (word s.now) (lower_from model)) }
@@ -263,7 +265,13 @@ fn set_terms(plane: &mut [f64; 384], from: usize, t: Terms)
     requires { from + 6 ≤ 384 }
     ensures { plane.new ≡ set (set (set (set (set (set plane.old from t.t0) (from + 1) t.t1) (from + 2) t.t2) (from + 3) t.t3) (from + 4) t.a0) (from + 5) t.a1 }
 {
-    plane[from..from + 6].copy_from_slice(&[t.t0, t.t1, t.t2, t.t3, t.a0, t.a1]);
+    // Kept: `copy_from_slice` tests at each call whether the two overlap, which takes longer than the copy.
+    plane[from] = t.t0;
+    plane[from + 1] = t.t1;
+    plane[from + 2] = t.t2;
+    plane[from + 3] = t.t3;
+    plane[from + 4] = t.a0;
+    plane[from + 5] = t.a1;
 }
 
 // The ordered pairs (i, j) and (j, i), j < i: the offered block's, or the book's.

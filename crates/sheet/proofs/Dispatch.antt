@@ -64,7 +64,7 @@ module _ (m : Mixture) (q : Question) (t : Float) where
   module _ {u : Task} (r : Result Task Refusal) (d : u ≡ result_unwrap_or r task.Flash) (e : task_found r ≡ need (is_task q.task) 12 (ok q.task)) where
     at_named : task_at m q t ≡ named_at (task_number u)
     unfolding task_at
-    at_named = rw (d, same_test _ 1 refl refl r e, same_test _ 2 refl refl r e, same_test _ 3 refl refl r e, same_test _ 6 refl refl r e)
+    at_named = rw (d, same_test q.task 1 refl refl r e, same_test q.task 2 refl refl r e, same_test q.task 3 refl refl r e, same_test q.task 6 refl refl r e)
 
     pub at_1 : u ≡ task.Activity → task_at m q t ≡ task1 m q t
     unfolding choose
@@ -111,7 +111,7 @@ module _ (m : Mixture) (p t : Float) where
   module _ (n : ℕ) {u : Task} (r : Result Task Refusal) (d : u ≡ result_unwrap_or r task.Flash) (e : task_found r ≡ need (is_task n) 12 (ok n)) where
     for_named : pressures_for m n p t ≡ named_for (task_number u)
     unfolding pressures_for
-    for_named = rw (d, same_test _ 1 refl refl r e, same_test _ 2 refl refl r e, same_test _ 3 refl refl r e, same_test _ 6 refl refl r e)
+    for_named = rw (d, same_test n 1 refl refl r e, same_test n 2 refl refl r e, same_test n 3 refl refl r e, same_test n 6 refl refl r e)
 
     pub pressures-unread : (u ≡ task.Activity) ⊎ (u ≡ task.Stability) → pressures_for m n p t ≡ ok zeros8
     unfolding choose

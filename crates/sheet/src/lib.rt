@@ -6,12 +6,11 @@ ghost use Rattle.floats.specs.Vector.{places};
 ghost use Rattle.floats.specs.Outcome.{ok, bind};
 ghost use Rattle.outcome.specs.Refused.{outcome_of, number_in};
 ghost use Rattle.thermo_types.specs.Quantities.{positive_of};
-ghost use Rattle.blocks.specs.Bytes.{put, block_bytes, word_at};
 ghost use Rattle.records.specs.Offered.{with_pair};
 ghost use Rattle.thermo_models.specs.Domain.{pure_liquids_of};
 ghost use Rattle.thermo_models.specs.Mixture.{Mixture, mixture_with, mixture_of};
 ghost use Rattle.question.specs.Inputs.{needs_temperature};
-ghost use Rattle.replies.specs.Blocks.{answer_room, trial_words, answer_bytes};
+ghost use Rattle.replies.specs.Blocks.{answer_room, answer_bytes};
 ghost use Rattle.sheet.specs.Tasks.{alone, task1, task6, task7, task_at, task_under, task_of};
 ghost use Rattle.sheet.specs.Ready.{pressures_in, flash_pressures, pressures_for, TableOf, Readied};
 ghost use Rattle.sheet.specs.Sheet.{replied, answer_to, roomy, sheet_from, sheet_of, Answers};
@@ -30,15 +29,7 @@ use thermo_types::{Pressure, Temperature};
 
 // ---- the blocks of an answer
 
-// Trial k stands in block k + 1.
-fn write_trial(rule: Rule, t: LiquidStabilityTrial, k: usize, out: &mut [u8])
-    requires { (k < 8) × (answer_room ≤ length out.old) }
-    ensures { out.new ≡ put out.old (512 * (k + 1)) (block_bytes rule (word_at (trial_words t))) }
-{
-    blocks::write_at(out, k + 1, rule, &trial_words(t));
-}
-
-// An answer and its trials, as many as word 12 says.
+// An answer, and its trials in the blocks behind it, as many as word 12 says.
 fn write_answer(
     rule: Rule,
     task: u64,
@@ -51,7 +42,7 @@ fn write_answer(
 {
     blocks::write_block(out, rule, &answer_words(task, b));
     for k in 0..b.state.trials as usize {
-        write_trial(rule, trials[k], k, out);
+        blocks::write_at(out, k + 1, rule, &trial_words(trials[k]));
     }
 }
 
@@ -325,6 +316,7 @@ fn at_pressure(
     task_under(rule, book, &parameters, n, p, q, out)
 }
 
+// Every task; a number that is no task's is refused with 12.
 fn solve(
     rule: Rule,
     book: &[u8],
@@ -396,7 +388,8 @@ pub fn answer_ready(
     if out.len() < ANSWER_ROOM {
         return Err(Refusal::AnswerShort);
     }
-    task_at(book::rule_of(book), book, b"", n, made?, table, ps, q, out)
+    let s = made?;
+    task_at(book::rule_of(book), book, b"", n, s, table, ps, q, out)
 }
 
 // The answer to a question, for a book that was opened: 10, then 11 to 21, then the task's own.

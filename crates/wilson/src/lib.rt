@@ -21,6 +21,7 @@ use thermo_types::Temperature;
 
 // ---- the sums S and ln S
 
+// Kept: nrtl has a jet_at and a two_at too; one pub fn for both has no `requires`, and would mask each index.
 fn jet_at(table: &[f64; 512], e: usize) -> Jet
     requires { e < 64 }
     ensures { result ≡ jet_at table.now 0 e }

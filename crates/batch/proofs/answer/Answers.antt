@@ -20,8 +20,8 @@ overflow_mul-count c = let few = few_feeds _ c.if-not-feeds_right.ensures in ome
 pub returns-then-out-count : goal.returns-then-out-count
 returns-then-out-count c = ends (room-no _ _ _ _ c.in_ok-head.ensures c.if-not-feeds_right.ensures c.if-out-count.true)
 
-pub answer_all-requires : goal.answer_all-requires
-answer_all-requires c = (few_feeds _ c.if-not-feeds_right.ensures, c.if-out-count.false)
+pub answer_feeds-requires : goal.answer_feeds-requires
+answer_feeds-requires c = (few_feeds _ c.if-not-feeds_right.ensures, c.if-out-count.false)
 
 pub returns : goal.returns
-returns c = rw c.answer_all.ensures (leaves _ (all_answered _ _ _ _ c.in_ok-head.ensures c.if-not-feeds_right.ensures c.if-out-count.false))
+returns c = rw c.answer_feeds.ensures (leaves _ (all_answered _ _ _ _ c.in_ok-head.ensures c.if-not-feeds_right.ensures c.if-out-count.false))

@@ -1,5 +1,5 @@
 -- `book::masses_positive` meets its contract. Assumes nothing.
-use Rattle.std.proofs.Common.{rules, ◌+◌, refl}
+use Rattle.std.proofs.Common.{rules, refl}
 use borrow.Author.Tests.{tests}
 use Rattle.floats.proofs.Chains.{all_of_range}
 use Rattle.floats.specs.Small.{positive}

@@ -1,5 +1,5 @@
 -- `book::open_offered` meets its contract. Each return rewrites by the tests that led there. Assumes nothing.
-use Rattle.std.proofs.Common.{sym, eq-eqb, ne_eqb}
+use Rattle.std.proofs.Common.{eq-eqb, ne_eqb}
 use Rattle.floats.specs.Outcome.{need}
 use Rattle.book.specs.Book.{offered_of}
 use Rattle.book.proofs.Sound.{finite_equal}

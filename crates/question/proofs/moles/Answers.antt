@@ -10,7 +10,7 @@ use Rattle.question.proofs.moles.Goals as goal
 pub returns-then-word-eq1 : goal.returns-then-word-eq1
 unfolding moles_of choose
 returns-then-word-eq1 c = rw (sym c.word.ensures, eq-eqb c.word.result 1 c.if-word-eq1.true)
-    (c.normalize.ensures ∙ rw c.over_masses.ensures (normalize_vec _ _ _ (min-le_right _ 8)))
+    (c.normalize.ensures ∙ rw c.over_masses-amounts.ensures (normalize_vec _ _ _ (min-le_right _ 8)))
 
 pub returns-else-word-eq1 : goal.returns-else-word-eq1
 unfolding moles_of choose

@@ -1,5 +1,4 @@
 -- `records::offered_place` meets its contract. One law for each way out. Assumes nothing.
-use native.Mathlib.Omega.{arith}
 use Rattle.records.proofs.Offered.{place-cut, place_order, place-past, place_found, place_short}
 use Rattle.records.proofs.offered_place.Goals as goal
 use Rattle.records.proofs.offered_place.Goals.{then-j-i-via-then-j-i, then-j-i-via-else-j-i+then-m-j}

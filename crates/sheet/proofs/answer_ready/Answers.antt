@@ -12,12 +12,12 @@ use Rattle.sheet.proofs.answer_ready.Goals as goal
 pub returns-then-out-lt-ANSWER_ROOM : goal.returns-then-out-lt-ANSWER_ROOM
 returns-then-out-lt-ANSWER_ROOM c e h = short _ (omega arith)
 
-pub returns-in_err-made : goal.returns-in_err-made
+pub returns-in_err-s : goal.returns-in_err-s
 unfolding answer_to
-returns-in_err-made c e h = roomed (omega arith) (quits _ _ c.from_residual.ensures.1 (bind-no _ (solved_at _ _ e ∙ task-refused _ _ (h.refused _ c.in_err-made.was))))
+returns-in_err-s c e h = roomed (omega arith) (quits _ _ c.from_residual.ensures.1 (bind-no _ (solved_at _ _ e ∙ task-refused _ _ (h.refused _ c.in_err-s.was))))
 
 pub returns : goal.returns
 unfolding answer_to
-returns c e h = let w = c.in_ok-made.was in
+returns c e h = let w = c.in_ok-s.was in
     let a = rw (c.rule_of.ensures, copy-nothing) at c.task_at.ensures in
     roomed (omega arith) (same_as (ap (replied _ _) (solved_at _ _ e ∙ bind_yes _ (h.temperature _ w))) (a (h.tables _ w) (h.pressures _ w)))

@@ -1,5 +1,5 @@
 -- `wilson::quotients_from` meets its contract: each solvent k adds a term to every lane. Assumes nothing.
-use Rattle.std.proofs.Common.{◌≡◌, ◌+◌}
+use Rattle.std.proofs.Common.{◌+◌}
 use Rattle.floats.specs.Vector.{at}
 use Rattle.jet.specs.Planes.{twos}
 use Rattle.excess.specs.Steps.{s_in, Side}
