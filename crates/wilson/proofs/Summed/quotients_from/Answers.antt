@@ -3,7 +3,7 @@ use Rattle.floats.specs.Fold.{fold_to}
 use Rattle.jet.proofs.Sums.{sum_jet_turn}
 use Rattle.excess.proofs.Steps.{side-same, turning-start, turning-next, turning-done}
 use Rattle.wilson.specs.Sums.{quotients}
-use Rattle.wilson.proofs.quotients_from.Goals as goal
+use Rattle.wilson.proofs.Summed.quotients_from.Goals as goal
 
 pub loop-k-init : goal.loop-k-init
 unfolding quotients fold_to

@@ -1,6 +1,6 @@
--- `wilson::sum_at` meets its contract. Assumes nothing.
+-- `wilson::Liquid::sum_at` meets its contract. Assumes nothing.
 use Rattle.excess.proofs.Steps.{sum-turn}
-use Rattle.wilson.proofs.sum_at.Goals as goal
+use Rattle.wilson.proofs.Liquid.sum_at.Goals as goal
 
 pub returns : goal.returns
 returns c = let s = c.row_sum-s.ensures in

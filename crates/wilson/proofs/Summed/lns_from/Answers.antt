@@ -1,7 +1,7 @@
 use native.Mathlib.Omega.{arith}
 use Rattle.excess.proofs.Steps.{turning-start, turning-next, turning-done}
 use Rattle.wilson.specs.Sums.{wilson_from}
-use Rattle.wilson.proofs.lns_from.Goals as goal
+use Rattle.wilson.proofs.Summed.lns_from.Goals as goal
 
 pub loop-w-init : goal.loop-w-init
 loop-w-init g c = turning-start c.quotients_from-l.ensures
