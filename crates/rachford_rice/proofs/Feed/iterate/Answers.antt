@@ -1,5 +1,5 @@
 use Rattle.rachford_rice.proofs.Laws.{loop_out, loop_stops, loop_last, loop_more}
-use Rattle.rachford_rice.proofs.iterate.Goals as goal
+use Rattle.rachford_rice.proofs.Feed.iterate.Goals as goal
 
 pub returns-then-not-is_finite : goal.returns-then-not-is_finite
 returns-then-not-is_finite c = search loop_stops
