@@ -10,13 +10,15 @@ ghost use Rattle.floats.specs.Small.{float};
 ghost use Rattle.book.specs.Book.{model_of};
 ghost use Rattle.records.specs.Records.{ancillary_of, range_of, regression_of, pair_of};
 ghost use Rattle.records.specs.Offered.{offered_place, pair_at, with_pair};
-ghost use Rattle.records.specs.Parameters.{terms_of, term_in, wilson_term, pair_term, lower_from, parameter, parameter_both, parameter_border, parameter_rows, parameters_of};
+ghost use Rattle.records.specs.Parameters.{terms_of, term_in, wilson_term, pair_term, lower_from, offered_parameter, parameter_both, parameter_border, parameter_rows, parameters_of};
 
 use blocks::word;
 use book::Model;
+use floats::Count;
 
 // A correlation of document 003: t_r, low and high in K, the reducing value in Pa; the first `count` of n and t are
 // its terms.
+// Kept: a count beside arrays of eight: fixed memory, no heap.
 #[derive(Clone, Copy)]
 pub struct Ancillary {
     pub t_r: f64,
@@ -28,7 +30,8 @@ pub struct Ancillary {
     pub t: [f64; 8],
 }
 
-// The temperatures that a correlation holds between, in K.
+// The temperatures that a correlation holds between, in K, the lower first.
+// Kept: its two readers hand on both ends in this order, and would say no more with names.
 #[derive(Clone, Copy)]
 pub struct Range(pub f64, pub f64);
 
@@ -69,6 +72,7 @@ pub struct Pair {
     pub regression: Option<Interval>,
 }
 
+// Kept: `question` has the same line; shared it would be a public function with contract and edits in their place.
 fn float_at(s: &[u8], k: usize) -> f64
     ensures { result ≡ float (word s.now) k }
 {
@@ -89,6 +93,8 @@ fn solvent_block(book: &[u8], i: usize) -> &[u8]
     blocks::block(book, i.saturating_add(1))
 }
 
+// The correlation from word f on.
+// Kept: a word's place, with room for the record behind it; as an enum of two records it would be turned into 3 or 24 here.
 fn ancillary_at(s: &[u8], f: usize) -> Ancillary
     requires { f ≤ 24 }
     ensures { result ≡ ancillary_of (word s.now) f }
@@ -133,19 +139,19 @@ pub fn density_range(book: &[u8], i: usize) -> Range
 }
 
 // Row i's first block: 1 + n, and the n - 1, n - 2, .. pairs of the rows before it. The rows past the last are empty.
-fn row_from(n: usize, i: usize) -> usize
-    requires { n ≤ 8 }
-    ensures { (result ≡ row_from n i) × (result ≤ 37) }
+fn row_from(m: Count, i: usize) -> usize
+    ensures { (result ≡ row_from m.n i) × (result ≤ 37) }
 {
+    let n = m.n;
     let i = i.min(n);
     1 + n + (i * (2 * n - i) - i) / 2
 }
 
-fn pair_place(n: usize, i: usize, j: usize) -> usize
-    requires { (n ≤ 8) × (j ≤ 8) }
-    ensures { result ≡ pair_place n i j }
+fn pair_place(m: Count, i: usize, j: usize) -> usize
+    requires { j ≤ 8 }
+    ensures { result ≡ pair_place m.n i j }
 {
-    row_from(n, i) + j.saturating_sub(i).saturating_sub(1)
+    row_from(m, i) + j.saturating_sub(i).saturating_sub(1)
 }
 
 // ---- a pair offered in the place of the book's own
@@ -157,10 +163,10 @@ pub fn offered_place(book: &[u8], offered: &[u8], n: usize) -> usize
     if offered.len() != 512 {
         return 0;
     }
-    let m = floats::places(n);
+    let m = Count::of(n);
     let i = word(offered, 1);
     let j = word(offered, 2);
-    if j <= i || m as u64 <= j {
+    if j <= i || m.n as u64 <= j {
         return 0;
     }
     let place = pair_place(m, i as usize, j as usize);
@@ -182,6 +188,7 @@ fn regression_at(s: &[u8]) -> Option<Interval>
 
 // Tau of the pair (i, j) from word 3 on, alpha from word 11 on. The last word first: past the test for it the others need none,
 // those of the caller neither.
+// Kept: like `question::options_in` in shape alone, with no field in common.
 #[inline(always)]
 fn nrtl_terms(s: &[u8]) -> Terms
     ensures { result ≡ terms_of (term_in (word s.now) 3) }
@@ -209,6 +216,7 @@ fn wilson_terms(s: &[u8], f: usize) -> Terms
 }
 
 // Of the pair (i, j), i < j, and of (j, i), in their block. NRTL has one alpha for both.
+// Kept: a definition by cases; `Model` is `book`'s, and as its method this would want a trait for one call.
 #[inline(always)]
 fn both_terms(model: Model, s: &[u8]) -> (Terms, Terms)
     ensures upper { result.0 ≡ terms_of (pair_term model (word s.now) 3) }
@@ -241,26 +249,6 @@ fn pair_in(model: Model, s: &[u8]) -> Pair
     }
 }
 
-// Block k, where a block is offered for the pair at `place`.
-fn pair_at<'a>(book: &'a [u8], offered: &'a [u8], place: usize, k: usize) -> &'a [u8]
-    ensures { result.now ≡ pair_at book.now offered.now place k }
-{
-    if k == place {
-        offered
-    } else {
-        blocks::block(book, k)
-    }
-}
-
-// The pair (i, j), i < j, of a book of n solvents, where a block is offered for the pair at `place`.
-pub fn pair_record(book: &[u8], offered: &[u8], place: usize, n: usize, i: usize, j: usize) -> Pair
-    ensures { result ≡ pair_of (model_of book.now) (word (pair_at book.now offered.now place (pair_place (places n) (places i) (places j)))) }
-{
-    let model = book::model_of(book);
-    let k = pair_place(floats::places(n), floats::places(i), floats::places(j));
-    pair_in(model, pair_at(book, offered, place, k))
-}
-
 fn set_terms(plane: &mut [f64; 384], from: usize, t: Terms)
     requires { from + 6 ≤ 384 }
     ensures { plane.new ≡ set (set (set (set (set (set plane.old from t.t0) (from + 1) t.t1) (from + 2) t.t2) (from + 3) t.t3) (from + 4) t.a0) (from + 5) t.a1 }
@@ -274,44 +262,7 @@ fn set_terms(plane: &mut [f64; 384], from: usize, t: Terms)
     plane[from + 5] = t.a1;
 }
 
-// The ordered pairs (i, j) and (j, i), j < i: the offered block's, or the book's.
-fn fill_both(
-    model: Model,
-    book: &[u8],
-    offered: &[u8],
-    place: usize,
-    n: usize,
-    i: usize,
-    j: usize,
-    plane: &mut [f64; 384],
-)
-    requires { (n ≤ 8) × (i < 8) × (j < i) }
-    ensures { plane.new ≡ parameter_both (parameter model (λ k. word (pair_at book.now offered.now place k)) n) i j plane.old }
-{
-    let s = pair_at(book, offered, place, pair_place(n, j, i));
-    let (upper, lower) = both_terms(model, s);
-    set_terms(plane, (i * 8 + j) * 6, lower);
-    set_terms(plane, (j * 8 + i) * 6, upper);
-}
-
-// Row i up to the diagonal, and column i.
-fn fill_border(
-    model: Model,
-    book: &[u8],
-    offered: &[u8],
-    place: usize,
-    n: usize,
-    i: usize,
-    plane: &mut [f64; 384],
-)
-    requires { (n ≤ 8) × (i < 8) }
-    ensures { plane.new ≡ parameter_border (parameter model (λ k. word (pair_at book.now offered.now place k)) n) i i plane.old }
-{
-    for j in 0..i {
-        fill_both(model, book, offered, place, n, i, j, plane);
-    }
-}
-
+// Kept: `i < 8` is the index of a row of eight, as below.
 fn diagonal(i: usize, plane: &mut [f64; 384])
     requires { i < 8 }
     ensures { plane.new ≡ fill_from (λ _. 0f) ((i * 8 + i) * 6) 6 plane.old }
@@ -319,15 +270,75 @@ fn diagonal(i: usize, plane: &mut [f64; 384])
     set_terms(plane, (i * 8 + i) * 6, NONE);
 }
 
-fn fill(model: Model, book: &[u8], offered: &[u8], place: usize, n: usize, plane: &mut [f64; 384])
-    requires { n ≤ 8 }
-    ensures { plane.new ≡ parameter_rows (parameter model (λ k. word (pair_at book.now offered.now place k)) n) n n }
-{
-    *plane = [0.0; 384];
-    for i in 0..n {
-        fill_border(model, book, offered, place, n, i, plane);
-        diagonal(i, plane);
+// The pair blocks of a book, where a block is offered for the pair at `place`.
+#[derive(Clone, Copy)]
+struct PairBlocks<'a> {
+    model: Model,
+    book: &'a [u8],
+    offered: &'a [u8],
+    place: usize,
+    m: Count,
+}
+
+impl<'a> PairBlocks<'a> {
+    // That of the pair (i, j), i < j.
+    fn block(self, i: usize, j: usize) -> &'a [u8]
+        requires { j ≤ 8 }
+        ensures { result.now ≡ pair_at self.entry.book.now self.entry.offered.now self.entry.place (pair_place self.entry.m.n i j) }
+    {
+        let k = pair_place(self.m, i, j);
+        if k == self.place {
+            self.offered
+        } else {
+            blocks::block(self.book, k)
+        }
     }
+
+    // The ordered pairs (i, j) and (j, i), j < i: the offered block's, or the book's.
+    fn fill_both(self, i: usize, j: usize, plane: &mut [f64; 384])
+        requires { (i < 8) × (j < i) }
+        ensures { plane.new ≡ parameter_both (offered_parameter self.entry.model self.entry.book.now self.entry.offered.now self.entry.place self.entry.m.n) i j plane.old }
+    {
+        let (upper, lower) = both_terms(self.model, self.block(j, i));
+        set_terms(plane, (i * 8 + j) * 6, lower);
+        set_terms(plane, (j * 8 + i) * 6, upper);
+    }
+
+    // Row i up to the diagonal, and column i.
+    fn fill_border(self, i: usize, plane: &mut [f64; 384])
+        requires { i < 8 }
+        ensures { plane.new ≡ parameter_border (offered_parameter self.entry.model self.entry.book.now self.entry.offered.now self.entry.place self.entry.m.n) i i plane.old }
+    {
+        for j in 0..i {
+            self.fill_both(i, j, plane);
+        }
+    }
+
+    fn fill(self, plane: &mut [f64; 384])
+        ensures { plane.new ≡ parameter_rows (offered_parameter self.entry.model self.entry.book.now self.entry.offered.now self.entry.place self.entry.m.n) self.entry.m.n self.entry.m.n }
+    {
+        *plane = [0.0; 384];
+        for i in 0..self.m.n {
+            self.fill_border(i, plane);
+            diagonal(i, plane);
+        }
+    }
+}
+
+// The pair (i, j), i < j, of a book of n solvents, where a block is offered for the pair at `place`.
+pub fn pair_record(book: &[u8], offered: &[u8], place: usize, n: usize, i: usize, j: usize) -> Pair
+    ensures { result ≡ pair_of (model_of book.now) (word (pair_at book.now offered.now place (pair_place (places n) (places i) (places j)))) }
+{
+    let model = book::model_of(book);
+    let m = Count::of(n);
+    let pairs = PairBlocks {
+        model,
+        book,
+        offered,
+        place,
+        m,
+    };
+    pair_in(model, pairs.block(floats::places(i), floats::places(j)))
 }
 
 // The parameters of all ordered pairs, from (i * 8 + j) * 6 on: NRTL, tau's t0 to t3, alpha's a0 and a1; Wilson, a and b,
@@ -336,13 +347,15 @@ fn fill(model: Model, book: &[u8], offered: &[u8], place: usize, n: usize, plane
 pub fn parameters(book: &[u8], offered: &[u8], n: usize, plane: &mut [f64; 384])
     ensures { plane.new ≡ parameters_of (with_pair (places n) book.now offered.now) (places n) }
 {
+    let model = book::model_of(book);
     let place = offered_place(book, offered, n);
-    fill(
-        book::model_of(book),
+    let m = Count::of(n);
+    let pairs = PairBlocks {
+        model,
         book,
         offered,
         place,
-        floats::places(n),
-        plane,
-    );
+        m,
+    };
+    pairs.fill(plane);
 }

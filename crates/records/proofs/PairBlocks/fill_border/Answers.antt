@@ -2,7 +2,7 @@ use mathlib.Core.Path.{refl}
 use Rattle.floats.specs.Fold.{fold_to}
 use Rattle.floats.proofs.Folds.{fold_turn, fold_done}
 use native.Mathlib.Omega.{arith}
-use Rattle.records.proofs.fill_border.Goals as goal
+use Rattle.records.proofs.PairBlocks.fill_border.Goals as goal
 
 pub loop-j-init : goal.loop-j-init
 unfolding fold_to

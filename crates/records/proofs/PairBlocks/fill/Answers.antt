@@ -2,7 +2,7 @@ use native.Mathlib.Omega.{arith}
 use Rattle.blocks.specs.Words.{word}
 use Rattle.records.proofs.Loads.{square_holds, square-more, square_done}
 use Rattle.records.specs.Offered.{pair_at}
-use Rattle.records.proofs.fill.Goals as goal
+use Rattle.records.proofs.PairBlocks.fill.Goals as goal
 
 pub loop-i-init : goal.loop-i-init
 loop-i-init c = square_holds _
