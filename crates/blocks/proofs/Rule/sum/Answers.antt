@@ -1,6 +1,6 @@
--- `blocks::sum_by` meets its contract. Assumes nothing.
+-- `blocks::Rule::sum` meets its contract. Assumes nothing.
 use Rattle.blocks.specs.Words.{sum_by}
-use Rattle.blocks.proofs.sum_by.Goals as goal
+use Rattle.blocks.proofs.Rule.sum.Goals as goal
 
 pub returns-in-Plain : goal.returns-in-Plain
 unfolding sum_by
