@@ -1,17 +1,16 @@
 -- Turns of the loops, the ways out of a turn of a trial, out of a trial and out of the trials. Assumes nothing.
 use Prim.Native.Nat.{ℕ, zero, suc, ◌+◌, ◌-◌, ◌<◌, ◌≤◌}
 use mathlib.Core.Path.{◌≡◌, refl, ◌∙◌, ap, sym}
-use mathlib.Core.Bool.{Bool, true, false, not, cond, ◌&&◌}
+use mathlib.Core.Bool.{Bool, true, false, cond}
 use mathlib.Core.List.{List}
 use native.Mathlib.Nat.{zero-add, suc-add}
 use native.Mathlib.Numerals.{add-one}
 use native.Mathlib.Omega.{arith}
 use lib.Dec.{T, ltb, le→leb}
 use lib.IntN.{pos}
-use lib.ListN.{set}
 use lib.Ieee.{Float, nan, binary64, lt, le, of_int, in_float}
 use Rattle.std.specs.Prelude.{Option, Some, None, Result, Ok, Err}
-use Rattle.floats.specs.Arithmetic.{◌⊕◌, ◌⊖◌, ◌⊗◌, ◌⊘◌, 0f, 1f}
+use Rattle.floats.specs.Arithmetic.{◌⊕◌, ◌⊘◌, 0f}
 use Rattle.floats.specs.Fold.{fold_to, active}
 use Rattle.floats.specs.Vector.{at, vec, zeros8}
 use Rattle.floats.specs.Outcome.{Out, ok, no, bind, choose}
@@ -24,7 +23,7 @@ use Rattle.thermo_types.specs.declared.ActivityOptions.{ActivityOptions}
 use Rattle.thermo_models.specs.Model.{Activity}
 use Rattle.liquid_stability.specs.declared.LiquidStabilityTrial.{LiquidStabilityTrial}
 use Rattle.liquid_stability.specs.declared.Turned.{Turned}
-use Rattle.liquid_stability.specs.Stability.{trivial_distance, present_count, start_from, others_in, total_of, trial_composition, distance_of, next_of, change_of, apart_of, unstable, trial_with, tangent, Trials, no_trials, with_trial, judge, trial_from, trials_to, stability_of}
+use Rattle.liquid_stability.specs.Stability.{trivial_distance, present_count, start_of, others_in, total_of, trial_composition, distance_of, next_of, change_of, apart_of, trial_with, tangent, Trials, no_trials, with_trial, judge, trial_from, trials_to, stability_of}
 use Rattle.liquid_stability.specs.Steps.{amounts_of, after, Judges, TrialTurn}
 
 -- ---- the solvents present
@@ -149,8 +148,8 @@ module _ (E : List Float → Out Activity) (n : ℕ) (o : ActivityOptions) (x d 
   abbrev runs : ℕ → Out Trials
   runs k = trials_to E n o x d k
 
-  abbrev tried : Float → ℕ → Out LiquidStabilityTrial
-  tried others k = trial_from E o.tm_threshold n x d k o.max_iterations 0 (start_from others n k)
+  abbrev tried : ℕ → Out LiquidStabilityTrial
+  tried k = trial_from E o.tm_threshold n x d k o.max_iterations 0 (start_of x n k)
 
   stays : (k r : ℕ) → runs k ≡ no r → runs (suc k) ≡ no r
   unfolding trials_to bind
@@ -165,17 +164,17 @@ module _ (E : List Float → Out Activity) (n : ℕ) (o : ActivityOptions) (x d 
     unfolding trials_to bind choose
     trials_skip t = rw (add-one, h, t)
 
-    module _ (t : lt 0f (at x k) ≡ true) {others : Float} (po : others ≡ others_in x n) where
-      pub trials-refused : {r : ℕ} → k < n → no r ≡ tried others k → trials_to E n o x d n ≡ no r
+    module _ (t : lt 0f (at x k) ≡ true) where
+      pub trials-refused : {r : ℕ} → k < n → no r ≡ tried k → trials_to E n o x d n ≡ no r
       unfolding trials_to bind choose
       trials-refused {r} l q =
-          let p : runs (suc k) ≡ no r = rw (h, t, ← po, ← q) in
+          let p : runs (suc k) ≡ no r = rw (h, t, ← q) in
           let z : n ≡ (n - suc k) + suc k = omega arith in
           ap runs z ∙ stays_to (suc k) (n - suc k) r p
 
-      pub trials-more : {a : LiquidStabilityTrial} → ok a ≡ tried others k → trials_to E n o x d (k + 1) ≡ ok (with_trial o.tm_threshold s a)
+      pub trials-more : {a : LiquidStabilityTrial} → ok a ≡ tried k → trials_to E n o x d (k + 1) ≡ ok (with_trial o.tm_threshold s a)
       unfolding trials_to bind choose
-      trials-more q = rw (add-one, h, t, ← po, ← q)
+      trials-more q = rw (add-one, h, t, ← q)
 
 -- ---- the number of the other solvents present
 module _ (x : List Float) (n : ℕ) {c : ℕ} (e : c ≡ present_count x n) where

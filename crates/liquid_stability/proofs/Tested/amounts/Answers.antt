@@ -3,7 +3,7 @@ use native.Mathlib.Omega.{arith}
 use Rattle.floats.proofs.Fills.{fill-turn}
 use Rattle.floats.specs.Vector.{fill}
 use Rattle.liquid_stability.specs.Steps.{amounts_of}
-use Rattle.liquid_stability.proofs.amounts.Goals as goal
+use Rattle.liquid_stability.proofs.Tested.amounts.Goals as goal
 
 pub loop-i-init : goal.loop-i-init
 unfolding amounts_of fill

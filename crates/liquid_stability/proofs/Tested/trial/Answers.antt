@@ -1,9 +1,8 @@
-use mathlib.Core.Path.{◌∙◌, refl}
-use native.Mathlib.Omega.{arith}
+use mathlib.Core.Path.{◌∙◌}
 use Rattle.outcome.proofs.Exits.{met}
 use Rattle.liquid_stability.specs.Stability.{trial_with}
 use Rattle.liquid_stability.proofs.Laws.{trial-start, trial_out, trial-refused, trial-found, trial-more}
-use Rattle.liquid_stability.proofs.trial.Goals as goal
+use Rattle.liquid_stability.proofs.Tested.trial.Goals as goal
 
 pub loop-done-init : goal.loop-done-init
 loop-done-init c = trial-start _ _ _ _ _ _ _ _ c.start-ln_w.ensures

@@ -2,7 +2,7 @@ use mathlib.Core.Path.{refl}
 use Rattle.floats.proofs.Fills.{fill-turn}
 use Rattle.floats.specs.Vector.{fill}
 use Rattle.liquid_stability.specs.Stability.{next_of}
-use Rattle.liquid_stability.proofs.next.Goals as goal
+use Rattle.liquid_stability.proofs.Tested.next.Goals as goal
 
 pub loop-i-init : goal.loop-i-init
 unfolding next_of fill

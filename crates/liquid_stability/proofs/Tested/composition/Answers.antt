@@ -1,7 +1,7 @@
 use mathlib.Core.Path.{refl}
 use Rattle.floats.proofs.Fills.{fill-turn}
 use Rattle.floats.specs.Vector.{fill}
-use Rattle.liquid_stability.proofs.composition.Goals as goal
+use Rattle.liquid_stability.proofs.Tested.composition.Goals as goal
 
 pub loop-i-init : goal.loop-i-init
 unfolding fill
