@@ -1,6 +1,6 @@
 use native.Mathlib.Omega.{arith}
 use Rattle.thermo_models.proofs.Pairs.{row-start, row-turn, row_done}
-use Rattle.thermo_models.proofs.see_row.Goals as goal
+use Rattle.thermo_models.proofs.Present.see_row.Goals as goal
 
 pub loop-j-init : goal.loop-j-init
 loop-j-init c = row-start _ _ _ _ _ _

@@ -3,7 +3,7 @@ use native.Mathlib.Omega.{arith}
 use Rattle.floats.specs.Vector.{fill}
 use Rattle.floats.proofs.Fills.{fill-turn, fill_done}
 use Rattle.thermo_models.proofs.Pures.{logarithm_of}
-use Rattle.thermo_models.proofs.fill_logarithms.Goals as goal
+use Rattle.thermo_models.proofs.Solvents.fill_logarithms.Goals as goal
 
 pub loop-i-init : goal.loop-i-init
 unfolding fill
