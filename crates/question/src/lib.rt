@@ -104,6 +104,7 @@ fn needs_ratios(task: u64) -> bool
     matches!(task, 8..=9)
 }
 
+// Kept: as in records, since one line in each is shorter than a `pub fn` (and `blocks` knows no floats).
 fn float_at(q: &[u8], k: usize) -> f64
     ensures { result ≡ float (word q.now) k }
 {
@@ -202,6 +203,7 @@ fn limits_few(q: &[u8]) -> bool
     (!needs_options(task) || (most && limited(word(q, 14)))) && (!needs_ratios(task) || most)
 }
 
+// Kept: six fields by their words, like other terms in records in its look alone.
 #[tactic(auto, unfolding(crate::specs::Asked::options_in))]
 fn options_in(q: &[u8]) -> ActivityOptions
     ensures { result ≡ options_in (word q.now) }

@@ -1,6 +1,5 @@
 -- `pool::answer` meets its contract. Assumes nothing.
 use mathlib.Core.Path.{sym, ◌∙◌}
-use native.Mathlib.Nat.{min-le_right}
 use borrow.Author.Tests.{le-leb, lt-leb, ne_eqb}
 use Rattle.floats.specs.Outcome.{bind, need}
 use Rattle.sheet.specs.Sheet.{roomy}
@@ -31,22 +30,24 @@ pub returns-then-not-total_right : goal.returns-then-not-total_right
 unfolding drums_to need
 returns-then-not-total_right c = refuses (rw (
   asked _ _ _ _ c.in_ok-n.ensures c.if-out-lt-ANSWER_ROOM.false c.rule_of.ensures c.in_ok-read_task.ensures,
+  ← c.of-m.ensures,
   sym c.if-not-drums_right.ensures,
-  sym (c.if-not-total_right.ensures ∙ counted _ _ (min-le_right _ 8) c.pool_counts-counts.ensures),
+  sym (c.if-not-total_right.ensures ∙ counted _ _ c.of-m.result.few c.pool_counts-counts.ensures),
 ))
 
 pub returns-then-word-ne0 : goal.returns-then-word-ne0
 unfolding drums_to need
 returns-then-word-ne0 c = refuses (rw (
   asked _ _ _ _ c.in_ok-n.ensures c.if-out-lt-ANSWER_ROOM.false c.rule_of.ensures c.in_ok-read_task.ensures,
+  ← c.of-m.ensures,
   sym c.if-not-drums_right.ensures,
-  sym (c.if-not-total_right.ensures ∙ counted _ _ (min-le_right _ 8) c.pool_counts-counts.ensures),
+  sym (c.if-not-total_right.ensures ∙ counted _ _ c.of-m.result.few c.pool_counts-counts.ensures),
   ← c.word.ensures,
   ne_eqb _ 0 c.if-word-ne0.true,
 ))
 
 pub pool_feed-requires : goal.pool_feed-requires
-pool_feed-requires c = count_fits _ _ (min-le_right _ 8) c.pool_counts-counts.ensures (sym c.if-not-total_right.ensures)
+pool_feed-requires c = count_fits _ _ c.of-m.result.few c.pool_counts-counts.ensures (sym c.if-not-total_right.ensures)
 
 pub returns-in_err-x : goal.returns-in_err-x
 unfolding bind
@@ -54,8 +55,9 @@ returns-in_err-x c = let t = c.if-not-total_right.ensures in
     let e = c.pool_counts-counts.ensures in
     quits _ _ c.from_residual-in_err-x.ensures.1 (rw (
       asked _ _ _ _ c.in_ok-n.ensures c.if-out-lt-ANSWER_ROOM.false c.rule_of.ensures c.in_ok-read_task.ensures,
-      pooled _ _ _ _ c.if-not-drums_right.ensures (t ∙ counted _ _ (min-le_right _ 8) e) c.word.ensures c.if-word-ne0.false,
-      sym (feed_of_lem _ _ (min-le_right _ 8) e (sym t)),
+      ← c.of-m.ensures,
+      pooled _ _ _ _ c.if-not-drums_right.ensures (t ∙ counted _ _ c.of-m.result.few e) c.word.ensures c.if-word-ne0.false,
+      sym (feed_of_lem _ _ c.of-m.result.few e (sym t)),
       sym c.in_err-x.ensures,
     ))
 
@@ -65,9 +67,11 @@ returns-in_err-q c = let t = c.if-not-total_right.ensures in
     let e = c.pool_counts-counts.ensures in
     quits _ _ c.from_residual-in_err-q.ensures.1 (rw (
       asked _ _ _ _ c.in_ok-n.ensures c.if-out-lt-ANSWER_ROOM.false c.rule_of.ensures c.in_ok-read_task.ensures,
-      pooled _ _ _ _ c.if-not-drums_right.ensures (t ∙ counted _ _ (min-le_right _ 8) e) c.word.ensures c.if-word-ne0.false,
-      sym (feed_of_lem _ _ (min-le_right _ 8) e (sym t)),
+      ← c.of-m.ensures,
+      pooled _ _ _ _ c.if-not-drums_right.ensures (t ∙ counted _ _ c.of-m.result.few e) c.word.ensures c.if-word-ne0.false,
+      sym (feed_of_lem _ _ c.of-m.result.few e (sym t)),
       sym c.in_ok-x.ensures,
+      c.of-m.ensures,
       sym c.in_err-q.ensures,
     ))
 
@@ -78,9 +82,11 @@ returns c = let l = c.if-out-lt-ANSWER_ROOM.false in
     let e = c.pool_counts-counts.ensures in
     rw (
       asked _ _ _ _ c.in_ok-n.ensures l c.rule_of.ensures c.in_ok-read_task.ensures,
-      pooled _ _ _ _ c.if-not-drums_right.ensures (t ∙ counted _ _ (min-le_right _ 8) e) c.word.ensures c.if-word-ne0.false,
-      sym (feed_of_lem _ _ (min-le_right _ 8) e (sym t)),
+      ← c.of-m.ensures,
+      pooled _ _ _ _ c.if-not-drums_right.ensures (t ∙ counted _ _ c.of-m.result.few e) c.word.ensures c.if-word-ne0.false,
+      sym (feed_of_lem _ _ c.of-m.result.few e (sym t)),
       sym c.in_ok-x.ensures,
+      c.of-m.ensures,
       sym c.in_ok-q.ensures,
     )
     (rw (le-leb _ _ l) at c.answer_asked.ensures)

@@ -1,8 +1,6 @@
-use Prim.Native.Nat.{◌^◌}
-use mathlib.Core.Path.{◌≡◌, refl}
+use mathlib.Core.Path.{refl}
 use Rattle.floats.specs.Fold.{fold_to}
-use Rattle.pool.proofs.Laws.{kept-turn, kept_done, kept-within}
-use native.Mathlib.Omega.{arith}
+use Rattle.pool.proofs.Laws.{kept-turn}
 use Rattle.pool.proofs.total_right.Goals as goal
 
 pub loop-i-init : goal.loop-i-init
