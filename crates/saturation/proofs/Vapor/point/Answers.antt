@@ -1,8 +1,8 @@
--- `saturation::dew_point` meets its contract. Assumes nothing.
+-- `saturation::Vapor::point` meets its contract. Assumes nothing.
 use Rattle.floats.specs.Outcome.{bind}
 use Rattle.outcome.proofs.Exits.{met}
 use Rattle.saturation.proofs.Laws.{places_is, point-from}
-use Rattle.saturation.proofs.dew_point.Goals as goal
+use Rattle.saturation.proofs.Vapor.point.Goals as goal
 
 pub returns-in_err-pressure : goal.returns-in_err-pressure
 unfolding bind
@@ -15,10 +15,10 @@ returns-in_err-residual c =
       met c.in_err-residual.field-0.0 c.from_residual-in_err-residual.result c.from_residual-in_err-residual.ensures.1,
       point-from,
       ← c.in_ok-pressure.ensures,
-      ← places_is _ c.requires,
+      ← places_is _ c.args.self.m.few,
       ← c.in_err-residual.ensures,
     )
 
 pub returns : goal.returns
 unfolding bind
-returns c = rw (point-from, ← c.in_ok-pressure.ensures, ← places_is _ c.requires, ← c.in_ok-residual.ensures)
+returns c = rw (point-from, ← c.in_ok-pressure.ensures, ← places_is _ c.args.self.m.few, ← c.in_ok-residual.ensures)

@@ -3,8 +3,8 @@ use native.Mathlib.Omega.{arith}
 use Rattle.floats.proofs.Folds.{fold_turn, fold_done}
 use Rattle.floats.specs.Fold.{fold_to}
 use Rattle.saturation.specs.Saturation.{gap_of}
-use Rattle.saturation.proofs.largest_gap.Goals as goal
-use Rattle.saturation.proofs.largest_gap.Goals.{then-x-i, else-x-i}
+use Rattle.saturation.proofs.Raoult.largest_gap.Goals as goal
+use Rattle.saturation.proofs.Raoult.largest_gap.Goals.{then-x-i, else-x-i}
 
 pub loop-i-init : goal.loop-i-init
 unfolding gap_of fold_to

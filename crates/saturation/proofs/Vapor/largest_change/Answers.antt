@@ -3,8 +3,8 @@ use native.Mathlib.Omega.{arith}
 use Rattle.floats.proofs.Folds.{fold_turn, fold_done}
 use Rattle.floats.specs.Fold.{fold_to}
 use Rattle.saturation.specs.Saturation.{change_of}
-use Rattle.saturation.proofs.largest_change.Goals as goal
-use Rattle.saturation.proofs.largest_change.Goals.{then-y-i, else-y-i}
+use Rattle.saturation.proofs.Vapor.largest_change.Goals as goal
+use Rattle.saturation.proofs.Vapor.largest_change.Goals.{then-self-i, else-self-i}
 
 pub loop-i-init : goal.loop-i-init
 unfolding change_of fold_to
@@ -14,9 +14,9 @@ pub loop-i-preserved : goal.loop-i-preserved
 unfolding change_of
 loop-i-preserved c =
     fold_turn _ _ _
-    (elim c.if-y-i.branch [
-      | then-y-i w ↦ rw (w.if-y-i.true, w.r-is, w.max-r.ensures, w.abs.ensures)
-      | else-y-i w ↦ rw (w.if-y-i.false, w.r-is)
+    (elim c.if-self-i.branch [
+      | then-self-i w ↦ rw (w.if-self-i.true, w.r-is, w.max-r.ensures, w.abs.ensures)
+      | else-self-i w ↦ rw (w.if-self-i.false, w.r-is)
     ])
     c.loop-i.invariant
 

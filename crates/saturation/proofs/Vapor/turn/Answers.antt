@@ -1,8 +1,8 @@
--- `saturation::dew_turn` meets its contract. Assumes nothing.
+-- `saturation::Vapor::turn` meets its contract. Assumes nothing.
 use Rattle.floats.specs.Outcome.{bind, need}
 use Rattle.outcome.proofs.Exits.{met}
 use Rattle.saturation.proofs.Laws.{tests, turn-from}
-use Rattle.saturation.proofs.dew_turn.Goals as goal
+use Rattle.saturation.proofs.Vapor.turn.Goals as goal
 
 pub returns-in_err-pressure : goal.returns-in_err-pressure
 unfolding bind
