@@ -320,22 +320,17 @@ pub fn activity_dew_pressure(
 ) -> Result<ActivitySaturation, Refusal>
     ensures { outcome_of result ≡ dew_task (activity_on table.now s) ps.now (places s.n) o s.t.0 y.now }
 {
-    let DewPoint {
-        pressure,
-        liquid,
-        iterations,
-        residual,
-        ..
-    } = dew_at(table, s, y, ps, o)?;
-    if !thermo_models::check_pressure(pressure) {
+    let d = dew_at(table, s, y, ps, o)?;
+    if !thermo_models::check_pressure(d.pressure) {
         return Err(Refusal::PressureOutside);
     }
+    let liquid = d.liquid;
     Ok(ActivitySaturation {
         temperature: s.t.value(),
-        pressure,
+        pressure: d.pressure,
         liquid,
         vapor: *y,
-        residual,
-        iterations,
+        residual: d.residual,
+        iterations: d.iterations,
     })
 }

@@ -4,14 +4,14 @@ use Rattle.outcome.proofs.Exits.{met}
 use Rattle.saturation.specs.Saturation.{dew_task}
 use Rattle.saturation.proofs.activity_dew_pressure.Goals as goal
 
-pub returns-in_err-pressure : goal.returns-in_err-pressure
+pub returns-in_err-d : goal.returns-in_err-d
 unfolding dew_task bind
-returns-in_err-pressure c = rw (met c.in_err-pressure.field-0.0 c.from_residual.result c.from_residual.ensures.1, ← c.in_err-pressure.ensures)
+returns-in_err-d c = rw (met c.in_err-d.field-0.0 c.from_residual.result c.from_residual.ensures.1, ← c.in_err-d.ensures)
 
 pub returns-then-not-check_pressure : goal.returns-then-not-check_pressure
 unfolding dew_task bind need
-returns-then-not-check_pressure c = rw (← c.in_ok-pressure.ensures, ← c.if-not-check_pressure.ensures)
+returns-then-not-check_pressure c = rw (← c.in_ok-d.ensures, ← c.if-not-check_pressure.ensures)
 
 pub returns : goal.returns
 unfolding dew_task bind need
-returns c = rw (← c.in_ok-pressure.ensures, ← c.if-not-check_pressure.ensures, ← c.value.ensures)
+returns c = rw (← c.in_ok-d.ensures, ← c.if-not-check_pressure.ensures, ← c.value.ensures)
