@@ -19,9 +19,7 @@ use Rattle.thermo_types.proofs.Normalizing.{normalize_cong}
 use Rattle.thermo_models.specs.Model.{Activity}
 use Rattle.saturation.specs.Saturation.{Dew, partial_of, partial_sum, bubble_from, residual_with, dew_term, dew_pressure, dew_liquid, change_of, turned, incipient, dew_turn, dew_point, dew_loop, dew_at}
 use Rattle.saturation.specs.declared.DewTurn.{DewTurn}
-
-pub places_is : (n : ℕ) → n ≤ 8 → places n ≡ n
-places_is n h = omega arith
+use Rattle.saturation.proofs.Answers.{places_is}
 
 -- ---- terms stored in an array, summed and divided from there
 module _ (f : ℕ → Float) (n : ℕ) (h : n ≤ 8) {w : List Float} (e : w ≡ vec f n) where

@@ -1,7 +1,8 @@
 -- `saturation::Vapor::point` meets its contract. Assumes nothing.
 use Rattle.floats.specs.Outcome.{bind}
 use Rattle.outcome.proofs.Exits.{met}
-use Rattle.saturation.proofs.Laws.{places_is, point-from}
+use Rattle.saturation.proofs.Answers.{places_is}
+use Rattle.saturation.proofs.Laws.{point-from}
 use Rattle.saturation.proofs.Vapor.point.Goals as goal
 
 pub returns-in_err-pressure : goal.returns-in_err-pressure

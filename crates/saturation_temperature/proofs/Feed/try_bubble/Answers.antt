@@ -1,10 +1,9 @@
--- `saturation_temperature::try_bubble` meets its contract. Assumes nothing.
+-- `saturation_temperature::Feed::try_bubble` meets its contract. Assumes nothing.
 use Rattle.floats.specs.Outcome.{bind}
 use Rattle.outcome.proofs.Exits.{met}
-use Rattle.thermo_models.proofs.Answers.{pures_passed, pures_refused}
 use Rattle.saturation_temperature.specs.Answers.{bubble_tried}
-use Rattle.saturation_temperature.proofs.Points.{kelvin_ok, kelvin-no, feed-is, feed-no}
-use Rattle.saturation_temperature.proofs.try_bubble.Goals as goal
+use Rattle.saturation_temperature.proofs.Points.{kelvin_ok, kelvin-no, feed-is, feed-no, pures-is, pures-no}
+use Rattle.saturation_temperature.proofs.Feed.try_bubble.Goals as goal
 
 pub returns-in_err-kelvin : goal.returns-in_err-kelvin
 unfolding bubble_tried bind
@@ -16,7 +15,7 @@ returns-in_err-activity c =
     rw (
       met c.in_err-activity.field-0.0 c.from_residual-in_err-activity.result c.from_residual-in_err-activity.ensures.1,
       kelvin_ok _ c.in_ok-kelvin.ensures,
-      feed-no _ _ _ _ _ c.tables-s.ensures c.in_err-activity.ensures,
+      feed-no _ _ _ c.args.self.m.few _ _ c.tables-s.ensures c.in_err-activity.ensures,
     )
 
 pub returns-in_err-pure_liquids : goal.returns-in_err-pure_liquids
@@ -25,8 +24,8 @@ returns-in_err-pure_liquids c =
     rw (
       met c.in_err-pure_liquids.field-0.0 c.from_residual-in_err-pure_liquids.result c.from_residual-in_err-pure_liquids.ensures.1,
       kelvin_ok _ c.in_ok-kelvin.ensures,
-      feed-is _ _ _ _ _ c.tables-s.ensures c.in_ok-activity.ensures,
-      pures_refused _ c.in_err-pure_liquids.ensures,
+      feed-is _ _ _ c.args.self.m.few _ _ c.tables-s.ensures c.in_ok-activity.ensures,
+      pures-no _ _ _ c.args.self.m.few c.in_err-pure_liquids.ensures,
     )
 
 pub returns : goal.returns
@@ -34,9 +33,8 @@ unfolding bubble_tried bind
 returns c =
     rw (
       kelvin_ok _ c.in_ok-kelvin.ensures,
-      feed-is _ _ _ _ _ c.tables-s.ensures c.in_ok-activity.ensures,
-      pures_passed _ c.in_ok-pure_liquids.ensures,
-      ← c.places.ensures,
+      feed-is _ _ _ c.args.self.m.few _ _ c.tables-s.ensures c.in_ok-activity.ensures,
+      pures-is _ _ _ c.args.self.m.few c.in_ok-pure_liquids.ensures,
       ← c.weigh-sum.ensures.sum,
       ← c.weigh-sum.ensures.slopes,
       ← c.ln.ensures,

@@ -1,8 +1,8 @@
 use Rattle.std.proofs.Common.{refl, arith}
 use Rattle.floats.proofs.Folds.{fold_turn, fold_done}
 use Rattle.floats.specs.Fold.{fold_to}
-use Rattle.saturation_temperature.proofs.dew_slope.Goals as goal
-use Rattle.saturation_temperature.proofs.dew_slope.Goals.{then-y-i, else-y-i}
+use Rattle.saturation_temperature.proofs.Feed.dew_slope.Goals as goal
+use Rattle.saturation_temperature.proofs.Feed.dew_slope.Goals.{then-y-i, else-y-i}
 
 pub loop-i-init : goal.loop-i-init
 unfolding fold_to

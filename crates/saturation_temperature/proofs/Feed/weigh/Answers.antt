@@ -2,8 +2,8 @@ use Rattle.std.proofs.Common.{◌≡◌, arith, refl}
 use Rattle.floats.specs.Fold.{fold_to}
 use Rattle.floats.proofs.Folds.{fold_turn}
 use Rattle.saturation_temperature.specs.Boiling.{weight_sum, weight_slope}
-use Rattle.saturation_temperature.proofs.weigh.Goals as goal
-use Rattle.saturation_temperature.proofs.weigh.Goals.{then-x-i, else-x-i}
+use Rattle.saturation_temperature.proofs.Feed.weigh.Goals as goal
+use Rattle.saturation_temperature.proofs.Feed.weigh.Goals.{then-x-i, else-x-i}
 
 pub loop-i-init : goal.loop-i-init
 unfolding weight_sum weight_slope fold_to
@@ -26,5 +26,5 @@ loop-i-preserved c =
 
 pub returns : goal.returns
 returns c =
-    let e : c.loop-i.i ≡ c.args.n = omega arith in
+    let e : c.loop-i.i ≡ c.args.self.m.n = omega arith in
     rw e at c.loop-i.invariant
