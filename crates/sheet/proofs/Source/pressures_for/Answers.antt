@@ -1,10 +1,10 @@
--- `sheet::pressures_for` meets its contract. Assumes nothing.
+-- `sheet::Source::pressures_for` meets its contract. Assumes nothing.
 use mathlib.Core.Path.{sym, ◌∙◌}
 use Rattle.floats.proofs.Outcomes.{bind_yes, bind-no}
 use Rattle.outcome.proofs.Exits.{met}
 use Rattle.sheet.proofs.Shared.{pascal-no, pascal-ok}
 use Rattle.sheet.proofs.Dispatch.{pressures-unread, pressures-pure, pressures-rest}
-use Rattle.sheet.proofs.pressures_for.Goals as goal
+use Rattle.sheet.proofs.Source.pressures_for.Goals as goal
 
 pub returns-in-Activity : goal.returns-in-Activity
 returns-in-Activity c P copy = sym (pressures-unread _ _ _ _ _ c.unwrap_or.ensures c.try_from.ensures c.in-Activity.is)

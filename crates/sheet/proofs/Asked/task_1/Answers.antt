@@ -1,9 +1,8 @@
--- `sheet::task_1` meets its contract. Assumes nothing.
-use native.Mathlib.Omega.{arith}
+-- `sheet::Asked::task_1` meets its contract. Assumes nothing.
 use Rattle.floats.proofs.Outcomes.{bind_yes, bind-no}
 use Rattle.sheet.proofs.Laws.{same_as, refuses, quits}
 use Rattle.sheet.proofs.Replies.{excess_refused, excess_wild, excess_answered}
-use Rattle.sheet.proofs.task_1.Goals as goal
+use Rattle.sheet.proofs.Asked.task_1.Goals as goal
 
 pub returns-in_err-e : goal.returns-in_err-e
 returns-in_err-e c h = quits _ _ c.from_residual.ensures.1 (bind-no _ (excess_refused _ h c.in_err-e.ensures.energies))
@@ -12,7 +11,7 @@ pub returns-then-not-is_finite : goal.returns-then-not-is_finite
 returns-then-not-is_finite c h = let g = c.in_ok-e.ensures in refuses (bind-no _ (excess_wild _ h g.energies g.values g.slopes c.if-not-is_finite.ensures))
 
 pub write_alone-requires : goal.write_alone-requires
-write_alone-requires c = (rw c.excess_block-b.ensures, omega arith)
+write_alone-requires c = rw c.excess_block-b.ensures
 
 pub returns : goal.returns
 returns c h = let g = c.in_ok-e.ensures in

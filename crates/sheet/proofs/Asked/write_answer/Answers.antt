@@ -1,7 +1,7 @@
 use native.Mathlib.Omega.{arith}
 use mathlib.Core.Path.{◌≡◌, refl}
 use Rattle.sheet.proofs.Laws.{behind-none, behind-turn, trial-put, answer_yes}
-use Rattle.sheet.proofs.write_answer.Goals as goal
+use Rattle.sheet.proofs.Asked.write_answer.Goals as goal
 
 pub loop-k-init : goal.loop-k-init
 loop-k-init c = (behind-none _ _ _ (omega arith), refl)
