@@ -1,0 +1,17 @@
+-- `nrtl::Mixture::fill_lns` meets its contract. Assumes nothing.
+use Prim.Native.Nat.{◌≤◌, ◌+◌, ◌-◌, ◌%◌}
+use mathlib.Core.Path.{◌≡◌}
+use Rattle.floats.specs.Vector.{at}
+use Rattle.excess.specs.Steps.{GammasTo}
+use Rattle.nrtl.specs.On.{ln_in}
+use Rattle.nrtl.proofs.Mixture.fill_lns.Given as goal
+
+abbrev pub invariant-loop-i : goal.invariant-loop-i
+invariant-loop-i l = record {
+  fours : l.i % 4 ≡ 0;
+  within : l.i ≤ l.self.m.n + 1;
+  lns : GammasTo (ln_in l.self.table.now l.sums (at l.self.x.now) l.self.m.n) l.i l.initial.ln_gamma l.initial.slopes l.ln_gamma l.slopes;
+}
+
+abbrev pub decreases-loop-i : goal.decreases-loop-i
+decreases-loop-i l = l.self.m.n - l.i
