@@ -27,13 +27,6 @@ use thermo_types::Temperature;
 
 // ---- lanes: Jets of the solvents side by side, entry i of plane k at k * 8 + i
 
-// S without its second derivative, and R = C / S.
-#[derive(Drop)]
-struct Sums {
-    s: [f64; 24],
-    r: [f64; 24],
-}
-
 // Value and slope of the solvent i.
 // Kept: i < 8 and the like are facts of a loop's own index; a type for an index would have to be made at each turn.
 fn keep_two(j: Jet, i: usize, l: &mut [f64; 24])
@@ -60,6 +53,7 @@ fn two_in(l: &[f64; 24], i: usize) -> Jet
     Jet::two(l[i], l[8 + i])
 }
 
+#[tactic(auto, unfolding(crate::specs::Lanes::jet_in))]
 fn jet_in(l: &[f64; 24], i: usize) -> Jet
     requires { i < 8 }
     ensures { result ≡ jet_in l.now i }
@@ -74,6 +68,7 @@ fn jet_in(l: &[f64; 24], i: usize) -> Jet
 // ---- the table and the composition
 
 // Kept: wilson has a jet_at, a two_at and a keep_lns too. One pub fn for both has no `requires`, and would mask each index of these loops.
+#[tactic(auto, unfolding(jet::specs::Planes::jet_at))]
 fn jet_at(table: &[f64; 512], b: usize, e: usize) -> Jet
     requires { (b ≤ 320) × (e < 64) }
     ensures { result ≡ jet_at table.now b e }
@@ -90,12 +85,6 @@ fn two_at(table: &[f64; 512], b: usize, e: usize) -> Jet
     ensures { result ≡ two_at table.now b e }
 {
     Jet::two(table[b + e], table[b + 64 + e])
-}
-
-fn term(tau: Jet, g: Jet, s: Jet, r: Jet, x: f64) -> Jet
-    ensures { result ≡ term_j tau g s r x }
-{
-    g.scale(x).div(s).mul(tau.sub(r))
 }
 
 // The table of a temperature, and the fractions x of m solvents.
@@ -130,91 +119,31 @@ impl Mixture<'_> {
     }
 
     // S and R = C / S of W solvents from i on.
-    fn sums_from<const W: usize>(self, i: usize, sums: &mut Sums)
+    fn sums_from<const W: usize>(self, i: usize, sums: &mut [f64; 24], ratios: &mut [f64; 24])
         requires { i + W ≤ 8 }
-        ensures s { sums.new.s ≡ lanes_from (s_on self.entry.table.now (at self.entry.x.now) self.entry.m.n) 2 i W sums.old.s }
-        ensures r { sums.new.r ≡ lanes_from (r_on self.entry.table.now (at self.entry.x.now) self.entry.m.n) 3 i W sums.old.r }
+        ensures s { sums.new ≡ lanes_from (s_on self.entry.table.now (at self.entry.x.now) self.entry.m.n) 2 i W sums.old }
+        ensures r { ratios.new ≡ lanes_from (r_on self.entry.table.now (at self.entry.x.now) self.entry.m.n) 3 i W ratios.old }
     {
         let s = self.columns::<W>(G_PLANE, i);
         let c = self.columns::<W>(H_PLANE, i);
         for w in 0..W {
-            keep_two(s[w], i + w, &mut sums.s);
-            keep_jet(c[w].div(s[w]), i + w, &mut sums.r);
+            keep_two(s[w], i + w, sums);
+            keep_jet(c[w].div(s[w]), i + w, ratios);
         }
     }
 
-    fn fill_sums(self, sums: &mut Sums)
-        ensures s { sums.new.s ≡ lanes (s_on self.entry.table.now (at self.entry.x.now) self.entry.m.n) 2 (evened self.entry.m.n) sums.old.s }
-        ensures r { sums.new.r ≡ lanes (r_on self.entry.table.now (at self.entry.x.now) self.entry.m.n) 3 (evened self.entry.m.n) sums.old.r }
+    fn fill_sums(self, sums: &mut [f64; 24], ratios: &mut [f64; 24])
+        ensures s { sums.new ≡ lanes (s_on self.entry.table.now (at self.entry.x.now) self.entry.m.n) 2 (evened self.entry.m.n) sums.old }
+        ensures r { ratios.new ≡ lanes (r_on self.entry.table.now (at self.entry.x.now) self.entry.m.n) 3 (evened self.entry.m.n) ratios.old }
     {
         // Kept: a `for` over the fours takes an activity of four solvents a fifth longer.
         let mut i = 0;
         while i + 2 < self.m.n {
-            self.sums_from::<4>(i, sums);
+            self.sums_from::<4>(i, sums, ratios);
             i += 4;
         }
         if i < self.m.n {
-            self.sums_from::<2>(i, sums);
-        }
-    }
-
-    // g^E/RT
-    fn reduced(self, sums: &Sums) -> Jet
-        ensures { result ≡ gibbs_from (jet_in sums.now.r) (at self.entry.x.now) self.entry.m.n }
-    {
-        let mut e = Jet::constant(0.0);
-        for i in 0..self.m.n {
-            e = e.add(jet_in(&sums.r, i).scale(self.x[i]));
-        }
-        e
-    }
-
-    // ---- ln γ: value and slope; the second derivative isn't asked for
-
-    // Term j of ln γ_i.
-    fn term(self, sums: &Sums, i: usize, j: usize) -> Jet
-        requires { (i < 8) × (j < 8) }
-        ensures { result ≡ term_j (twos self.entry.table.now tau_plane i j) (twos self.entry.table.now g_plane i j) (two_in sums.now.s j) (two_in sums.now.r j) (at self.entry.x.now j) }
-    {
-        let e = i * 8 + j;
-        term(
-            two_at(self.table, TAU_PLANE, e),
-            two_at(self.table, G_PLANE, e),
-            two_in(&sums.s, j),
-            two_in(&sums.r, j),
-            self.x[j],
-        )
-    }
-
-    fn lns_from<const W: usize>(self, sums: &Sums, i: usize) -> [Jet; W]
-        requires { i + W ≤ 8 }
-        ensures { Side (ln_in self.entry.table.now sums.now (at self.entry.x.now) self.entry.m.n) i W result }
-    {
-        let mut l = [Jet::constant(0.0); W];
-        for w in 0..W {
-            l[w] = two_in(&sums.r, i + w);
-        }
-        for j in 0..self.m.n {
-            for w in 0..W {
-                l[w] = l[w].add(self.term(sums, i + w, j));
-            }
-        }
-        l
-    }
-
-    fn fill_lns(self, sums: &Sums, ln_gamma: &mut [f64; 8], slopes: &mut [f64; 8])
-        ensures { GammasTo (ln_in self.entry.table.now sums.now (at self.entry.x.now) self.entry.m.n) (evened self.entry.m.n) ln_gamma.old slopes.old ln_gamma.new slopes.new }
-    {
-        // Kept: as in `fill_sums`.
-        let mut i = 0;
-        while i + 2 < self.m.n {
-            let l = self.lns_from::<4>(sums, i);
-            keep_lns(l, i, ln_gamma, slopes);
-            i += 4;
-        }
-        if i < self.m.n {
-            let l = self.lns_from::<2>(sums, i);
-            keep_lns(l, i, ln_gamma, slopes);
+            self.sums_from::<2>(i, sums, ratios);
         }
     }
 
@@ -228,14 +157,86 @@ impl Mixture<'_> {
         requires { (ln_gamma.now ≡ zeros8) × (slopes.now ≡ zeros8) }
         ensures { Gives (state_from (reduced_on self.entry.table.now (at self.entry.x.now) self.entry.m.n) (ln_gamma_on self.entry.table.now (at self.entry.x.now) self.entry.m.n) self.entry.m.n t.0) result ln_gamma.new slopes.new }
     {
-        let mut sums = Sums {
-            s: [0.0; 24],
-            r: [0.0; 24],
+        let mut sums = [0.0; 24];
+        let mut ratios = [0.0; 24];
+        self.fill_sums(&mut sums, &mut ratios);
+        let summed = Summed {
+            of: self,
+            sums: &sums,
+            ratios: &ratios,
         };
-        self.fill_sums(&mut sums);
-        self.fill_lns(&sums, ln_gamma, slopes);
+        summed.fill_lns(ln_gamma, slopes);
         clear_past(self.m, ln_gamma, slopes);
-        excess::finite_state(self.reduced(&sums), self.m.n, t, ln_gamma, slopes)
+        excess::finite_state(summed.reduced(), self.m.n, t, ln_gamma, slopes)
+    }
+}
+
+// The same, with S without its second derivative and R = C / S of each solvent.
+// Kept: as one struct of two arrays they are cleared by a call of memset, and an activity of two solvents takes 4 % longer.
+#[derive(Clone, Copy)]
+struct Summed<'a> {
+    of: Mixture<'a>,
+    sums: &'a [f64; 24],
+    ratios: &'a [f64; 24],
+}
+
+impl Summed<'_> {
+    // g^E/RT
+    fn reduced(self) -> Jet
+        ensures { result ≡ gibbs_from (jet_in self.entry.ratios.now) (at self.entry.of.x.now) self.entry.of.m.n }
+    {
+        let mut e = Jet::constant(0.0);
+        for i in 0..self.of.m.n {
+            e = e.add(jet_in(self.ratios, i).scale(self.of.x[i]));
+        }
+        e
+    }
+
+    // Term j of ln γ_i: value and slope. The second derivative isn't asked for.
+    #[tactic(auto, unfolding(crate::specs::Columns::term_j))]
+    fn term(self, i: usize, j: usize) -> Jet
+        requires { (i < 8) × (j < 8) }
+        ensures { result ≡ term_j (twos self.entry.of.table.now tau_plane i j) (twos self.entry.of.table.now g_plane i j) (two_in self.entry.sums.now j) (two_in self.entry.ratios.now j) (at self.entry.of.x.now j) }
+    {
+        let e = i * 8 + j;
+        let tau = two_at(self.of.table, TAU_PLANE, e);
+        two_at(self.of.table, G_PLANE, e)
+            .scale(self.of.x[j])
+            .div(two_in(self.sums, j))
+            .mul(tau.sub(two_in(self.ratios, j)))
+    }
+
+    // ln γ of W solvents from i on.
+    fn lns_from<const W: usize>(self, i: usize) -> [Jet; W]
+        requires { i + W ≤ 8 }
+        ensures { Side (ln_in self.entry.of.table.now self.entry.sums.now self.entry.ratios.now (at self.entry.of.x.now) self.entry.of.m.n) i W result }
+    {
+        let mut l = [Jet::constant(0.0); W];
+        for w in 0..W {
+            l[w] = two_in(self.ratios, i + w);
+        }
+        for j in 0..self.of.m.n {
+            for w in 0..W {
+                l[w] = l[w].add(self.term(i + w, j));
+            }
+        }
+        l
+    }
+
+    fn fill_lns(self, ln_gamma: &mut [f64; 8], slopes: &mut [f64; 8])
+        ensures { GammasTo (ln_in self.entry.of.table.now self.entry.sums.now self.entry.ratios.now (at self.entry.of.x.now) self.entry.of.m.n) (evened self.entry.of.m.n) ln_gamma.old slopes.old ln_gamma.new slopes.new }
+    {
+        // Kept: as in `fill_sums`.
+        let mut i = 0;
+        while i + 2 < self.of.m.n {
+            let l = self.lns_from::<4>(i);
+            keep_lns(l, i, ln_gamma, slopes);
+            i += 4;
+        }
+        if i < self.of.m.n {
+            let l = self.lns_from::<2>(i);
+            keep_lns(l, i, ln_gamma, slopes);
+        }
     }
 }
 

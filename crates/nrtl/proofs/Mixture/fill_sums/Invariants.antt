@@ -10,8 +10,8 @@ abbrev pub invariant-loop-i : goal.invariant-loop-i
 invariant-loop-i l = record {
   fours : l.i % 4 ≡ 0;
   within : l.i ≤ l.self.m.n + 1;
-  s : l.sums.s ≡ lanes (s_on l.self.table.now (at l.self.x.now) l.self.m.n) 2 l.i l.initial.sums.s;
-  r : l.sums.r ≡ lanes (r_on l.self.table.now (at l.self.x.now) l.self.m.n) 3 l.i l.initial.sums.r;
+  s : l.sums ≡ lanes (s_on l.self.table.now (at l.self.x.now) l.self.m.n) 2 l.i l.initial.sums;
+  r : l.ratios ≡ lanes (r_on l.self.table.now (at l.self.x.now) l.self.m.n) 3 l.i l.initial.ratios;
 }
 
 abbrev pub decreases-loop-i : goal.decreases-loop-i

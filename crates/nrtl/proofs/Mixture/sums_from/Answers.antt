@@ -12,12 +12,11 @@ loop-w-init g c = record { s = refl; r = refl }
 pub loop-w-preserved : goal.loop-w-preserved
 loop-w-preserved g c =
     let m = c.args.self in
-    let old = c.args.sums.now in
     let w = c.loop-w.w in
     let h = c.loop-w-test.true in
     let a = c.loop-w.invariant in
     let s = c.columns-s.ensures.jet w h in
     record {
-      s = lane_turn (s_on m.table.now (at m.x.now) m.m.n) 2 c.args.i w old.s s c.keep_two.ensures a.s;
-      r = lane_turn (r_on m.table.now (at m.x.now) m.m.n) 3 c.args.i w old.r (rw (s, c.columns-c.ensures.jet w h) at c.div.ensures) c.keep_jet.ensures a.r;
+      s = lane_turn (s_on m.table.now (at m.x.now) m.m.n) 2 c.args.i w c.args.sums.now s c.keep_two.ensures a.s;
+      r = lane_turn (r_on m.table.now (at m.x.now) m.m.n) 3 c.args.i w c.args.ratios.now (rw (s, c.columns-c.ensures.jet w h) at c.div.ensures) c.keep_jet.ensures a.r;
     }

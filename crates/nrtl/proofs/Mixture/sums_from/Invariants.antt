@@ -7,6 +7,6 @@ use Rattle.nrtl.proofs.Mixture.sums_from.Given as goal
 
 abbrev pub invariant-loop-w : goal.invariant-loop-w
 invariant-loop-w g l = record {
-  s : l.sums.s ≡ lanes_from (s_on l.fn.self.table.now (at l.fn.self.x.now) l.fn.self.m.n) 2 l.i l.w l.initial.sums.s;
-  r : l.sums.r ≡ lanes_from (r_on l.fn.self.table.now (at l.fn.self.x.now) l.fn.self.m.n) 3 l.i l.w l.initial.sums.r;
+  s : l.sums ≡ lanes_from (s_on l.fn.self.table.now (at l.fn.self.x.now) l.fn.self.m.n) 2 l.i l.w l.initial.sums;
+  r : l.ratios ≡ lanes_from (r_on l.fn.self.table.now (at l.fn.self.x.now) l.fn.self.m.n) 3 l.i l.w l.initial.ratios;
 }

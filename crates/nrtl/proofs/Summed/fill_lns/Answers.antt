@@ -2,7 +2,7 @@ use mathlib.Core.Path.{refl}
 use native.Mathlib.Omega.{arith}
 use Rattle.floats.specs.Vector.{fill}
 use Rattle.excess.proofs.Steps.{gammas_more, gammas_done}
-use Rattle.nrtl.proofs.Mixture.fill_lns.Goals as goal
+use Rattle.nrtl.proofs.Summed.fill_lns.Goals as goal
 
 pub loop-i-init : goal.loop-i-init
 unfolding fill

@@ -3,7 +3,7 @@ use Rattle.floats.specs.Fold.{fold_to}
 use Rattle.jet.proofs.Sums.{sum_jet_turn}
 use Rattle.excess.proofs.Steps.{side-same, turning-start, turning-next, turning-done}
 use Rattle.nrtl.specs.Columns.{ln_from}
-use Rattle.nrtl.proofs.Mixture.lns_from.Goals as goal
+use Rattle.nrtl.proofs.Summed.lns_from.Goals as goal
 
 pub loop-w-init : goal.loop-w-init
 loop-w-init g c = turning-start (side-same (λ v l. c.constant-l.ensures))

@@ -1,7 +1,7 @@
 use Rattle.floats.specs.Fold.{fold_to}
 use Rattle.jet.proofs.Sums.{sum_jet_turn}
 use Rattle.nrtl.specs.Columns.{gibbs_from}
-use Rattle.nrtl.proofs.Mixture.reduced.Goals as goal
+use Rattle.nrtl.proofs.Summed.reduced.Goals as goal
 
 pub loop-i-init : goal.loop-i-init
 unfolding gibbs_from fold_to
