@@ -11,10 +11,11 @@ ghost use Rattle.floats.specs.Outcome.{ok, bind};
 ghost use Rattle.outcome.specs.Refused.{outcome_of};
 ghost use Rattle.thermo_models.specs.Activity.{activity_on};
 ghost use Rattle.liquid_stability.specs.Stability.{present_count, tangent, others_in, start_of, distance_of, change_of, apart_of, next_of, unstable, no_trial, no_trials, trial_from, trials_to, stability_of};
-ghost use Rattle.liquid_stability.specs.Steps.{amounts_of, Judges, TrialTurn};
+ghost use Rattle.liquid_stability.specs.Steps.{amounts_of, TrialTurn};
 
 use floats::Count;
 use outcome::Refusal;
+use std::ops::ControlFlow;
 use thermo_models::Tabled;
 use thermo_types::ActivityOptions;
 
@@ -26,6 +27,14 @@ pub struct LiquidStabilityTrial {
     pub composition: [f64; 8],
     pub iterations: u64,
     pub trivial: bool,
+}
+
+impl LiquidStabilityTrial {
+    fn is_unstable(&self, threshold: f64) -> bool
+        ensures { result ≡ unstable threshold self.now.distance self.now.trivial }
+    {
+        self.distance < threshold && !self.trivial
+    }
 }
 
 // The first `count` of the eight trials are filled.
@@ -43,15 +52,6 @@ struct Measured {
     distance: f64,
     change: f64,
     apart: f64,
-}
-
-// A turn's tm and w, the ln W of the next, and where the trial ends with it: whether it is trivial.
-#[derive(Clone, Copy)]
-struct Turned {
-    distance: f64,
-    composition: [f64; 8],
-    next: [f64; 8],
-    found: Option<bool>,
 }
 
 // How many of the first n fractions are positive.
@@ -116,12 +116,6 @@ fn tangent(x: &[f64; 8], lg: &[f64; 8], m: Count) -> [f64; 8]
     d
 }
 
-fn is_unstable(threshold: f64, tm: f64, trivial: bool) -> bool
-    ensures { result ≡ unstable threshold tm trivial }
-{
-    tm < threshold && !trivial
-}
-
 // At the start this is shared by the solvents that the trial isn't near.
 const START_REST: f64 = 0.001;
 
@@ -130,22 +124,6 @@ const TRIVIAL_DISTANCE: f64 = 1e-6;
 
 // A trial has converged where ln W changes by at most this.
 const LN_W_TOLERANCE: f64 = 1e-10;
-
-// Whether the trial that ends here is trivial, or that another turn follows.
-fn judge(threshold: f64, tm: f64, change: f64, trivial: bool) -> Result<Option<bool>, Refusal>
-    ensures { Judges threshold tm change trivial result }
-{
-    if !floats::is_finite(tm) {
-        return Err(Refusal::ResultNotFinite);
-    }
-    if is_unstable(threshold, tm, trivial) {
-        return Ok(Some(false));
-    }
-    if change <= LN_W_TOLERANCE {
-        return Ok(Some(trivial));
-    }
-    Ok(None)
-}
 
 // The liquid that is tested: its composition x, d of x, and how many solvents are present beside the one that a trial is near.
 #[derive(Clone, Copy)]
@@ -212,10 +190,8 @@ impl<'a> Tested<'a> {
     // tm = 1 + Σ W_i (ln W_i + ln γ_i(w) - d_i - 1), with the two largest differences.
     fn measure(self, ln_w: &[f64; 8], big: &[f64; 8], lg: &[f64; 8], w: &[f64; 8]) -> Measured
         requires { big.now ≡ amounts_of self.x.now ln_w.now self.m.n }
-        ensures { let x = self.entry.x.now in
-            let d = self.entry.d.now in
-            let n = self.entry.m.n in
-            (result.distance ≡ distance_of x ln_w.now lg.now d n) × (result.change ≡ change_of x ln_w.now lg.now d n) × (result.apart ≡ apart_of x w.now n) }
+        ensures { let l = self.entry in
+            (result.distance ≡ distance_of l.x.now ln_w.now lg.now l.d.now l.m.n) × (result.change ≡ change_of l.x.now ln_w.now lg.now l.d.now l.m.n) × (result.apart ≡ apart_of l.x.now w.now l.m.n) }
     {
         let mut m = Measured {
             distance: 1.0,
@@ -243,56 +219,55 @@ impl<'a> Tested<'a> {
         ln_w
     }
 
-    // One turn of a trial: the activity of w is asked for once.
-    fn turn(self, ln_w: &[f64; 8]) -> Result<Turned, Refusal>
-        ensures { TrialTurn (activity_on self.entry.table.now self.entry.at) self.entry.o.tm_threshold self.entry.m.n self.entry.x.now self.entry.d.now ln_w.now result }
+    // One turn of the trial near solvent j: the trial where it ends here, else the next ln W. The activity of w is asked for once.
+    fn turn(
+        self,
+        j: usize,
+        iteration: u64,
+        ln_w: &[f64; 8],
+    ) -> Result<ControlFlow<LiquidStabilityTrial, [f64; 8]>, Refusal>
+        ensures { let l = self.entry in
+            TrialTurn (activity_on l.table.now l.at) l.o.tm_threshold l.m.n l.x.now l.d.now j iteration ln_w.now result }
     {
         let big = self.amounts(ln_w);
         let s = self.total(&big);
         let w = self.composition(&big, s);
         let lg = ln_gamma(self.table, self.at, &w)?;
         let m = self.measure(ln_w, &big, &lg, &w);
-        let trivial = m.apart <= TRIVIAL_DISTANCE;
-        let found = judge(self.o.tm_threshold, m.distance, m.change, trivial)?;
-        Ok(Turned {
+        if !floats::is_finite(m.distance) {
+            return Err(Refusal::ResultNotFinite);
+        }
+        let found = LiquidStabilityTrial {
+            component: j,
             distance: m.distance,
             composition: w,
-            next: self.next(&lg),
-            found,
-        })
+            iterations: iteration,
+            trivial: m.apart <= TRIVIAL_DISTANCE,
+        };
+        if found.is_unstable(self.o.tm_threshold) || m.change <= LN_W_TOLERANCE {
+            return Ok(ControlFlow::Break(found));
+        }
+        Ok(ControlFlow::Continue(self.next(&lg)))
     }
 
     // The trial near solvent j: 24, 25, and 27 at its limit.
     fn trial(self, j: usize) -> Result<LiquidStabilityTrial, Refusal>
-        ensures { let n = self.entry.m.n in
-            let x = self.entry.x.now in
-            outcome_of result ≡ trial_from (activity_on self.entry.table.now self.entry.at) self.entry.o.tm_threshold n x self.entry.d.now j self.entry.o.max_iterations 0 (start_of x n j) }
+        ensures { let l = self.entry in
+            outcome_of result ≡ trial_from (activity_on l.table.now l.at) l.o.tm_threshold l.m.n l.x.now l.d.now j l.o.max_iterations 0 (start_of l.x.now l.m.n j) }
     {
         let mut ln_w = self.start(j);
         for done in 0..self.o.max_iterations {
-            let Turned {
-                distance,
-                composition,
-                next,
-                found,
-            } = self.turn(&ln_w)?;
-            if let Some(trivial) = found {
-                return Ok(LiquidStabilityTrial {
-                    component: j,
-                    distance,
-                    composition,
-                    iterations: done + 1,
-                    trivial,
-                });
+            match self.turn(j, done + 1, &ln_w)? {
+                ControlFlow::Break(found) => return Ok(found),
+                ControlFlow::Continue(next) => ln_w = next,
             }
-            ln_w = next;
         }
         Err(Refusal::NotConverged)
     }
 
     // One trial near each solvent present. All of them run: a later trial's refusal stands before an unstable one's answer.
     fn trials(self) -> Result<LiquidStability, Refusal>
-        ensures { outcome_of result ≡ trials_to (activity_on self.entry.table.now self.entry.at) self.entry.m.n self.entry.o self.entry.x.now self.entry.d.now self.entry.m.n }
+        ensures { let l = self.entry in outcome_of result ≡ trials_to (activity_on l.table.now l.at) l.m.n l.o l.x.now l.d.now l.m.n }
     {
         let mut all = no_trials();
         for j in 0..self.m.n {
@@ -300,7 +275,7 @@ impl<'a> Tested<'a> {
                 let found = self.trial(j)?;
                 all.trials[all.count] = found;
                 all.count += 1;
-                all.stable &= !is_unstable(self.o.tm_threshold, found.distance, found.trivial);
+                all.stable &= !found.is_unstable(self.o.tm_threshold);
             }
         }
         Ok(all)
