@@ -13,6 +13,7 @@ ghost use Rattle.jet.specs.Jets.{const_j, exp_j};
 ghost use Rattle.nrtl_tables.specs.Pair.{basis_of, tau_j, alpha_j, exponent_j, alpha_right, all_right};
 ghost use Rattle.nrtl_tables.specs.Table.{kept_of, Filled};
 
+use floats::Count;
 use jet::{Jet, Pairs};
 use outcome::Refusal;
 use thermo_types::Temperature;
@@ -32,6 +33,7 @@ struct Basis {
     tj: Jet,
 }
 
+#[tactic(auto, unfolding(crate::specs::Pair::basis_of))]
 fn basis_at(t: f64) -> Basis
     ensures { result ≡ basis_of t }
 {
@@ -56,6 +58,7 @@ fn basis_at(t: f64) -> Basis
 
 // ---- of one ordered pair, from its six parameters
 
+#[tactic(auto, unfolding(crate::specs::Pair::tau_j))]
 fn tau_of(p: [f64; 6], b: Basis) -> Jet
     ensures { result ≡ tau_j p b 0 }
 {
@@ -65,6 +68,7 @@ fn tau_of(p: [f64; 6], b: Basis) -> Jet
         .add(b.tj.scale(p[3]))
 }
 
+#[tactic(auto, unfolding(crate::specs::Pair::alpha_j))]
 fn alpha_of(p: [f64; 6], b: Basis) -> Jet
     ensures { result ≡ alpha_j p b 0 }
 {
@@ -72,6 +76,7 @@ fn alpha_of(p: [f64; 6], b: Basis) -> Jet
 }
 
 // −α τ.
+#[tactic(auto, unfolding(crate::specs::Pair::exponent_j))]
 fn exponent(p: [f64; 6], b: Basis) -> Jet
     ensures { result ≡ exponent_j p b 0 }
 {
@@ -79,6 +84,7 @@ fn exponent(p: [f64; 6], b: Basis) -> Jet
 }
 
 // The eight planes' cells.
+#[tactic(auto, unfolding(crate::specs::Table::kept_of))]
 fn kept(tau: Jet, g: Jet) -> [f64; 8]
     ensures { (k : ℕ) → at result k ≡ kept_of tau g k }
 {
@@ -117,18 +123,17 @@ fn alpha_right(parameters: &[f64; 384], b: Basis, i: usize, j: usize) -> bool
     i == j || 0.0 < alpha_of(jet::pair(parameters, i, j), b).v
 }
 
-fn row_right(parameters: &[f64; 384], b: Basis, n: usize, i: usize) -> bool
-    requires { (n ≤ 8) × (i < 8) }
-    ensures { result ≡ all_to (alpha_right parameters.now b i) n }
+fn row_right(parameters: &[f64; 384], b: Basis, m: Count, i: usize) -> bool
+    requires { i < 8 }
+    ensures { result ≡ all_to (alpha_right parameters.now b i) m.n }
 {
-    (0..n).all(|j| alpha_right(parameters, b, i, j))
+    (0..m.n).all(|j| alpha_right(parameters, b, i, j))
 }
 
-fn all_right(parameters: &[f64; 384], b: Basis, n: usize) -> bool
-    requires { n ≤ 8 }
-    ensures { result ≡ all_right parameters.now b n }
+fn all_right(parameters: &[f64; 384], b: Basis, m: Count) -> bool
+    ensures { result ≡ all_right parameters.now b m.n }
 {
-    (0..n).all(|i| row_right(parameters, b, n, i))
+    (0..m.n).all(|i| row_right(parameters, b, m, i))
 }
 
 // ---- the table
@@ -143,7 +148,7 @@ pub fn tables(
     ensures { Filled parameters.now (places n) t.0 result table.old table.new }
 {
     let b = basis_at(t.value());
-    if !all_right(parameters, b, floats::places(n)) {
+    if !all_right(parameters, b, Count::of(n)) {
         return Err(Refusal::AlphaNotPositive);
     }
     jet::fill_pairs::<8, Basis>(&b, parameters, n, table);
