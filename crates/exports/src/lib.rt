@@ -1,7 +1,7 @@
 // The functions under C names, for the comparison with the reference and for benchmarks. A slice passes as a pointer and a length.
 #![tactic(auto)]
 
-ghost use Rattle.std.specs.Prelude.{◌≡◌, cond, ◌≤◌, leb, length, set};
+ghost use Rattle.std.specs.Prelude.{◌≡◌, cond, leb, length};
 ghost use Rattle.floats.specs.Small.{is_finite, max_of, min_of, abs_of, bits_of, float_of};
 ghost use Rattle.floats.specs.Vector.{at, fill_from, places};
 ghost use Rattle.floats.specs.Outcome.{ok, need};
@@ -120,16 +120,6 @@ pub extern "C" fn zektonk_normalize(x: &mut [f64], n: usize) -> u64
 
 // ---- vapor pressure
 
-fn store_vapor(v: VaporPressure, out: &mut [f64])
-    requires { 4 ≤ length out.old }
-    ensures { out.new ≡ set (set (set (set out.old 0 v.pressure) 1 v.ln_pressure) 2 v.d_ln_pressure_dt) 3 v.d2_ln_pressure_dt2 }
-{
-    out[0] = v.pressure;
-    out[1] = v.ln_pressure;
-    out[2] = v.d_ln_pressure_dt;
-    out[3] = v.d2_ln_pressure_dt2;
-}
-
 #[tactic(auto, unfolding(crate::specs::Models::vapor_at, crate::specs::Models::vapor_from, floats::specs::Outcome::bind))]
 fn vapor_at(book: &[u8], i: usize, t: f64) -> Result<VaporPressure, Refusal>
     ensures { outcome_of result ≡ vapor_at book.now i t }
@@ -144,12 +134,17 @@ fn vapor_at(book: &[u8], i: usize, t: f64) -> Result<VaporPressure, Refusal>
 pub extern "C" fn zektonk_vapor_pressure(book: &[u8], i: usize, t: f64, out: &mut [f64]) -> u64
     ensures { VaporGives (need (leb 4 (length out.old)) 100 (vapor_at book.now i t)) result out.old out.new }
 {
-    if out.len() < 4 {
-        return 100;
-    }
+    let Some(front) = out.first_chunk_mut() else {
+        return 100; // Kept: for C, and no refusal's number.
+    };
     match vapor_at(book, i, t) {
         Ok(v) => {
-            store_vapor(v, out);
+            *front = [
+                v.pressure,
+                v.ln_pressure,
+                v.d_ln_pressure_dt,
+                v.d2_ln_pressure_dt2,
+            ];
             0
         }
         Err(refusal) => u64::from(refusal),
@@ -158,8 +153,7 @@ pub extern "C" fn zektonk_vapor_pressure(book: &[u8], i: usize, t: f64, out: &mu
 
 // ---- excess
 
-fn store_energies(e: Energies, a: Assessment, out: &mut [f64])
-    requires { 23 ≤ length out.old }
+fn store_energies(e: Energies, a: Assessment, out: &mut [f64; 23])
     ensures { out.new ≡ energies_stored e a out.old }
 {
     out[16] = e.reduced;
@@ -171,8 +165,7 @@ fn store_energies(e: Energies, a: Assessment, out: &mut [f64])
     out[22] = f64::from(a.inferred);
 }
 
-fn store_state(lg: &[f64; 8], sl: &[f64; 8], e: Energies, a: Assessment, out: &mut [f64])
-    requires { 23 ≤ length out.old }
+fn store_state(lg: &[f64; 8], sl: &[f64; 8], e: Energies, a: Assessment, out: &mut [f64; 23])
     ensures { out.new ≡ energies_stored e a (fill_from (at sl.now) 8 8 (fill_from (at lg.now) 0 8 out.old)) }
 {
     out[..8].copy_from_slice(lg);
@@ -185,9 +178,8 @@ fn excess_in(
     n: usize,
     t: Temperature,
     x: &[f64; 8],
-    out: &mut [f64],
+    out: &mut [f64; 23],
 ) -> Result<(), Refusal>
-    requires { 23 ≤ length out.old }
     ensures { ExcessGives (excess_in (mixture_of book.now (places n)) t.0 x.now) (number_in result) out.old out.new }
 {
     let mut parameters = [0.0; 384];
@@ -202,8 +194,7 @@ fn excess_in(
     Ok(())
 }
 
-fn excess_at(book: &[u8], t: f64, x: &[f64], out: &mut [f64]) -> Result<(), Refusal>
-    requires { 23 ≤ length out.old }
+fn excess_at(book: &[u8], t: f64, x: &[f64], out: &mut [f64; 23]) -> Result<(), Refusal>
     ensures { ExcessGives (excess_at book.now t x.now) (number_in result) out.old out.new }
 {
     let head = book::open_book(book)?;
@@ -217,10 +208,10 @@ fn excess_at(book: &[u8], t: f64, x: &[f64], out: &mut [f64]) -> Result<(), Refu
 pub extern "C" fn zektonk_excess(book: &[u8], t: f64, x: &[f64], out: &mut [f64]) -> u64
     ensures { ExcessGives (need (leb 23 (length out.old)) 100 (excess_at book.now t x.now)) result out.old out.new }
 {
-    if out.len() < 23 {
-        return 100;
-    }
-    outcome::number_in(excess_at(book, t, x, out))
+    let Some(front) = out.first_chunk_mut() else {
+        return 100; // Kept: for C, and no refusal's number.
+    };
+    outcome::number_in(excess_at(book, t, x, front))
 }
 
 // 1 liquid, 2 vapor, 3 both with `out` filled, or 100 + the refusal's number; 0 where a slice is too short.
