@@ -109,8 +109,8 @@ pub extern "C" fn zektonk_normalize(x: &mut [f64], n: usize) -> u64
 {
     match thermo_types::normalize(&eight(x), n) {
         Ok(fractions) => {
-            if x.len() >= 8 {
-                x[..8].copy_from_slice(&fractions);
+            if let Some(front) = x.first_chunk_mut() {
+                *front = fractions;
             }
             0
         }
