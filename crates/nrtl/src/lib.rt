@@ -148,6 +148,7 @@ impl Mixture<'_> {
     }
 
     // Of arrays that hold 0.0 everywhere.
+    // Kept: ln_gamma and slopes go side by side, as excess's functions take them; a struct of two `&mut` would be taken apart for each.
     fn state(
         self,
         t: Temperature,

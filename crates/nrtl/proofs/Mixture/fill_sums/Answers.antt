@@ -19,8 +19,3 @@ returns-then-i-self c =
     let q = c.sums_from-then-i-self.ensures in
     let a = c.loop-i.invariant in
     record { s = lanes_done _ _ _ _ _ (omega arith) (lanes_turn _ _ _ 2 _ q.s a.s); r = lanes_done _ _ _ _ _ (omega arith) (lanes_turn _ _ _ 2 _ q.r a.r) }
-
-pub returns-else-i-self : goal.returns-else-i-self
-returns-else-i-self c =
-    let a = c.loop-i.invariant in
-    record { s = lanes_done _ _ _ _ _ (omega arith) a.s; r = lanes_done _ _ _ _ _ (omega arith) a.r }

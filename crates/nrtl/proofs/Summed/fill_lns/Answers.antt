@@ -17,6 +17,3 @@ pub returns-then-i-self : goal.returns-then-i-self
 returns-then-i-self c =
     let k = c.keep_lns-then-i-self.ensures in
     gammas_done _ _ _ (omega arith) (gammas_more _ _ 2 _ c.lns_from-l-then-i-self.ensures k.values k.slopes c.loop-i.invariant.lns)
-
-pub returns-else-i-self : goal.returns-else-i-self
-returns-else-i-self c = gammas_done _ _ _ (omega arith) c.loop-i.invariant.lns
