@@ -1,6 +1,6 @@
--- `book::parameters_finite` meets its contract. From what the callees ensure. Assumes nothing.
+-- `book::Model::parameters_finite` meets its contract. From what the callees ensure. Assumes nothing.
 use Rattle.book.specs.Book.{parameters_finite}
-use Rattle.book.proofs.parameters_finite.Goals as goal
+use Rattle.book.proofs.Model.parameters_finite.Goals as goal
 
 pub returns-in-Nrtl : goal.returns-in-Nrtl
 unfolding parameters_finite
