@@ -120,16 +120,19 @@ rule_whole {s} {blocks} w = rw (whole_sized s (length blocks) w.some w.size, w.s
 
 -- questions 38 and 2, and the others behind them, as the code puts them
 pub book_asked : {s : List ℕ} {blocks : List (List ℕ)} → Whole s blocks
-    → book_of s ≡ need (version_right (words_in blocks 0)) 38 (need (list_all (λ b. check_right (rule_of s) (word b)) blocks) 2 (head_of (words_in blocks) (length blocks)))
+    → book_of s
+    ≡ need (version_right (words_in blocks 0)) 38
+      (need (list_all (λ b. check_right (rule_in (words_in blocks 0)) (word b)) blocks) 2 (head_of (words_in blocks) (length blocks)))
 unfolding book_of need
 book_asked {s} {blocks} w =
     let z = w.size in
     let f : length s % 512 ≡ 0 = omega arith in
     let p : 0 < length s = omega (arith, w.some) in
     let d : length s / 512 ≡ length blocks = omega arith in
-    rw (eq-eqb (length s % 512) 0 f, lt-ltb 0 (length s) p, d)
-    (ap (λ (u : ℕ → ℕ → ℕ). need (version_right (u 0)) 38 (need (all_to (λ k. check_right (rule_of s) (u k)) (length blocks)) 2 (head_of u (length blocks)))) (sym (words_whole w))
-    ∙ ap (λ b. need (version_right (words_in blocks 0)) 38 (need b 2 (head_of (words_in blocks) (length blocks)))) (sym (each_item (λ b. check_right (rule_of s) (word b)) blocks [])))
+    let rule = rule_in (words_in blocks 0) in
+    rw (rule_whole w, eq-eqb (length s % 512) 0 f, lt-ltb 0 (length s) p, d)
+    (ap (λ (u : ℕ → ℕ → ℕ). need (version_right (u 0)) 38 (need (all_to (λ k. check_right rule (u k)) (length blocks)) 2 (head_of u (length blocks)))) (sym (words_whole w))
+    ∙ ap (λ b. need (version_right (words_in blocks 0)) 38 (need b 2 (head_of (words_in blocks) (length blocks)))) (sym (each_item (λ b. check_right rule (word b)) blocks [])))
 
 -- an offered block as the code asks of it: a row of one
 in_one : (a b : Bool) (o : Out Head) → need a 8 (need b 9 o) ≡ need (a && true) 8 (need ((a && b) && true) 9 o)

@@ -10,9 +10,9 @@ use Rattle.book.specs.declared.Head.{Head}
 use Rattle.book.specs.Book.{head_right, whole_blocks, rule_in, rule_of, book_of}
 
 -- what is no book by question 1
-pub no-rule : (s : List ℕ) → false ≡ whole_blocks s → Plain ≡ rule_of s
+pub no_rule : (s : List ℕ) → false ≡ whole_blocks s → Plain ≡ rule_of s
 unfolding rule_of
-no-rule s e = rw (← e)
+no_rule s e = rw (← e)
 
 pub no_book : (s : List ℕ) → false ≡ whole_blocks s → no 1 ≡ book_of s
 unfolding book_of need

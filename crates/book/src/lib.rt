@@ -7,7 +7,7 @@ ghost use Rattle.blocks.specs.Words.{word, check_right};
 ghost use Rattle.floats.specs.Small.{is_finite, positive, float_of, float};
 ghost use Rattle.floats.specs.Fold.{all_to};
 ghost use Rattle.book.specs.Places.{pair_count, block_count, row_from, words_in, Whole};
-ghost use Rattle.book.specs.Book.{floats_finite, version_right, head_right, model_right, model_of, solvent_right, range_right, record_right, records_right, has_masses, pair_right, row_right, parameters_finite, bounds_finite, pair_finite, alphas_equal, pairs_of, solvents_of, head_of, whole_blocks, rule_of, book_of, offered_right, offered_of};
+ghost use Rattle.book.specs.Book.{floats_finite, version_right, head_right, model_right, model_of, solvent_right, range_right, record_right, records_right, has_masses, pair_right, row_right, parameters_finite, bounds_finite, pair_finite, alphas_equal, pairs_of, solvents_of, head_of, whole_blocks, rule_in, rule_of, book_of, offered_right, offered_of};
 ghost use Rattle.outcome.specs.Refused.{outcome_of};
 
 use blocks::Rule;
@@ -380,18 +380,26 @@ fn open_head(book: &[[u8; 512]]) -> Result<Head, Refusal>
     open_solvents(book, head)
 }
 
-// The rule by which the blocks of a call are checked: a book's own, its question's and its answer's.
-pub fn rule_of(book: &[u8]) -> Rule
-    ensures { result ≡ rule_of book.now }
+// Version 3 of kind 1 is checked by running sums.
+#[tactic(auto, unfolding(crate::specs::Book::rule_in))]
+fn rule_in(s: &[u8; 512]) -> Rule
+    ensures { result ≡ rule_in (word s.now) }
 {
-    let Some(blocks) = whole_blocks(book) else {
-        return Rule::Plain;
-    };
-    let first = &blocks[0];
-    if word(first, 0) == 1 && word(first, 1) == 3 {
+    if word(s, 0) == 1 && word(s, 1) == 3 {
         Rule::Running
     } else {
         Rule::Plain
+    }
+}
+
+// The rule by which the blocks of a call are checked: a book's own, its question's and its answer's.
+#[tactic(auto, using(crate::proofs::Laws::no_rule, crate::proofs::Blocks::rule_whole))]
+pub fn rule_of(book: &[u8]) -> Rule
+    ensures { result ≡ rule_of book.now }
+{
+    match whole_blocks(book) {
+        Some(blocks) => rule_in(&blocks[0]),
+        None => Rule::Plain,
     }
 }
 
@@ -402,10 +410,11 @@ pub fn open_book(book: &[u8]) -> Result<Head, Refusal>
     let Some(blocks) = whole_blocks(book) else {
         return Err(Refusal::BookLength);
     };
-    if !version_right(&blocks[0]) {
+    let first = &blocks[0];
+    if !version_right(first) {
         return Err(Refusal::BookVersion);
     }
-    if !checks_right(rule_of(book), blocks) {
+    if !checks_right(rule_in(first), blocks) {
         return Err(Refusal::BookCheck);
     }
     open_head(blocks)

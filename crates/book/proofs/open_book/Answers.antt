@@ -14,10 +14,10 @@ returns-then-not-version_right c = rw (book_asked c.in-Some.ensures, ← c.if-no
 
 pub returns-then-not-checks_right : goal.returns-then-not-checks_right
 unfolding need
-returns-then-not-checks_right c = let checks = rw c.rule_of.ensures at c.if-not-checks_right.ensures in
+returns-then-not-checks_right c = let checks = rw c.rule_in.ensures at c.if-not-checks_right.ensures in
     rw (book_asked c.in-Some.ensures, ← c.if-not-version_right.ensures, ← checks)
 
 pub returns : goal.returns
 unfolding need
-returns c = let checks = rw c.rule_of.ensures at c.if-not-checks_right.ensures in
+returns c = let checks = rw c.rule_in.ensures at c.if-not-checks_right.ensures in
     rw (book_asked c.in-Some.ensures, ← c.if-not-version_right.ensures, ← checks) c.open_head.ensures
