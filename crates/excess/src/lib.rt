@@ -27,6 +27,8 @@ pub struct Energies {
 const GAS_CONSTANT: f64 = 8.31446261815324;
 
 // T is finite and positive (13), and the first n of x are mole fractions (15, 16, 18).
+// Not inlined: a model's loops then begin with a test of n of their own, by which they are unrolled.
+#[inline(never)]
 pub fn with_state(t: Temperature, x: &[f64; 8], n: usize) -> Result<(), Refusal>
     ensures { outcome_of result ≡ with_state t.0 (at x.now) (places n) (ok tt) }
 {

@@ -63,13 +63,11 @@ impl Liquid<'_> {
         s
     }
 
-    // S_i and ln S_i into `sums`; the next partial sum of x_i ln S_i.
-    fn sum_at(self, total: Jet, i: usize, sums: &mut [f64; 32]) -> Jet
+    // S_i and its logarithm l into `sums`; the next partial sum of x_i ln S_i.
+    fn keep_sum(self, total: Jet, i: usize, s: Jet, l: Jet, sums: &mut [f64; 32]) -> Jet
         requires { i < 8 }
-        ensures { let q = self.entry in SumTurn (s_on q.table.now (at q.x.now) q.m.n) (ln_s_on q.table.now (at q.x.now) q.m.n) (at q.x.now) i total result sums.old sums.new }
+        ensures { SumTurn (λ _. s) (λ _. l) (at self.entry.x.now) i total result sums.old sums.new }
     {
-        let s = self.row_sum(i);
-        let l = s.ln();
         sums[i * 4] = s.v;
         sums[i * 4 + 1] = s.d;
         sums[i * 4 + 2] = l.v;
@@ -77,12 +75,22 @@ impl Liquid<'_> {
         total.add(l.scale(self.x[i]))
     }
 
+    // Two solvents to a step: their logarithms side by side.
     fn fill_sums(self, sums: &mut [f64; 32]) -> Jet
         ensures { let q = self.entry in SumsTo (s_on q.table.now (at q.x.now) q.m.n) (ln_s_on q.table.now (at q.x.now) q.m.n) (at q.x.now) q.m.n result sums.old sums.new }
     {
+        let n = self.m.n;
         let mut total = Jet::constant(0.0);
-        for i in 0..self.m.n {
-            total = self.sum_at(total, i, sums);
+        for h in 0..n / 2 {
+            let (i, j) = (2 * h, 2 * h + 1);
+            let (s, r) = (self.row_sum(i), self.row_sum(j));
+            let (k, l) = numerics::ln_two(s.v, r.v);
+            total = self.keep_sum(total, i, s, s.ln_with(k), sums);
+            total = self.keep_sum(total, j, r, r.ln_with(l), sums);
+        }
+        if n % 2 == 1 {
+            let s = self.row_sum(n - 1);
+            total = self.keep_sum(total, n - 1, s, s.ln(), sums);
         }
         total
     }
