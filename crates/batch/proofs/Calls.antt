@@ -1,6 +1,6 @@
 -- The ways through a call on many feeds, each by the function that takes it. Assumes nothing.
 use Prim.Native.Nat.{ℕ, ◌+◌, ◌*◌, ◌-◌, ◌%◌, ◌≤◌, ◌<◌}
-use mathlib.Core.Path.{◌≡◌, refl, sym, ap, ◌∙◌}
+use mathlib.Core.Path.{◌≡◌, refl, sym, ◌∙◌}
 use mathlib.Core.Bool.{Bool, true, false, ◌&&◌, true≢false}
 use mathlib.Core.List.{List}
 use native.Mathlib.Nat.{min-eq_left}
@@ -11,7 +11,7 @@ use lib.Dec.{eqb, leb}
 use lib.ListN.{length, take, drop}
 use lib.Ieee.{Float}
 use lib.Ieee.Bits.{is_true}
-use Rattle.std.specs.Prelude.{Option, Some, None, Result, Ok, Err}
+use Rattle.std.specs.Prelude.{Some, None, Result, Ok, Err}
 use Rattle.std.specs.Result.{IsErrAnd}
 use Rattle.floats.specs.Small.{float}
 use Rattle.floats.specs.Vector.{places, vec}
@@ -32,10 +32,10 @@ use Rattle.thermo_models.specs.Mixture.{Mixture}
 use Rattle.question.specs.declared.Question.{Question}
 use Rattle.question.specs.declared.Task.{Task}
 use Rattle.question.specs.Inputs.{needs_temperature, task_found}
-use Rattle.question.specs.Asked.{task_in, kind_right, inputs_right, moles_of, limits_right, question_from, rest_of}
+use Rattle.question.specs.Asked.{task_in, inputs_right, moles_of, limits_right, question_from, rest_of}
 use Rattle.replies.specs.Blocks.{answer_room, refusal_bytes}
 use Rattle.sheet.specs.Ready.{Readied}
-use Rattle.sheet.specs.Sheet.{Answers, number_of, written, answer_to, reply_of}
+use Rattle.sheet.specs.Sheet.{Answers, number_of, written, reply_of}
 use Rattle.refusals.specs.Numbered.{Numbered}
 use Rattle.refusals.proofs.Laws.{never, numbers}
 use Rattle.refusals.proofs.Theorem.{num_task_in, num_rest, num_answer}

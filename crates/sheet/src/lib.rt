@@ -289,6 +289,7 @@ impl<'a> Asked<'a> {
         let mut parameters = [0.0; 384];
         records::parameters(book, offered, n, &mut parameters);
         let (x, o) = (&q.fractions, q.options);
+        // Kept: a match, since the contract of a closure for it would have six arguments, for one line.
         let found = match task {
             Task::BubbleTemperature => activity_bubble_temperature(book, &parameters, n, p, x, o),
             _ => activity_dew_temperature(book, &parameters, n, p, x, o),

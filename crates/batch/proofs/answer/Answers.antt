@@ -1,7 +1,7 @@
 -- `batch::answer` meets its contract. Assumes nothing.
-use mathlib.Core.Path.{sym, ◌∙◌, ap}
+use mathlib.Core.Path.{sym}
 use native.Mathlib.Omega.{arith}
-use Rattle.floats.specs.Outcome.{ok, bind, need}
+use Rattle.floats.specs.Outcome.{bind, need}
 use Rattle.batch.specs.Feeds.{feeds_of}
 use Rattle.batch.proofs.Calls.{ends, ends_exit, leaves, room-no, all_answered, few_feeds}
 use Rattle.batch.proofs.answer.Goals as goal

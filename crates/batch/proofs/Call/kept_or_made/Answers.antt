@@ -1,5 +1,5 @@
--- `batch::kept_or_made` meets its contract. Assumes nothing.
-use Rattle.batch.proofs.kept_or_made.Goals as goal
+-- `batch::Call::kept_or_made` meets its contract. Assumes nothing.
+use Rattle.batch.proofs.Call.kept_or_made.Goals as goal
 
 pub returns-in-Some : goal.returns-in-Some
 returns-in-Some c h = h.made _ c.in-Some.is

@@ -1,4 +1,4 @@
--- `batch::answer_feed` meets its contract. Assumes nothing.
+-- `batch::Call::answer_feed` meets its contract. Assumes nothing.
 use mathlib.Core.Path.{sym}
 use borrow.Author.Tests.{le-leb}
 use Rattle.floats.specs.Outcome.{bind, need}
@@ -6,7 +6,7 @@ use Rattle.sheet.specs.Sheet.{roomy}
 use Rattle.sheet.proofs.Laws.{quits}
 use Rattle.batch.specs.Feeds.{feed_to}
 use Rattle.batch.proofs.Calls.{feed-warm, feed_ready, keeps-made}
-use Rattle.batch.proofs.answer_feed.Goals as goal
+use Rattle.batch.proofs.Call.answer_feed.Goals as goal
 
 pub returns-in_err-among : goal.returns-in_err-among
 unfolding feed_to bind
