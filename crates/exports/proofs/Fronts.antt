@@ -1,7 +1,7 @@
 -- What is stored in the first entries of a slice, with the rest of the slice behind it. Assumes nothing.
 use Prim.Native.Nat.{ℕ, ◌+◌, ◌≤◌, ◌<◌}
 use mathlib.Core.Path.{◌≡◌, refl, sym, ap, ◌∙◌}
-use mathlib.Core.List.{List, ◌∷◌, ◌++◌}
+use mathlib.Core.List.{List, ◌++◌}
 use native.Mathlib.Omega.{arith}
 use lib.Ieee.{Float}
 use lib.ListN.{length, take, drop, set, length-set}
@@ -14,10 +14,6 @@ use Rattle.excess.specs.declared.Energies.{Energies}
 use Rattle.thermo_models.specs.declared.Assessment.{Assessment}
 use Rattle.rice_exports.proofs.Fronts.{fill_from-front}
 use Rattle.exports.specs.Models.{Assessed, status_float, flag_float, energies_stored, excess_written, ExcessGives}
-
-pub four_in_front : (p q r s : Float) (l : List Float) → 4 ≤ length l → p ∷ q ∷ r ∷ s ∷ drop 4 l ≡ set (set (set (set l 0 p) 1 q) 2 r) 3 s
-four_in_front p q r s (a ∷ b ∷ c ∷ d ∷ l) h = refl
-four_in_front p q r s _ h = absurd (omega arith)
 
 -- m is l with r behind it, and so it stays with one entry more
 abbrev Fronts : (l r m : List Float) → Type 0

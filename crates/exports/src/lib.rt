@@ -104,6 +104,7 @@ pub extern "C" fn zektonk_fractions(x: &[f64], n: usize) -> u64
 
 // 0, and the first n of eight entries over their sum, 0.0 past them; or 34. With 34 the slice stays, as does one shorter than eight.
 #[unsafe(no_mangle)]
+#[tactic(auto, unfolding(crate::specs::Slices::outcome_number, crate::specs::Slices::fractions_written, crate::specs::Slices::filled_front))]
 pub extern "C" fn zektonk_normalize(x: &mut [f64], n: usize) -> u64
     ensures { NormalizedGives (normalize_of (at (eight_of x.old)) (places n)) result x.old x.new }
 {
@@ -131,6 +132,7 @@ fn vapor_at(book: &[u8], i: usize, t: f64) -> Result<VaporPressure, Refusal>
 
 // 0, with p (Pa), ln p and its two derivatives by T in the first four entries; or 100 for a slice shorter than that, one of the book, 13, 22, 25.
 #[unsafe(no_mangle)]
+#[tactic(auto, unfolding(floats::specs::Outcome::need, crate::specs::Slices::outcome_number, crate::specs::Models::vapor_written))]
 pub extern "C" fn zektonk_vapor_pressure(book: &[u8], i: usize, t: f64, out: &mut [f64]) -> u64
     ensures { VaporGives (need (leb 4 (length out.old)) 100 (vapor_at book.now i t)) result out.old out.new }
 {
@@ -205,6 +207,7 @@ fn excess_at(book: &[u8], t: f64, x: &[f64], out: &mut [f64; 23]) -> Result<(), 
 // 0, with ln γ (8), slopes (8), the reduced and the plain Gibbs energy, enthalpy, entropy, heat capacity, validity (0, 1, 2) and inferred (0, 1) in
 // the first 23 entries; or 100 for a slice shorter than that, one of the book, 13, 15, 16, 18, 24, 25.
 #[unsafe(no_mangle)]
+#[tactic(auto, unfolding(floats::specs::Outcome::need, crate::specs::Slices::outcome_number, crate::specs::Models::excess_written))]
 pub extern "C" fn zektonk_excess(book: &[u8], t: f64, x: &[f64], out: &mut [f64]) -> u64
     ensures { ExcessGives (need (leb 23 (length out.old)) 100 (excess_at book.now t x.now)) result out.old out.new }
 {
@@ -246,6 +249,7 @@ pub extern "C" fn zektonk_rachford_rice_negative(
 
 // 100 + n for an accepted book, else its number.
 #[unsafe(no_mangle)]
+#[tactic(auto, unfolding(crate::specs::Slices::book_number))]
 pub extern "C" fn zektonk_open_book(book: &[u8]) -> u64
     ensures { result ≡ book_number (book_of book.now) }
 {

