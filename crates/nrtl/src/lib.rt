@@ -136,7 +136,7 @@ impl Mixture<'_> {
         ensures s { sums.new ≡ lanes (s_on self.entry.table.now (at self.entry.x.now) self.entry.m.n) 2 (evened self.entry.m.n) sums.old }
         ensures r { ratios.new ≡ lanes (r_on self.entry.table.now (at self.entry.x.now) self.entry.m.n) 3 (evened self.entry.m.n) ratios.old }
     {
-        // Kept: a `for` over the fours takes an activity of four solvents a fifth longer.
+        // Kept: as a `for` over the fours an activity of four solvents takes 1 to 3 % longer, and with the choice in its body one of two a fifth.
         let mut i = 0;
         while i + 2 < self.m.n {
             self.sums_from::<4>(i, sums, ratios);
