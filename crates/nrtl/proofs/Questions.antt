@@ -17,7 +17,7 @@ unfolding bind passing
 both (Ok u) v o = refl
 both (Err r) v o = refl
 
-pub asked : (m : List Float) (n : ℕ) (t : Float) (x : ℕ → Float) (w alphas : Result (Unit {0}) Refusal) → outcome_of w ≡ with_state t x n (ok (tt {0}))
-    → nrtl_on m alphas n t x ≡ bind (outcome_of (result_and w alphas)) (λ _. state_from (reduced_on m x n) (ln_gamma_on m x n) n t)
+pub asked : (m : List Float) (n : ℕ) (t : Float) (x : ℕ → Float) (w alphas : Result (Unit {0}) Refusal) {r : Result (Unit {0}) Refusal} → outcome_of w ≡ with_state t x n (ok (tt {0}))
+    → r ≡ result_and w alphas → nrtl_on m alphas n t x ≡ bind (outcome_of r) (λ _. state_from (reduced_on m x n) (ln_gamma_on m x n) n t)
 unfolding nrtl_on
-asked m n t x w alphas e = state_first t x n _ ∙ rw (← e) (both w alphas _)
+asked m n t x w alphas e p = state_first t x n _ ∙ rw (← e, p) (both w alphas _)

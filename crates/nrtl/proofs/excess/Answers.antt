@@ -12,10 +12,10 @@ unfolding bind
 returns-in_err-and c =
     let a = c.args in
     let k = c.clear.ensures in
-    gives (asked a.table.now (places a.n) a.t.0 (at a.x.now) _ _ c.with_state.ensures ∙ rw (← c.and.ensures, c.in_err-and.was)) (gives-no _ (met _ _ c.from_residual.ensures.1) k.cleared_values k.cleared_slopes)
+    gives (asked a.table.now (places a.n) a.t.0 (at a.x.now) _ _ c.with_state.ensures c.and.ensures ∙ rw c.in_err-and.was) (gives-no _ (met _ _ c.from_residual.ensures.1) k.cleared_values k.cleared_slopes)
 
 pub returns : goal.returns
 unfolding bind
 returns c =
     let a = c.args in
-    gives (asked a.table.now (places a.n) a.t.0 (at a.x.now) _ _ c.with_state.ensures ∙ rw (← c.and.ensures, c.in_ok-and.was)) (rw c.of-m.ensures at c.state.ensures)
+    gives (asked a.table.now (places a.n) a.t.0 (at a.x.now) _ _ c.with_state.ensures c.and.ensures ∙ rw c.in_ok-and.was) (rw c.of-m.ensures at c.state.ensures)
