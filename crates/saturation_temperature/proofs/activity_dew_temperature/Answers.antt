@@ -1,6 +1,5 @@
 -- `saturation_temperature::activity_dew_temperature` meets its contract. Assumes nothing.
 use Rattle.std.proofs.Common.{◌≡◌, rules}
-use Rattle.floats.specs.Vector.{places}
 use Rattle.floats.specs.Outcome.{ok, bind, need}
 use Rattle.outcome.proofs.Exits.{met}
 use Rattle.thermo_models.specs.Activity.{activity_of}
