@@ -133,6 +133,7 @@ pub fn bubble_from(
 // ---- residual of ln fugacities
 
 // max_i |ln(y_i p) - ln(x_i γ_i p_i^sat)| over solvents present in both phases: 25 where it isn't finite.
+#[tactic(auto, unfolding(crate::specs::Saturation::residual_with, floats::specs::Outcome::need))]
 pub fn residual_with(
     lg: &[f64; 8],
     ps: &[f64; 8],
@@ -311,6 +312,7 @@ pub fn activity_bubble_pressure(
 }
 
 // Dew pressure of the feed y, from the same: 34, what `activity` refuses at an incipient liquid, 25, 27, 23.
+#[tactic(auto, unfolding(crate::specs::Saturation::dew_task, floats::specs::Outcome::bind, floats::specs::Outcome::need))]
 pub fn activity_dew_pressure(
     table: &[f64; 512],
     s: Tabled,

@@ -52,6 +52,7 @@ fn middle(lo: f64, hi: f64) -> f64
 }
 
 // The Newton step where f rises and the step stays inside the bracket, else the middle.
+#[tactic(auto, unfolding(crate::specs::Search::step_of))]
 fn step(f: Point, b: Bracket) -> Bracket
     ensures { result ≡ step_of f b }
 {
@@ -69,6 +70,7 @@ fn step(f: Point, b: Bracket) -> Bracket
     Bracket { lo, hi, next }
 }
 
+#[tactic(auto, unfolding(crate::specs::Search::collapsed))]
 fn collapsed(b: Bracket, t: f64) -> bool
     ensures { result ≡ collapsed b t }
 {
@@ -191,6 +193,7 @@ impl Feed<'_> {
     }
 
     // The answer at a root, from ln γ of the feed and the vapor pressures there: the bubble point, and its residual at the given pressure.
+    #[tactic(auto, unfolding(saturation::specs::Saturation::bubble_at, saturation::specs::Saturation::residual, crate::specs::Boiling::bubble_saturation, floats::specs::Outcome::bind))]
     fn bubble_with(
         self,
         lg: &[f64; 8],
@@ -275,6 +278,7 @@ impl Feed<'_> {
 
     // The answer at a root, from the dew point there: its residual at the given pressure. The count wraps past 2^64, which no
     // limit of a question reaches.
+    #[tactic(auto, unfolding(crate::specs::Boiling::dew_saturation, floats::specs::Outcome::bind))]
     fn dew_with(self, d: DewPoint, ps: &[f64; 8], root: Root) -> Result<ActivitySaturation, Refusal>
         ensures { (E : List Float → Out Activity) (o : ActivityOptions) → dew_at E ps.now self.entry.m.n o self.entry.z.now ≡ ok d → outcome_of result ≡ dew_saturation E ps.now self.entry.m.n o self.entry.p self.entry.z.now root.iterations root.temperature }
     {
