@@ -79,6 +79,7 @@ struct Raoult<'a> {
 
 impl Raoult<'_> {
     // f of each solvent's fraction, γ and vapor pressure; 0.0 past the solvents.
+    #[tactic(auto, unfolding(floats::specs::Vector::fill))]
     fn terms<F: Fn(f64, f64, f64) -> f64>(self, z: &[f64; 8], f: F) -> [f64; 8]
         requires { F.IsAlwaysCallable f }
         ensures { (t : ℕ → Float)
@@ -94,6 +95,7 @@ impl Raoult<'_> {
     }
 
     // The largest gap of a solvent that is present in both phases.
+    #[tactic(auto, unfolding(crate::specs::Saturation::gap_of, floats::specs::Fold::fold_to))]
     fn largest_gap(self, p: f64, x: &[f64; 8], y: &[f64; 8]) -> f64
         ensures { result ≡ gap_of self.entry.lg.now self.entry.ps.now p x.now y.now self.entry.m.n }
     {
@@ -196,6 +198,7 @@ impl Vapor<'_> {
     }
 
     // The largest change of ln γ of a solvent that is present.
+    #[tactic(auto, unfolding(crate::specs::Saturation::change_of, floats::specs::Fold::fold_to))]
     fn largest_change(self, new: &[f64; 8], old: &[f64; 8]) -> f64
         ensures { result ≡ change_of self.entry.y.now new.now old.now self.entry.m.n }
     {

@@ -153,6 +153,7 @@ struct Feed<'a> {
 
 impl Feed<'_> {
     // Σ w_i, Pa, and Σ w_i (∂ ln γ_i/∂T + d ln p_i^sat/dT), Pa/K, where w = x γ p_sat of each solvent present.
+    #[tactic(auto, unfolding(crate::specs::Boiling::weight_sum, crate::specs::Boiling::weight_slope, floats::specs::Fold::fold_to))]
     fn weigh(self, lg: &[f64; 8], sl: &[f64; 8], ps: &[f64; 8], dps: &[f64; 8]) -> (f64, f64)
         ensures { Weighed self.entry.z.now lg.now sl.now ps.now dps.now self.entry.m.n result.0 result.1 }
     {
@@ -216,6 +217,7 @@ impl Feed<'_> {
 }
 
 // Bubble temperature at p: ln Σ x_i γ_i p_i^sat = ln p on the bracket of the options. 23, then what the search refuses.
+#[tactic(auto, unfolding(crate::specs::Boiling::bubble_temperature, crate::specs::Boiling::saturation_temperature, floats::specs::Outcome::need))]
 pub fn activity_bubble_temperature(
     book: &[u8],
     parameters: &[f64; 384],
@@ -245,6 +247,7 @@ pub fn activity_bubble_temperature(
 
 impl Feed<'_> {
     // Σ x_i (∂ ln γ_i/∂T + d ln p_i^sat/dT) over the incipient liquid of the solvents in the vapor, 1/K.
+    #[tactic(auto, unfolding(floats::specs::Fold::fold_to))]
     fn dew_slope(self, liquid: &[f64; 8], sl: &[f64; 8], dps: &[f64; 8]) -> f64
         ensures { result ≡ fold_to (active (at self.entry.z.now) (λ i s. s ⊕ at liquid.now i ⊗ (at sl.now i ⊕ at dps.now i))) 0f self.entry.m.n }
     {
@@ -296,6 +299,7 @@ impl Feed<'_> {
 }
 
 // Dew temperature at p: ln p_dew(T) = ln p on the bracket of the options. 23, then what the search refuses.
+#[tactic(auto, unfolding(crate::specs::Boiling::dew_temperature, crate::specs::Boiling::saturation_temperature, floats::specs::Outcome::need))]
 pub fn activity_dew_temperature(
     book: &[u8],
     parameters: &[f64; 384],

@@ -9,10 +9,6 @@ use Rattle.saturation_temperature.specs.Answers.{bubble_tried}
 use Rattle.saturation_temperature.proofs.Points.{bubble-first, bubble-answer}
 use Rattle.saturation_temperature.proofs.activity_bubble_temperature.Goals as goal
 
-pub returns-then-not-check_pressure : goal.returns-then-not-check_pressure
-unfolding bubble_temperature saturation_temperature need
-returns-then-not-check_pressure c = rw (← c.value-p.ensures, ← c.if-not-check_pressure.ensures)
-
 pub returns-in_err-root : goal.returns-in_err-root
 unfolding bubble_temperature saturation_temperature need bind
 returns-in_err-root c =

@@ -1,14 +1,7 @@
-use mathlib.Core.Path.{refl}
-use native.Mathlib.Omega.{arith}
-use Rattle.floats.proofs.Folds.{fold_turn, fold_done}
-use Rattle.floats.specs.Fold.{fold_to}
+use Rattle.floats.proofs.Folds.{fold_turn}
 use Rattle.saturation.specs.Saturation.{gap_of}
 use Rattle.saturation.proofs.Raoult.largest_gap.Goals as goal
 use Rattle.saturation.proofs.Raoult.largest_gap.Goals.{then-x-i, else-x-i}
-
-pub loop-i-init : goal.loop-i-init
-unfolding gap_of fold_to
-loop-i-init c = refl
 
 pub loop-i-preserved : goal.loop-i-preserved
 unfolding gap_of
@@ -19,7 +12,3 @@ loop-i-preserved c =
       | else-x-i w ↦ rw (w.if-x-i.false, w.r-is)
     ])
     c.loop-i.invariant
-
-pub returns : goal.returns
-unfolding gap_of
-returns c = fold_done _ _ _ _ (omega arith) c.loop-i.invariant

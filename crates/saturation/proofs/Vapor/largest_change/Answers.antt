@@ -1,14 +1,7 @@
-use mathlib.Core.Path.{refl}
-use native.Mathlib.Omega.{arith}
-use Rattle.floats.proofs.Folds.{fold_turn, fold_done}
-use Rattle.floats.specs.Fold.{fold_to}
+use Rattle.floats.proofs.Folds.{fold_turn}
 use Rattle.saturation.specs.Saturation.{change_of}
 use Rattle.saturation.proofs.Vapor.largest_change.Goals as goal
 use Rattle.saturation.proofs.Vapor.largest_change.Goals.{then-self-i, else-self-i}
-
-pub loop-i-init : goal.loop-i-init
-unfolding change_of fold_to
-loop-i-init c = refl
 
 pub loop-i-preserved : goal.loop-i-preserved
 unfolding change_of
@@ -19,7 +12,3 @@ loop-i-preserved c =
       | else-self-i w ↦ rw (w.if-self-i.false, w.r-is)
     ])
     c.loop-i.invariant
-
-pub returns : goal.returns
-unfolding change_of
-returns c = fold_done _ _ _ _ (omega arith) c.loop-i.invariant

@@ -1,12 +1,6 @@
-use Rattle.std.proofs.Common.{refl, arith}
-use Rattle.floats.proofs.Folds.{fold_turn, fold_done}
-use Rattle.floats.specs.Fold.{fold_to}
+use Rattle.floats.proofs.Folds.{fold_turn}
 use Rattle.saturation_temperature.proofs.Feed.dew_slope.Goals as goal
 use Rattle.saturation_temperature.proofs.Feed.dew_slope.Goals.{then-y-i, else-y-i}
-
-pub loop-i-init : goal.loop-i-init
-unfolding fold_to
-loop-i-init c = refl
 
 pub loop-i-preserved : goal.loop-i-preserved
 loop-i-preserved c =
@@ -16,6 +10,3 @@ loop-i-preserved c =
       | else-y-i w ↦ rw (w.if-y-i.false, w.s-is)
     ])
     c.loop-i.invariant
-
-pub returns : goal.returns
-returns c = fold_done _ _ _ _ (omega arith) c.loop-i.invariant

@@ -1,13 +1,8 @@
-use Rattle.std.proofs.Common.{◌≡◌, arith, refl}
-use Rattle.floats.specs.Fold.{fold_to}
+use Rattle.std.proofs.Common.{arith}
 use Rattle.floats.proofs.Folds.{fold_turn}
 use Rattle.saturation_temperature.specs.Boiling.{weight_sum, weight_slope}
 use Rattle.saturation_temperature.proofs.Feed.weigh.Goals as goal
 use Rattle.saturation_temperature.proofs.Feed.weigh.Goals.{then-x-i, else-x-i}
-
-pub loop-i-init : goal.loop-i-init
-unfolding weight_sum weight_slope fold_to
-loop-i-init c = record { sum = refl; slopes = refl }
 
 pub loop-i-preserved : goal.loop-i-preserved
 unfolding weight_sum weight_slope
@@ -23,8 +18,3 @@ loop-i-preserved c =
         slopes = fold_turn _ _ _ (rw (w.if-x-i.false, w.slope-is)) c.loop-i.invariant.slopes;
       }
     ]
-
-pub returns : goal.returns
-returns c =
-    let e : c.loop-i.i ≡ c.args.self.m.n = omega arith in
-    rw e at c.loop-i.invariant
