@@ -89,7 +89,7 @@ module _ (E : Activities) (L : Liquids) (n : ℕ) (p : Float) (z : List Float) w
   dew-first o t e = rw e (simp first-bind)
 
   -- what was met on the way to f at t
-  pub bubble-met : {v : Point} {lg ps : List Float} (t : Float) → ok (v, (lg, ps)) ≡ bubble_tried E L n p z t
+  bubble-met : {v : Point} {lg ps : List Float} (t : Float) → ok (v, (lg, ps)) ≡ bubble_tried E L n p z t
       → (sl dps : List Float) × (positive_of t 13 ≡ ok t) × (E t z ≡ ok (activity_from lg sl)) × (L t ≡ ok (pures_from ps dps))
   unfolding bubble_tried
   bubble-met t e =
@@ -102,7 +102,7 @@ module _ (E : Activities) (L : Liquids) (n : ℕ) (p : Float) (z : List Float) w
         ap L (sym T) ∙ m.5 ∙ ap (λ (x : List Float × List Float). ok (pures_from x.1 m.2.slope)) m.6,
       )
 
-  pub dew-met : (o : ActivityOptions) {v : Point} {d : Dew} {ps : List Float} (t : Float) → ok (v, (d, ps)) ≡ dew_tried E L n o p z t
+  dew-met : (o : ActivityOptions) {v : Point} {d : Dew} {ps : List Float} (t : Float) → ok (v, (d, ps)) ≡ dew_tried E L n o p z t
       → (dps : List Float) × (positive_of t 13 ≡ ok t) × (L t ≡ ok (pures_from ps dps)) × (dew_at (E t) ps n o z ≡ ok d)
   unfolding dew_tried
   dew-met o {ps = ps} t e =
