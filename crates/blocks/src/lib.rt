@@ -70,6 +70,7 @@ pub fn block(book: &[u8], k: usize) -> &[u8]
 
 impl Rule {
     // The sum of words 0 to 62, modulo 2^64.
+    // Kept: `match self` is the definition by cases.
     fn sum<F: Fn(usize) -> u64>(self, word: F) -> u64
         requires { TakesWords (F.pre word) }
         ensures { (w : ℕ → ℕ) → GivesWords (F.post word) w → result ≡ sum_by self w }

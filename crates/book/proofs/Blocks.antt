@@ -82,11 +82,11 @@ each_pair book n p h =
     ∙ all_cong (pair_count n) (λ d l. ap p (get_or-take (length book - (1 + n)) (drop (1 + n) book) d [] (omega arith) ∙ get_or-drop (1 + n) book d []))
 
 -- a row of them
-pub row_read : (book : List (List ℕ)) (i from count : ℕ) → from + count ≤ length book
+pub row_read : (book : List (List ℕ)) (i from count n : ℕ) → length book ≡ block_count n → from + count ≤ block_count n
     → all_to (λ d. pair_right (words_in (take (from + count - from) (drop from book)) d) i (i + 1 + d)) (length (take (from + count - from) (drop from book)))
     ≡ row_right (words_in book) i from count
 unfolding row_right
-row_read book i from count h =
+row_read book i from count n z h =
     let s = take (from + count - from) (drop from book) in
     let e : length s ≡ count = simp (length-take, length-drop) (omega arith) in
     ap (all_to (λ d. pair_right (words_in s d) i (i + 1 + d))) e
@@ -122,7 +122,7 @@ rule_whole {s} {blocks} w = rw (whole_sized s (length blocks) w.some w.size, w.s
 pub book_asked : {s : List ℕ} {blocks : List (List ℕ)} → Whole s blocks
     → book_of s
     ≡ need (version_right (words_in blocks 0)) 38
-      (need (list_all (λ b. check_right (rule_in (words_in blocks 0)) (word b)) blocks) 2 (head_of (words_in blocks) (length blocks)))
+    (need (list_all (λ b. check_right (rule_in (words_in blocks 0)) (word b)) blocks) 2 (head_of (words_in blocks) (length blocks)))
 unfolding book_of need
 book_asked {s} {blocks} w =
     let z = w.size in

@@ -41,7 +41,7 @@ fn whole_blocks(book: &[u8]) -> Option<&[[u8; 512]]>
 }
 
 // A word of a whole block, read with no test for its end.
-// Kept: shared with `blocks` it would be a `pub fn` with a `requires`.
+// Kept: shared with `blocks` it would be a `pub fn` with a `requires`. `k < 64` is the place of a word, here and below.
 fn word(s: &[u8; 512], k: usize) -> u64
     requires { k < 64 }
     ensures { result ≡ word s.now k }
@@ -76,10 +76,10 @@ fn floats_finite(s: &[u8; 512], from: usize, count: usize) -> bool
     carries < 0x8000000000000000
 }
 
-fn checks_right(rule: Rule, book: &[[u8; 512]]) -> bool
-    ensures { result ≡ list_all (λ s. check_right rule (word s)) book.now }
+fn checks_right(rule: Rule, blocks: &[[u8; 512]]) -> bool
+    ensures { result ≡ list_all (λ s. check_right rule (word s)) blocks.now }
 {
-    book.iter().all(|s| blocks::check_right(rule, s))
+    blocks.iter().all(|s| blocks::check_right(rule, s))
 }
 
 // Kind 1 has version 1 to 3.
@@ -149,6 +149,7 @@ fn solvents_right(solvents: &[[u8; 512]]) -> bool
 }
 
 // 0 < low ≤ high < t_r (K), the reducing value positive.
+// Kept: `f` is a word's place, with room for the record behind it; as an enum of two records it would be turned into 3 or 24 here.
 fn range_right(s: &[u8; 512], f: usize) -> bool
     requires { f ≤ 24 }
     ensures { result ≡ range_right (word s.now) f }
@@ -239,21 +240,6 @@ fn row_right(i: usize, row: &[[u8; 512]]) -> bool
     (0..row.len()).all(|d| pair_right(&row[d], i as u64, (i + 1 + d) as u64))
 }
 
-fn pairs_right(book: &[[u8; 512]], n: usize) -> bool
-    requires { (n ≤ 8) × (length book.now ≡ block_count n) }
-    ensures { result ≡ all_to (λ i. row_right (words_in book.now) i (row_from n i) (n - i - 1)) n }
-{
-    let mut from = 1 + n;
-    for i in 0..n {
-        let count = n - i - 1;
-        if !row_right(i, &book[from..from + count]) {
-            return false;
-        }
-        from += count;
-    }
-    true
-}
-
 // The bounds of an interval are read only if it is flagged.
 fn bounds_finite(s: &[u8; 512]) -> bool
     ensures { result ≡ bounds_finite (word s.now) }
@@ -261,6 +247,7 @@ fn bounds_finite(s: &[u8; 512]) -> bool
     word(s, 15) == 0 || floats_finite(s, 16, 2)
 }
 
+// Kept: each `match self` is a definition by cases, with a constant in each: a count that is known lets the loop unroll.
 impl Model {
     // Four taus and two alphas each way, or a and b.
     fn parameters_finite(self, s: &[u8; 512]) -> bool
@@ -318,55 +305,80 @@ fn nrtl_sound(s: &[u8; 512]) -> bool
     Model::Nrtl.pair_finite(s) & alphas_equal(s)
 }
 
-fn open_pairs(book: &[[u8; 512]], head: Head) -> Result<Head, Refusal>
-    requires { (head.n ≤ 8) × (length book.now ≡ block_count head.n) }
-    ensures { outcome_of result ≡ pairs_of (words_in book.now) head }
-{
-    let Head { n, model, .. } = head;
-    if !pairs_right(book, n) {
-        return Err(Refusal::PairBlock);
-    }
-    let pairs = &book[1 + n..];
-    if model.pairs_sound(pairs) {
-        return Ok(head);
-    }
-    if !model.pairs_finite(pairs) {
-        return Err(Refusal::PairNumber);
-    }
-    Err(Refusal::PairAlphas)
+// A book that has a block for each solvent and each pair.
+#[derive(Clone, Copy)]
+struct Book<'a> {
+    blocks: &'a [[u8; 512]],
+    head: Head,
+    ghost few: { head.n ≤ 8 },
+    ghost size: { length blocks.now ≡ block_count head.n },
 }
 
-#[tactic(auto, using(crate::proofs::Blocks::solvents_asked), unfolding(floats::specs::Outcome::need))]
-fn open_solvents(book: &[[u8; 512]], head: Head) -> Result<Head, Refusal>
-    requires { (head.n ≤ 8) × (length book.now ≡ block_count head.n) }
-    ensures { outcome_of result ≡ solvents_of (words_in book.now) head }
-{
-    let solvents = &book[1..1 + head.n];
-    if !solvents_right(solvents) {
-        return Err(Refusal::SolventBlock);
+impl<'a> Book<'a> {
+    fn pairs_right(self) -> bool
+        ensures { result ≡ all_to (λ i. row_right (words_in self.entry.blocks.now) i (row_from self.entry.head.n i) (self.entry.head.n - i - 1)) self.entry.head.n }
+    {
+        let n = self.head.n;
+        let mut from = 1 + n;
+        for i in 0..n {
+            let count = n - i - 1;
+            if !row_right(i, &self.blocks[from..from + count]) {
+                return false;
+            }
+            from += count;
+        }
+        true
     }
-    if !all_records_right(solvents) {
-        return Err(Refusal::SolventNumber);
+
+    fn open_pairs(self) -> Result<Head, Refusal>
+        ensures { outcome_of result ≡ pairs_of (words_in self.entry.blocks.now) self.entry.head }
+    {
+        let Head { n, model, .. } = self.head;
+        if !self.pairs_right() {
+            return Err(Refusal::PairBlock);
+        }
+        let pairs = &self.blocks[1 + n..];
+        if model.pairs_sound(pairs) {
+            return Ok(self.head);
+        }
+        if !model.pairs_finite(pairs) {
+            return Err(Refusal::PairNumber);
+        }
+        Err(Refusal::PairAlphas)
     }
-    if !masses_right(head.version, solvents) {
-        return Err(Refusal::MolarMass);
+
+    #[tactic(auto, using(crate::proofs::Blocks::solvents_asked), unfolding(floats::specs::Outcome::need))]
+    fn open_solvents(self) -> Result<Head, Refusal>
+        ensures { outcome_of result ≡ solvents_of (words_in self.entry.blocks.now) self.entry.head }
+    {
+        let Head { n, version, .. } = self.head;
+        let solvents = &self.blocks[1..1 + n];
+        if !solvents_right(solvents) {
+            return Err(Refusal::SolventBlock);
+        }
+        if !all_records_right(solvents) {
+            return Err(Refusal::SolventNumber);
+        }
+        if !masses_right(version, solvents) {
+            return Err(Refusal::MolarMass);
+        }
+        if !cas_distinct(solvents) {
+            return Err(Refusal::SolventTwice);
+        }
+        self.open_pairs()
     }
-    if !cas_distinct(solvents) {
-        return Err(Refusal::SolventTwice);
-    }
-    open_pairs(book, head)
 }
 
-fn open_head(book: &[[u8; 512]]) -> Result<Head, Refusal>
-    requires { 0 < length book.now }
-    ensures { outcome_of result ≡ head_of (words_in book.now) (length book.now) }
+fn open_head(blocks: &[[u8; 512]]) -> Result<Head, Refusal>
+    requires { 0 < length blocks.now }
+    ensures { outcome_of result ≡ head_of (words_in blocks.now) (length blocks.now) }
 {
-    let first = &book[0];
+    let first = &blocks[0];
     if !head_right(first) {
         return Err(Refusal::BookHead);
     }
     let m = Count::of(word(first, 2) as usize);
-    if book.len() != 1 + m.n + pair_count(m) {
+    if blocks.len() != 1 + m.n + pair_count(m) {
         return Err(Refusal::BookHead);
     }
     if !model_right(first) {
@@ -377,7 +389,7 @@ fn open_head(book: &[[u8; 512]]) -> Result<Head, Refusal>
         version: word(first, 1),
         model: model_in(word(first, 3)),
     };
-    open_solvents(book, head)
+    Book { blocks, head }.open_solvents()
 }
 
 // Version 3 of kind 1 is checked by running sums.

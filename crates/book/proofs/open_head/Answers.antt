@@ -1,5 +1,4 @@
 -- `book::open_head` meets its contract. Each return rewrites by the tests that led there. Assumes nothing.
-use Rattle.std.proofs.Common.{arith}
 use Rattle.floats.specs.Outcome.{need}
 use Rattle.book.proofs.Laws.{head_count, count_no, count_yes}
 use Rattle.book.specs.Book.{head_in, head_of, model_in}
@@ -10,24 +9,21 @@ pub returns-then-not-head_right : goal.returns-then-not-head_right
 unfolding head_of need
 returns-then-not-head_right c = rw (← c.if-not-head_right.ensures)
 
-pub returns-then-book-m : goal.returns-then-book-m
+pub returns-then-blocks-m : goal.returns-then-blocks-m
 unfolding head_of need
-returns-then-book-m c =
-    let n = head_count (words_in c.args.book.now 0) c.if-not-head_right.ensures c.word.ensures c.of-m.ensures in
-    rw (← c.if-not-head_right.ensures, count_no c.if-book-m.true c.pair_count.ensures.0 n)
+returns-then-blocks-m c =
+    let n = head_count (words_in c.args.blocks.now 0) c.if-not-head_right.ensures c.word.ensures c.of-m.ensures in
+    rw (← c.if-not-head_right.ensures, count_no c.if-blocks-m.true c.pair_count.ensures.0 n)
 
 pub returns-then-not-model_right : goal.returns-then-not-model_right
 unfolding head_of need
 returns-then-not-model_right c =
-    let n = head_count (words_in c.args.book.now 0) c.if-not-head_right.ensures c.word.ensures c.of-m.ensures in
-    rw (← c.if-not-head_right.ensures, count_yes c.if-book-m.false c.pair_count.ensures.0 n, ← c.if-not-model_right.ensures)
-
-pub open_solvents-requires : goal.open_solvents-requires
-open_solvents-requires c = let e = c.pair_count.ensures.0 in (c.of-m.result.few, omega (arith, e))
+    let n = head_count (words_in c.args.blocks.now 0) c.if-not-head_right.ensures c.word.ensures c.of-m.ensures in
+    rw (← c.if-not-head_right.ensures, count_yes c.if-blocks-m.false c.pair_count.ensures.0 n, ← c.if-not-model_right.ensures)
 
 pub returns : goal.returns
 unfolding head_of head_in model_in need
 returns c =
-    let n = head_count (words_in c.args.book.now 0) c.if-not-head_right.ensures c.word.ensures c.of-m.ensures in
-    rw (← c.if-not-head_right.ensures, count_yes c.if-book-m.false c.pair_count.ensures.0 n, ← c.if-not-model_right.ensures)
+    let n = head_count (words_in c.args.blocks.now 0) c.if-not-head_right.ensures c.word.ensures c.of-m.ensures in
+    rw (← c.if-not-head_right.ensures, count_yes c.if-blocks-m.false c.pair_count.ensures.0 n, ← c.if-not-model_right.ensures)
     (rw (n, c.word-2.ensures, c.model_in.ensures, c.word-3.ensures) at c.open_solvents.ensures)

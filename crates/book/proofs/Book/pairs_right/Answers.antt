@@ -4,31 +4,31 @@ use Rattle.floats.specs.Fold.{all_to}
 use Rattle.book.proofs.Blocks.{row_read}
 use Rattle.book.proofs.Laws.{row_ends, row_next}
 use Rattle.book.specs.Places.{row_from}
-use Rattle.book.proofs.pairs_right.Goals as goal
+use Rattle.book.proofs.Book.pairs_right.Goals as goal
 
 pub loop-i-init : goal.loop-i-init
 unfolding all_to row_from
 loop-i-init c = (refl, refl)
 
-pub offset_bounds-book-from : goal.offset_bounds-book-from
-offset_bounds-book-from c = omega (arith, row_ends _ _ c.requires.0 c.loop-i-test.true c.loop-i.invariant.1)
+pub offset_bounds-self-from : goal.offset_bounds-self-from
+offset_bounds-self-from c = omega (arith, row_ends _ _ c.args.self.few c.loop-i-test.true c.loop-i.invariant.1)
 
 pub slice_bounds-row_right-end : goal.slice_bounds-row_right-end
-slice_bounds-row_right-end c = omega (arith, row_ends _ _ c.requires.0 c.loop-i-test.true c.loop-i.invariant.1)
+slice_bounds-row_right-end c = omega (arith, row_ends _ _ c.args.self.few c.loop-i-test.true c.loop-i.invariant.1)
 
 pub overflow_add-from-in-loop-i : goal.overflow_add-from-in-loop-i
-overflow_add-from-in-loop-i c = omega (arith, row_ends _ _ c.requires.0 c.loop-i-test.true c.loop-i.invariant.1)
+overflow_add-from-in-loop-i c = omega (arith, row_ends _ _ c.args.self.few c.loop-i-test.true c.loop-i.invariant.1)
 
 pub returns-then-not-row_right : goal.returns-then-not-row_right
 returns-then-not-row_right c =
-    let fits = (row_ends _ _ c.requires.0 c.loop-i-test.true c.loop-i.invariant.1).0 in
-    let seen = c.if-not-row_right.ensures ∙ row_read c.args.book.now _ _ _ (omega (arith, fits)) in
+    let fits = (row_ends _ _ c.args.self.few c.loop-i-test.true c.loop-i.invariant.1).0 in
+    let seen = c.if-not-row_right.ensures ∙ row_read _ _ _ _ _ c.args.self.size fits in
     sym (all_fails _ _ _ c.loop-i-test.true (sym (rw c.loop-i.invariant.1 at seen)))
 
 pub loop-i-preserved : goal.loop-i-preserved
 loop-i-preserved c =
-    let fits = (row_ends _ _ c.requires.0 c.loop-i-test.true c.loop-i.invariant.1).0 in
-    let seen = c.if-not-row_right.ensures ∙ row_read c.args.book.now _ _ _ (omega (arith, fits)) in
+    let fits = (row_ends _ _ c.args.self.few c.loop-i-test.true c.loop-i.invariant.1).0 in
+    let seen = c.if-not-row_right.ensures ∙ row_read _ _ _ _ _ c.args.self.size fits in
     (all_turn _ _ c.loop-i.invariant.0 (sym (rw c.loop-i.invariant.1 at seen)), rw (row_next, ← c.loop-i.invariant.1))
 
 pub returns : goal.returns
