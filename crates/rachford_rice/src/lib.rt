@@ -172,6 +172,7 @@ impl<'a> Feed<'a> {
     }
 
     // What `choose` makes of the K, one after the other from `first` on.
+    #[tactic(auto, unfolding(floats::specs::Fold::fold_to))]
     fn k_chosen<F: Fn(f64, f64) -> f64>(self, choose: F, first: f64) -> f64
         requires { F.IsAlwaysCallable choose }
         ensures { (f : Float → Float → Float) → ((a b r : Float) → F.post choose a b r → r ≡ f a b) → result ≡ fold_to (active (at self.entry.z.now) (λ i s. f s (at self.entry.k.now i))) first self.entry.m.n }
@@ -197,6 +198,7 @@ impl<'a> Feed<'a> {
         self.k_chosen(floats::min, f64::INFINITY)
     }
 
+    #[tactic(auto, unfolding(floats::specs::Vector::fill, crate::specs::Rachford::liquid_part))]
     fn liquid_parts(self, beta: f64) -> [f64; 8]
         ensures { result ≡ vec (liquid_part (at self.entry.z.now) (at self.entry.k.now) self.entry.m.n beta) self.entry.m.n }
     {
@@ -208,6 +210,7 @@ impl<'a> Feed<'a> {
     }
 
     // From the liquid that is not yet divided by its sum.
+    #[tactic(auto, unfolding(floats::specs::Vector::fill))]
     fn vapor_parts(self, x: &[f64; 8]) -> [f64; 8]
         ensures { result ≡ vec (λ i. at x.now i ⊗ at self.entry.k.now i) self.entry.m.n }
     {
