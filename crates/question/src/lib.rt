@@ -254,6 +254,7 @@ fn over_masses(book: &[u8], n: usize, x: &[f64; 8]) -> [f64; 8]
 }
 
 // The mole fractions of a feed by word 27.
+#[tactic(auto, unfolding(crate::specs::Asked::moles_of, floats::specs::Outcome::choose))]
 fn moles(q: &[u8], book: &[u8], n: usize, x: &[f64; 8]) -> Result<[f64; 8], Refusal>
     ensures { outcome_of result ≡ moles_of (word q.now) (molar_mass (words book.now)) (places n) x.now }
 {
@@ -338,6 +339,7 @@ pub fn read_rest(q: &[u8], book: &[u8], n: usize, x: &[f64; 8]) -> Result<Questi
 }
 
 // The question for a book of that version and n solvents, or the first of questions 11 to 21 and 36 that is answered no.
+#[tactic(auto, unfolding(crate::specs::Asked::question_of, floats::specs::Outcome::bind, floats::specs::Outcome::need))]
 pub fn read_question(
     rule: Rule,
     q: &[u8],
