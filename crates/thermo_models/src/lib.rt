@@ -49,7 +49,51 @@ impl Solvents<'_> {
     {
         (0..self.m.n).all(|i| solvent_covers(self.book, self.t, i))
     }
+}
 
+// The model's temperatures and the two ranges of every solvent, absent ones too.
+#[tactic(auto, unfolding(crate::specs::Domain::temperature_in_domain))]
+pub fn check_temperature(book: &[u8], n: usize, t: Temperature) -> bool
+    ensures { result ≡ temperature_in_domain book.now (places n) t.0 }
+{
+    let (m, t) = (Count::of(n), t.value());
+    liquid::in_range(LOWEST_KELVIN, HIGHEST_KELVIN, t) & Solvents { book, m, t }.all_cover()
+}
+
+// ACTIVITY_PRESSURE_RANGE_PA.
+const LOWEST_PASCAL: f64 = 100.0;
+
+const HIGHEST_PASCAL: f64 = 500000.0;
+
+#[tactic(auto, unfolding(crate::specs::Model::pressure_in_domain))]
+pub fn check_pressure(p: f64) -> bool
+    ensures { result ≡ pressure_in_domain p }
+{
+    (LOWEST_PASCAL <= p) & (p <= HIGHEST_PASCAL)
+}
+
+// ---- the pure liquids at a temperature
+
+// p of ln p, two solvents to a step.
+fn fill_pressures(ls: &[f64; 8], m: Count, ps: &mut [f64; 8])
+    ensures { ps.new ≡ vec (λ i. exp_of (at ls.now i)) m.n }
+{
+    *ps = [0.0; 8];
+    for i in 0..m.n / 2 {
+        (ps[2 * i], ps[2 * i + 1]) = numerics::exp_two(ls[2 * i], ls[2 * i + 1]);
+    }
+    if m.n % 2 == 1 {
+        ps[m.n - 1] = numerics::exp(ls[m.n - 1]);
+    }
+}
+
+fn all_representable(ps: &[f64; 8], ls: &[f64; 8], dps: &[f64; 8], cs: &[f64; 8], m: Count) -> bool
+    ensures { result ≡ all_to (λ i. is_finite (at ps.now i) && is_finite (at ls.now i) && is_finite (at dps.now i) && is_finite (at cs.now i) && not (le (at ps.now i) 0f)) m.n }
+{
+    (0..m.n).all(|i| liquid::is_representable(ps[i], ls[i], dps[i], cs[i]))
+}
+
+impl Solvents<'_> {
     // ln p and its two derivatives of each.
     fn fill_logarithms(self, ls: &mut [f64; 8], dps: &mut [f64; 8], cs: &mut [f64; 8])
         ensures ls_after { let s = self.entry in ls.new ≡ vec (λ i. (vapor_of (vapor_record s.book.now i) s.t).ln_pressure) s.m.n }
@@ -83,48 +127,6 @@ impl Solvents<'_> {
         Ok(())
     }
 }
-
-// p of ln p, two solvents to a step.
-fn fill_pressures(ls: &[f64; 8], m: Count, ps: &mut [f64; 8])
-    ensures { ps.new ≡ vec (λ i. exp_of (at ls.now i)) m.n }
-{
-    *ps = [0.0; 8];
-    for i in 0..m.n / 2 {
-        (ps[2 * i], ps[2 * i + 1]) = numerics::exp_two(ls[2 * i], ls[2 * i + 1]);
-    }
-    if m.n % 2 == 1 {
-        ps[m.n - 1] = numerics::exp(ls[m.n - 1]);
-    }
-}
-
-fn all_representable(ps: &[f64; 8], ls: &[f64; 8], dps: &[f64; 8], cs: &[f64; 8], m: Count) -> bool
-    ensures { result ≡ all_to (λ i. is_finite (at ps.now i) && is_finite (at ls.now i) && is_finite (at dps.now i) && is_finite (at cs.now i) && not (le (at ps.now i) 0f)) m.n }
-{
-    (0..m.n).all(|i| liquid::is_representable(ps[i], ls[i], dps[i], cs[i]))
-}
-
-// The model's temperatures and the two ranges of every solvent, absent ones too.
-#[tactic(auto, unfolding(crate::specs::Domain::temperature_in_domain))]
-pub fn check_temperature(book: &[u8], n: usize, t: Temperature) -> bool
-    ensures { result ≡ temperature_in_domain book.now (places n) t.0 }
-{
-    let (m, t) = (Count::of(n), t.value());
-    liquid::in_range(LOWEST_KELVIN, HIGHEST_KELVIN, t) & Solvents { book, m, t }.all_cover()
-}
-
-// ACTIVITY_PRESSURE_RANGE_PA.
-const LOWEST_PASCAL: f64 = 100.0;
-
-const HIGHEST_PASCAL: f64 = 500000.0;
-
-#[tactic(auto, unfolding(crate::specs::Model::pressure_in_domain))]
-pub fn check_pressure(p: f64) -> bool
-    ensures { result ≡ pressure_in_domain p }
-{
-    (LOWEST_PASCAL <= p) & (p <= HIGHEST_PASCAL)
-}
-
-// ---- the pure liquids at a temperature
 
 // p_sat (Pa) and its logarithmic slope (1/K) of each of the book's first n solvents at t; zeros with a refusal.
 pub fn pure_liquids(
