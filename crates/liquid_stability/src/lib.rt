@@ -30,6 +30,7 @@ pub struct LiquidStabilityTrial {
 }
 
 impl LiquidStabilityTrial {
+    #[tactic(auto, unfolding(crate::specs::Stability::unstable))]
     fn is_unstable(&self, threshold: f64) -> bool
         ensures { result ≡ unstable threshold self.now.distance self.now.trivial }
     {
@@ -55,6 +56,7 @@ struct Measured {
 }
 
 // How many of the first n fractions are positive.
+#[tactic(auto, unfolding(crate::specs::Stability::present_count, floats::specs::Fold::fold_to))]
 pub fn present_count(x: &[f64; 8], n: usize) -> usize
     ensures { result ≡ present_count x.now (places n) }
 {
@@ -68,6 +70,7 @@ pub fn present_count(x: &[f64; 8], n: usize) -> usize
 }
 
 // ln γ of x; its slopes aren't used here.
+#[tactic(auto, using(outcome::proofs::Exits::met), unfolding(floats::specs::Outcome::bind))]
 fn ln_gamma(table: &[f64; 512], at: Tabled, x: &[f64; 8]) -> Result<[f64; 8], Refusal>
     ensures { outcome_of result ≡ bind (activity_on table.now at x.now) (λ a. ok a.ln_gamma) }
 {
@@ -78,6 +81,7 @@ fn ln_gamma(table: &[f64; 512], at: Tabled, x: &[f64; 8]) -> Result<[f64; 8], Re
 }
 
 // An entry that no trial has filled.
+#[tactic(auto, unfolding(crate::specs::Stability::no_trial, crate::specs::Stability::trial_with))]
 pub fn no_trial() -> LiquidStabilityTrial
     ensures { result ≡ no_trial }
 {
@@ -91,6 +95,7 @@ pub fn no_trial() -> LiquidStabilityTrial
 }
 
 // Stable, before any trial.
+#[tactic(auto, unfolding(crate::specs::Stability::no_trials))]
 pub fn no_trials() -> LiquidStability
     ensures { result ≡ no_trials }
 {
@@ -102,6 +107,7 @@ pub fn no_trials() -> LiquidStability
 }
 
 // d_i = ln x_i + ln γ_i(x) of the solvents present.
+#[tactic(auto, unfolding(crate::specs::Stability::tangent, floats::specs::Vector::fill))]
 fn tangent(x: &[f64; 8], lg: &[f64; 8], m: Count) -> [f64; 8]
     ensures { result ≡ tangent x.now lg.now m.n }
 {
@@ -140,6 +146,7 @@ struct Tested<'a> {
 
 impl<'a> Tested<'a> {
     // ln W at the start of the trial near solvent j.
+    #[tactic(auto, unfolding(crate::specs::Stability::start_from, floats::specs::Vector::fill))]
     fn start(self, j: usize) -> [f64; 8]
         ensures { result ≡ start_of self.entry.x.now self.entry.m.n j }
     {
@@ -153,6 +160,7 @@ impl<'a> Tested<'a> {
     }
 
     // W_i = exp ln W_i of the solvents present.
+    #[tactic(auto, unfolding(crate::specs::Steps::amounts_of, floats::specs::Vector::fill))]
     fn amounts(self, ln_w: &[f64; 8]) -> [f64; 8]
         ensures { result ≡ amounts_of self.entry.x.now ln_w.now self.entry.m.n }
     {
@@ -164,6 +172,7 @@ impl<'a> Tested<'a> {
         big
     }
 
+    #[tactic(auto, unfolding(floats::specs::Fold::fold_to))]
     fn total(self, big: &[f64; 8]) -> f64
         ensures { result ≡ fold_to (active (at self.entry.x.now) (λ i s. s ⊕ at big.now i)) 0f self.entry.m.n }
     {
@@ -177,6 +186,7 @@ impl<'a> Tested<'a> {
     }
 
     // w_i = W_i / Σ W.
+    #[tactic(auto, unfolding(floats::specs::Vector::fill))]
     fn composition(self, big: &[f64; 8], s: f64) -> [f64; 8]
         ensures { result ≡ vec (λ i. cond (lt 0f (at self.entry.x.now i)) (at big.now i ⊘ s) 0f) self.entry.m.n }
     {
@@ -209,6 +219,7 @@ impl<'a> Tested<'a> {
     }
 
     // ln W_i = d_i - ln γ_i(w).
+    #[tactic(auto, unfolding(crate::specs::Stability::next_of, floats::specs::Vector::fill))]
     fn next(self, lg: &[f64; 8]) -> [f64; 8]
         ensures { result ≡ next_of self.entry.d.now lg.now self.entry.m.n }
     {

@@ -86,6 +86,7 @@ fn vapor_fraction(outcome: RachfordRiceOutcome) -> f64
 }
 
 // A vapor fraction inside (0, 1).
+#[tactic(auto, unfolding(crate::specs::Tp::inside))]
 fn inside(beta: f64) -> bool
     ensures { result ≡ inside beta }
 {
@@ -95,6 +96,7 @@ fn inside(beta: f64) -> bool
 const SATURATION_BETA_ROUNDOFF: f64 = 1e-10;
 
 // At 0 or at 1 but for rounding.
+#[tactic(auto, unfolding(crate::specs::Tp::near_edge))]
 fn near_edge(beta: f64) -> bool
     ensures { result ≡ near_edge beta }
 {
@@ -141,6 +143,7 @@ impl<'a> Feed<'a> {
     // ---- the split at T and p
 
     // K_i = γ_i p_i^sat / p where the feed is positive, else 1.0, which no sum of Rachford-Rice reads.
+    #[tactic(auto, unfolding(crate::specs::Split::k_values, floats::specs::Vector::fill))]
     fn k_values(self, lg: &[f64; 8]) -> [f64; 8]
         ensures { let f = self.entry in result ≡ k_values f.z.now f.ps.now f.p.0 lg.now (places f.at.n) }
     {
@@ -157,6 +160,7 @@ impl<'a> Feed<'a> {
     }
 
     // The entries of a phase where the feed is positive, over their sum (34).
+    #[tactic(auto, using(crate::proofs::Laws::phase_is), unfolding(floats::specs::Vector::fill))]
     fn phase_of(self, l: &[f64; 8]) -> Result<[f64; 8], Refusal>
         ensures { outcome_of result ≡ phase_of self.entry.z.now l.now (places self.entry.at.n) }
     {
@@ -168,6 +172,7 @@ impl<'a> Feed<'a> {
     }
 
     // max_i |ln(y_i p) - ln(x_i γ_i p_i^sat)| where the feed is positive.
+    #[tactic(auto, unfolding(crate::specs::Split::split_gap, floats::specs::Fold::fold_to))]
     fn split_gap(self, lg: &[f64; 8], x: &[f64; 8], y: &[f64; 8]) -> f64
         ensures { let f = self.entry in result ≡ split_gap f.z.now lg.now f.ps.now f.p.0 x.now y.now (places f.at.n) }
     {
@@ -198,6 +203,7 @@ impl<'a> Feed<'a> {
     }
 
     // The phases x and y of a solution of Rachford-Rice: the activity at x, and the gap (25).
+    #[tactic(auto, using(outcome::proofs::Exits::met), unfolding(crate::specs::Split::turn_at, floats::specs::Outcome::bind, floats::specs::Outcome::need))]
     fn turn_at(
         self,
         beta: f64,
@@ -230,6 +236,7 @@ impl<'a> Feed<'a> {
     }
 
     // One turn from ln γ.
+    #[tactic(auto, using(outcome::proofs::Exits::met, crate::proofs::Laws::from_rice), unfolding(floats::specs::Outcome::bind))]
     fn split_turn(self, lg: &[f64; 8], iteration: u64) -> Result<SplitTurn, Refusal>
         ensures { let f = self.entry in outcome_of result ≡ split_turn (activity_on f.table.now f.at) f.ps.now (places f.at.n) f.p.0 f.z.now lg.now iteration }
     {
@@ -247,6 +254,7 @@ impl<'a> Feed<'a> {
     }
 
     // Successive substitution from ln γ of the feed, `start`; 27 where the turns are used up.
+    #[tactic(auto, using(outcome::proofs::Exits::met, crate::proofs::Laws::loop_out, crate::proofs::Laws::loop_on), unfolding(floats::specs::Outcome::bind, floats::specs::Outcome::choose))]
     fn split_from(self, start: &[f64; 8]) -> Result<SplitPoint, Refusal>
         ensures { let f = self.entry in outcome_of result ≡ split_from (activity_on f.table.now f.at) f.ps.now (places f.at.n) f.p.0 f.z.now f.o.tolerance f.o.max_iterations 0 start.now }
     {
@@ -264,6 +272,7 @@ impl<'a> Feed<'a> {
     // ---- the phases of the feed
 
     // The trials of a liquid: 29 where they find a split.
+    #[tactic(auto, using(outcome::proofs::Exits::met), unfolding(crate::specs::Tp::stable_liquid, floats::specs::Outcome::bind, floats::specs::Outcome::need))]
     fn stable_liquid(self, x: &[f64; 8]) -> Result<LiquidStability, Refusal>
         ensures { let f = self.entry in outcome_of result ≡ stable_liquid (activity_on f.table.now f.at) (places f.at.n) f.o x.now }
     {
@@ -275,6 +284,7 @@ impl<'a> Feed<'a> {
     }
 
     // The feed as one vapor: its fractions.
+    #[tactic(auto, using(outcome::proofs::Exits::met, thermo_types::proofs::Passing::fractions_first), unfolding(crate::specs::Tp::as_vapor, floats::specs::Outcome::bind))]
     fn as_vapor(self, saturated: Saturated, notes: u64) -> Result<ActivityTpFlash, Refusal>
         ensures { outcome_of result ≡ as_vapor (places self.entry.at.n) self.entry.z.now saturated.bubble saturated.dew notes }
     {
@@ -286,6 +296,7 @@ impl<'a> Feed<'a> {
     }
 
     // The feed as one liquid: its trials (29), then its fractions.
+    #[tactic(auto, using(outcome::proofs::Exits::met, thermo_types::proofs::Passing::fractions_first), unfolding(crate::specs::Tp::as_liquid, floats::specs::Outcome::bind))]
     fn as_liquid(self, saturated: Saturated, notes: u64) -> Result<ActivityTpFlash, Refusal>
         ensures { let f = self.entry in outcome_of result ≡ as_liquid (activity_on f.table.now f.at) (places f.at.n) f.o f.z.now saturated.bubble saturated.dew notes }
     {
@@ -300,6 +311,7 @@ impl<'a> Feed<'a> {
     }
 
     // Both phases: the trials of the liquid (29), then the fractions of the vapor and of the liquid.
+    #[tactic(auto, using(outcome::proofs::Exits::met, thermo_types::proofs::Passing::fractions_first), unfolding(crate::specs::Tp::as_both, floats::specs::Outcome::bind))]
     fn as_both(self, saturated: Saturated, split: SplitPoint) -> Result<ActivityTpFlash, Refusal>
         ensures { let f = self.entry in outcome_of result ≡ as_both (activity_on f.table.now f.at) (places f.at.n) f.o f.z.now saturated.bubble saturated.dew split }
     {
@@ -323,6 +335,7 @@ impl<'a> Feed<'a> {
     }
 
     // The saturated single phase of a split at a boundary.
+    #[tactic(auto, unfolding(crate::specs::Tp::boundary_of, floats::specs::Outcome::choose))]
     fn at_boundary(self, saturated: Saturated, beta: f64) -> Result<ActivityTpFlash, Refusal>
         ensures { let f = self.entry in outcome_of result ≡ boundary_of (activity_on f.table.now f.at) (places f.at.n) f.o f.z.now saturated.bubble saturated.dew beta }
     {
@@ -334,6 +347,7 @@ impl<'a> Feed<'a> {
     }
 
     // A converged split: both phases, or the saturated single phase at a boundary; else 30.
+    #[tactic(auto, unfolding(crate::specs::Tp::from_split, floats::specs::Outcome::need, floats::specs::Outcome::choose))]
     fn from_split(self, saturated: Saturated, split: SplitPoint) -> Result<ActivityTpFlash, Refusal>
         ensures { let f = self.entry in outcome_of result ≡ from_split (activity_on f.table.now f.at) (places f.at.n) f.o f.z.now saturated.bubble saturated.dew split }
     {
@@ -348,6 +362,7 @@ impl<'a> Feed<'a> {
     }
 
     // p ≥ bubble is liquid, then p ≤ dew is vapor, else the split from the activity of the feed.
+    #[tactic(auto, using(outcome::proofs::Exits::met), unfolding(crate::specs::Tp::between_of, crate::specs::Tp::split_feed, floats::specs::Outcome::choose, floats::specs::Outcome::bind))]
     fn between(
         self,
         saturated: Saturated,
@@ -368,6 +383,7 @@ impl<'a> Feed<'a> {
     }
 
     // With one solvent present it is the bubble pressure.
+    #[tactic(auto, using(outcome::proofs::Exits::met), unfolding(crate::specs::Tp::dew_of, floats::specs::Outcome::choose, floats::specs::Outcome::bind))]
     fn dew_pressure(self, bubble: f64) -> Result<f64, Refusal>
         ensures { let f = self.entry in outcome_of result ≡ dew_of (activity_on f.table.now f.at) (places f.at.n) f.o f.z.now f.ps.now bubble }
     {
@@ -381,6 +397,7 @@ impl<'a> Feed<'a> {
 
 // The flash of the feed z at p, from the tables and the vapor pressures of a temperature: bubble and dew both, then the phases; what
 // bubble, dew, split and trials refuse (15 to 18, 24, 25, 27 to 30, 34).
+#[tactic(auto, using(outcome::proofs::Exits::met), unfolding(crate::specs::Tp::phases_of, crate::specs::Tp::from_dew, saturation::specs::Saturation::bubble_at, floats::specs::Outcome::bind))]
 pub fn activity_tp_flash(
     table: &[f64; 512],
     at: Tabled,

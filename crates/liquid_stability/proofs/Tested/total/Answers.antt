@@ -1,12 +1,6 @@
-use mathlib.Core.Path.{refl}
-use Rattle.floats.specs.Fold.{fold_to}
 use Rattle.liquid_stability.proofs.Laws.{present-turn, absent-turn}
 use Rattle.liquid_stability.proofs.Tested.total.Goals as goal
 use Rattle.liquid_stability.proofs.Tested.total.Goals.{then-self-i, else-self-i}
-
-pub loop-i-init : goal.loop-i-init
-unfolding fold_to
-loop-i-init c = refl
 
 pub loop-i-preserved : goal.loop-i-preserved
 loop-i-preserved c = elim c.if-self-i.branch [
