@@ -48,9 +48,6 @@ module _ (E : List Float → Out Activity) (ps : List Float) (n : ℕ) (p : Floa
     abbrev run : ℕ → ℕ → List Float → Out Split
     run left done lg = split_from E ps n p z tolerance left done lg
 
-    pub loop_start : (limit : ℕ) (lg : List Float) → split_from E ps n p z tolerance (limit - 0) 0 lg ≡ split_from E ps n p z tolerance limit 0 lg
-    loop_start limit lg = let a : limit - 0 ≡ limit = omega arith in rw a
-
     -- after `done` of at most `limit` turns: what is left to run from here is the whole run W
     module _ (limit done : ℕ) (lg : List Float) {W : Out Split} (whole : split_from E ps n p z tolerance (limit - done) done lg ≡ W) where
       pub loop_out : limit ≤ done → no 27 ≡ W

@@ -203,7 +203,7 @@ impl<'a> Feed<'a> {
     }
 
     // The phases x and y of a solution of Rachford-Rice: the activity at x, and the gap (25).
-    #[tactic(auto, using(outcome::proofs::Exits::met), unfolding(crate::specs::Split::turn_at, floats::specs::Outcome::bind, floats::specs::Outcome::need))]
+    #[tactic(auto, using(outcome::proofs::Exits::met), unfolding(crate::specs::Split::turn_at, floats::specs::Outcome::bind))]
     fn turn_at(
         self,
         beta: f64,
@@ -236,7 +236,6 @@ impl<'a> Feed<'a> {
     }
 
     // One turn from ln γ.
-    #[tactic(auto, using(outcome::proofs::Exits::met, crate::proofs::Laws::from_rice), unfolding(floats::specs::Outcome::bind))]
     fn split_turn(self, lg: &[f64; 8], iteration: u64) -> Result<SplitTurn, Refusal>
         ensures { let f = self.entry in outcome_of result ≡ split_turn (activity_on f.table.now f.at) f.ps.now (places f.at.n) f.p.0 f.z.now lg.now iteration }
     {
@@ -254,7 +253,7 @@ impl<'a> Feed<'a> {
     }
 
     // Successive substitution from ln γ of the feed, `start`; 27 where the turns are used up.
-    #[tactic(auto, using(outcome::proofs::Exits::met, crate::proofs::Laws::loop_out, crate::proofs::Laws::loop_on), unfolding(floats::specs::Outcome::bind, floats::specs::Outcome::choose))]
+    #[tactic(auto, using(crate::proofs::Laws::loop_out))]
     fn split_from(self, start: &[f64; 8]) -> Result<SplitPoint, Refusal>
         ensures { let f = self.entry in outcome_of result ≡ split_from (activity_on f.table.now f.at) f.ps.now (places f.at.n) f.p.0 f.z.now f.o.tolerance f.o.max_iterations 0 start.now }
     {
@@ -311,7 +310,6 @@ impl<'a> Feed<'a> {
     }
 
     // Both phases: the trials of the liquid (29), then the fractions of the vapor and of the liquid.
-    #[tactic(auto, using(outcome::proofs::Exits::met, thermo_types::proofs::Passing::fractions_first), unfolding(crate::specs::Tp::as_both, floats::specs::Outcome::bind))]
     fn as_both(self, saturated: Saturated, split: SplitPoint) -> Result<ActivityTpFlash, Refusal>
         ensures { let f = self.entry in outcome_of result ≡ as_both (activity_on f.table.now f.at) (places f.at.n) f.o f.z.now saturated.bubble saturated.dew split }
     {
@@ -347,7 +345,6 @@ impl<'a> Feed<'a> {
     }
 
     // A converged split: both phases, or the saturated single phase at a boundary; else 30.
-    #[tactic(auto, unfolding(crate::specs::Tp::from_split, floats::specs::Outcome::need, floats::specs::Outcome::choose))]
     fn from_split(self, saturated: Saturated, split: SplitPoint) -> Result<ActivityTpFlash, Refusal>
         ensures { let f = self.entry in outcome_of result ≡ from_split (activity_on f.table.now f.at) (places f.at.n) f.o f.z.now saturated.bubble saturated.dew split }
     {
@@ -362,7 +359,6 @@ impl<'a> Feed<'a> {
     }
 
     // p ≥ bubble is liquid, then p ≤ dew is vapor, else the split from the activity of the feed.
-    #[tactic(auto, using(outcome::proofs::Exits::met), unfolding(crate::specs::Tp::between_of, crate::specs::Tp::split_feed, floats::specs::Outcome::choose, floats::specs::Outcome::bind))]
     fn between(
         self,
         saturated: Saturated,
@@ -397,7 +393,7 @@ impl<'a> Feed<'a> {
 
 // The flash of the feed z at p, from the tables and the vapor pressures of a temperature: bubble and dew both, then the phases; what
 // bubble, dew, split and trials refuse (15 to 18, 24, 25, 27 to 30, 34).
-#[tactic(auto, using(outcome::proofs::Exits::met), unfolding(crate::specs::Tp::phases_of, crate::specs::Tp::from_dew, saturation::specs::Saturation::bubble_at, floats::specs::Outcome::bind))]
+#[tactic(auto, using(outcome::proofs::Exits::met), unfolding(crate::specs::Tp::phases_of, saturation::specs::Saturation::bubble_at, floats::specs::Outcome::bind))]
 pub fn activity_tp_flash(
     table: &[f64; 512],
     at: Tabled,

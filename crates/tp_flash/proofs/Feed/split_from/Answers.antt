@@ -1,11 +1,8 @@
 use mathlib.Core.Path.{◌∙◌}
 use Rattle.floats.specs.Outcome.{bind, choose}
 use Rattle.outcome.proofs.Exits.{met}
-use Rattle.tp_flash.proofs.Laws.{loop_start, loop_out, loop_on}
+use Rattle.tp_flash.proofs.Laws.{loop_on}
 use Rattle.tp_flash.proofs.Feed.split_from.Goals as goal
-
-pub loop-done-init : goal.loop-done-init
-loop-done-init c = loop_start _ _ _ _ _ _ _ _
 
 pub returns-in_err-turn : goal.returns-in_err-turn
 unfolding bind
@@ -18,6 +15,3 @@ returns-then-turn-self c = rw c.if-turn-self.true at (loop_on _ _ _ _ _ _ _ _ _ 
 pub loop-done-preserved : goal.loop-done-preserved
 unfolding bind choose
 loop-done-preserved c = rw c.if-turn-self.false at (loop_on _ _ _ _ _ _ _ _ _ c.loop-done.invariant c.loop-done-test.true c.in_ok-turn.ensures)
-
-pub returns : goal.returns
-returns c = loop_out _ _ _ _ _ _ _ _ _ c.loop-done.invariant c.loop-done-test.false

@@ -1,22 +1,9 @@
-use mathlib.Core.Path.{◌≡◌, refl}
-use native.Mathlib.Omega.{arith}
-use Rattle.floats.specs.Fold.{fold_to}
-use Rattle.floats.specs.Vector.{places}
 use Rattle.liquid_stability.proofs.Laws.{present-turn, absent-turn}
-use Rattle.tp_flash.specs.Split.{split_gap}
 use Rattle.tp_flash.proofs.Feed.split_gap.Goals as goal
 use Rattle.tp_flash.proofs.Feed.split_gap.Goals.{then-self-i, else-self-i}
-
-pub loop-i-init : goal.loop-i-init
-unfolding fold_to
-loop-i-init c = refl
 
 pub loop-i-preserved : goal.loop-i-preserved
 loop-i-preserved c = elim c.if-self-i.branch [
   | then-self-i w ↦ present-turn _ _ _ _ c.loop-i.invariant w.if-self-i.true (rw (w.r-is, w.max-r.ensures, w.abs.ensures, w.ln.ensures, w.ln-then-self-i.ensures, w.ln-then-self-i-2.ensures))
   | else-self-i w ↦ absent-turn _ _ _ _ c.loop-i.invariant w.if-self-i.false w.r-is
 ]
-
-pub returns : goal.returns
-unfolding split_gap
-returns c = let e : c.loop-i.i ≡ places c.args.self.at.n = omega arith in rw (← e, ← c.value.ensures, ← c.ln-ln_p.ensures) c.loop-i.invariant
