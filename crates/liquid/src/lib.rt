@@ -107,6 +107,7 @@ pub fn is_representable(pressure: f64, ln_p: f64, d1: f64, d2: f64) -> bool
 }
 
 // ln p from S, and its two derivatives by T.
+#[tactic(auto, unfolding(crate::specs::Vapor::vapor_from))]
 fn from_sums(t_r: f64, reducing_value: f64, t: f64, sums: Sums) -> Logarithm
     ensures { (result.value ≡ (vapor_from t_r reducing_value t sums).ln_pressure) × (result.slope ≡ (vapor_from t_r reducing_value t sums).d_ln_pressure_dt) × (result.curvature ≡ (vapor_from t_r reducing_value t sums).d2_ln_pressure_dt2) }
 {
@@ -131,6 +132,7 @@ pub fn ln_pressure(a: Ancillary, t: f64) -> Logarithm
 }
 
 // Outside the correlation's range: 22; not representable: 25.
+#[tactic(auto, unfolding(crate::specs::Vapor::vapor_pressure_of, floats::specs::Outcome::need))]
 pub fn vapor_pressure(a: Ancillary, t: Temperature) -> Result<VaporPressure, Refusal>
     ensures { outcome_of result ≡ vapor_pressure_of a t.0 }
 {

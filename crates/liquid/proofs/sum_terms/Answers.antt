@@ -4,9 +4,6 @@ use native.Mathlib.Omega.{arith}
 use Rattle.liquid.proofs.Ways.{terms_done, term-next}
 use Rattle.liquid.proofs.sum_terms.Goals as goal
 
-pub returns-then-m-eq0 : goal.returns-then-m-eq0
-returns-then-m-eq0 c = terms_done _ _ _ _ (2 * (c.args.m.n / 2)) c.args.m.n (omega arith) c.sum_pairs-z.ensures
-
 pub returns : goal.returns
 returns c = let k = c.args.m.n - 1 in
     terms_done _ _ _ _ (k + 1) c.args.m.n (omega arith)
