@@ -38,6 +38,7 @@ pub fn with_state(t: Temperature, x: &[f64; 8], n: usize) -> Result<(), Refusal>
     thermo_types::with_fractions(x, n)
 }
 
+#[tactic(auto, unfolding(crate::specs::Answers::energies_at, crate::specs::State::gibbs_of, crate::specs::State::enthalpy_of, crate::specs::State::entropy_of, crate::specs::State::heat_capacity_of))]
 fn energies_at(e: Jet, t: f64) -> Energies
     ensures { result ≡ energies_at e t }
 {
@@ -52,6 +53,7 @@ fn energies_at(e: Jet, t: f64) -> Energies
     }
 }
 
+#[tactic(auto, unfolding(crate::specs::Answers::energies_finite))]
 fn energies_finite(e: Energies) -> bool
     ensures { result ≡ energies_finite e }
 {

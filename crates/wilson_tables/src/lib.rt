@@ -15,6 +15,7 @@ use jet::{Jet, Pairs};
 use thermo_types::Temperature;
 
 // T as a jet.
+#[tactic(auto, unfolding(crate::specs::Pair::kelvin_j))]
 fn kelvin(t: f64) -> Jet
     ensures { result ≡ kelvin_j t }
 {
@@ -26,6 +27,7 @@ fn kelvin(t: f64) -> Jet
 }
 
 // a + b/T, from a pair's parameters.
+#[tactic(auto, unfolding(crate::specs::Pair::ln_lambda_j))]
 fn ln_lambda(p: [f64; 6], t: f64) -> Jet
     ensures { result ≡ ln_lambda_j p t 0 }
 {
@@ -33,6 +35,7 @@ fn ln_lambda(p: [f64; 6], t: f64) -> Jet
 }
 
 // The three planes' cells.
+#[tactic(auto, unfolding(crate::specs::Table::kept_of))]
 fn kept(l: Jet) -> [f64; 3]
     ensures { (k : ℕ) → at result k ≡ kept_of l k }
 {
