@@ -4,7 +4,7 @@
 // entry (i, j) of plane k at k * 64 + i * 8 + j: G, τ G, each with two derivatives, then τ with one.
 #![tactic(auto)]
 
-ghost use Rattle.std.specs.Prelude.{◌≡◌, ℕ, ◌≤◌, ◌<◌};
+ghost use Rattle.std.specs.Prelude.{◌≡◌, ℕ, ◌<◌};
 ghost use Rattle.std.proofs.Math.Nat.{le_refl};
 ghost use Rattle.floats.specs.Arithmetic.{0f, 1f};
 ghost use Rattle.floats.specs.Fold.{all_to};
@@ -33,7 +33,7 @@ struct Basis {
     tj: Jet,
 }
 
-#[tactic(auto, unfolding(crate::specs::Pair::basis_of))]
+#[tactic(auto, unfolding(crate::specs::Pair::basis_of, jet::specs::Jets::two_j))]
 fn basis_at(t: f64) -> Basis
     ensures { result ≡ basis_of t }
 {
@@ -48,11 +48,7 @@ fn basis_at(t: f64) -> Basis
             d: -1.0 / (t * t),
             dd: 2.0 / (t * t * t),
         },
-        tj: Jet {
-            v: t,
-            d: 1.0,
-            dd: 0.0,
-        },
+        tj: Jet::two(t, 1.0),
     }
 }
 
@@ -116,6 +112,7 @@ impl Pairs<8> for Basis {
 
 // ---- question 24
 
+// Kept: two of the three take (parameters, b, m), and a struct of them makes no contract shorter; i and j are a loop's own.
 fn alpha_right(parameters: &[f64; 384], b: Basis, i: usize, j: usize) -> bool
     requires { (i < 8) × (j < 8) }
     ensures { result ≡ alpha_right parameters.now b i j }
