@@ -2,7 +2,7 @@
 // temperature, and validity (models/activity.rs, nrtl.rs).
 #![tactic(auto)]
 
-ghost use Rattle.std.specs.Prelude.{◌≡◌, ◌≤◌, ◌<◌, true, not, ◌&&◌};
+ghost use Rattle.std.specs.Prelude.{◌≡◌, ◌<◌, true, not, ◌&&◌};
 ghost use Rattle.std.specs.Float.Ieee.{le};
 ghost use Rattle.floats.specs.Arithmetic.{0f};
 ghost use Rattle.floats.specs.Small.{is_finite};
@@ -65,16 +65,17 @@ const LOWEST_PASCAL: f64 = 100.0;
 
 const HIGHEST_PASCAL: f64 = 500000.0;
 
-#[tactic(auto, unfolding(crate::specs::Model::pressure_in_domain))]
+#[tactic(auto, unfolding(crate::specs::Model::pressure_in_domain, liquid::specs::Vapor::in_range))]
 pub fn check_pressure(p: f64) -> bool
     ensures { result ≡ pressure_in_domain p }
 {
-    (LOWEST_PASCAL <= p) & (p <= HIGHEST_PASCAL)
+    liquid::in_range(LOWEST_PASCAL, HIGHEST_PASCAL, p)
 }
 
 // ---- the pure liquids at a temperature
 
 // p of ln p, two solvents to a step.
+// Kept: `numerics::exps` says nothing of the entries past n, so that a loop that clears them would follow it, and an odd n has one exp more.
 fn fill_pressures(ls: &[f64; 8], m: Count, ps: &mut [f64; 8])
     ensures { ps.new ≡ vec (λ i. exp_of (at ls.now i)) m.n }
 {
@@ -95,6 +96,7 @@ fn all_representable(ps: &[f64; 8], ls: &[f64; 8], dps: &[f64; 8], cs: &[f64; 8]
 
 impl Solvents<'_> {
     // ln p and its two derivatives of each.
+    // Kept: the slopes are the caller's own array; as [Logarithm; 8] they would be copied out of it in a loop more.
     fn fill_logarithms(self, ls: &mut [f64; 8], dps: &mut [f64; 8], cs: &mut [f64; 8])
         ensures ls_after { let s = self.entry in ls.new ≡ vec (λ i. (vapor_of (vapor_record s.book.now i) s.t).ln_pressure) s.m.n }
         ensures dps_after { let s = self.entry in dps.new ≡ vec (λ i. (vapor_of (vapor_record s.book.now i) s.t).d_ln_pressure_dt) s.m.n }
@@ -191,6 +193,7 @@ pub fn tables(
 }
 
 // ln γ, slopes and energies of x, from a table and what it stands for.
+// Kept: table and Tabled, ln γ and slopes stand apart in public functions: the 512 cells are the caller's memory, and a Tabled is copied.
 #[tactic(auto, unfolding(crate::specs::Activity::excess_on, crate::specs::Activity::model_on))]
 pub fn excess(
     table: &[f64; 512],
@@ -266,10 +269,12 @@ fn note(interval: Option<Interval>, t: f64, s: Seen) -> Seen
 }
 
 // The pairs of a book, at a temperature and a composition; one offered stands in the place of the book's own.
+// Kept: records has book, offered, place and m as a struct of its own, a private one, whose blocks it reads; here its public function does.
 #[derive(Clone, Copy)]
 struct Present<'a> {
     book: &'a [u8],
     offered: &'a [u8],
+    // Kept: 0 for no pair, as `records` has it: block 0 is no pair's, so one test of the place serves both.
     place: usize,
     m: Count,
     t: f64,

@@ -134,6 +134,7 @@ pub fn with_fractions(x: &[f64; 8], n: usize) -> Result<(), Refusal>
 }
 
 // Each of the first n entries over s; 0.0 past them.
+// Kept: a loop to n; `from_fn` asks each of eight whether it is past n.
 #[tactic(auto, unfolding(floats::specs::Vector::fill))]
 pub fn divided(x: &[f64; 8], s: f64, n: usize) -> [f64; 8]
     ensures { result ≡ vec (λ i. at x.now i ⊘ s) (places n) }

@@ -22,7 +22,7 @@ use thermo_types::Temperature;
 
 // ---- the sums S and ln S
 
-// Kept: nrtl has a jet_at and a two_at too; one pub fn for both has no `requires`, and would mask each index.
+// Kept: nrtl has a jet_at, a two_at, a keep_lns and a Liquid too; one pub fn for both has no `requires`, and would mask each index.
 // Kept: the bounds of indices (`e < 64`, `i < 8`): each is a loop's own, and a type for it would be made at each turn.
 fn jet_at(table: &[f64; 512], e: usize) -> Jet
     requires { e < 64 }
@@ -185,7 +185,8 @@ impl Summed<'_> {
 
 // ---- the state
 
-// Of arrays that hold 0.0 everywhere.
+// ln γ, slopes and energies of the liquid, into arrays that hold 0.0 everywhere.
+// Kept: ln_gamma and slopes go side by side, as excess's functions take them; a struct of two `&mut` would be taken apart for each.
 fn state(
     of: Liquid,
     t: Temperature,
