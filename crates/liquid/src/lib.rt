@@ -7,7 +7,7 @@ ghost use Rattle.std.specs.Float.Ieee.{neg, le};
 ghost use Rattle.floats.specs.Arithmetic.{◌⊕◌, ◌⊖◌, ◌⊗◌, ◌⊘◌, 0f, 1f};
 ghost use Rattle.floats.specs.Small.{is_finite};
 ghost use Rattle.numerics.specs.Numerics.{ln_of};
-ghost use Rattle.liquid.specs.Vapor.{in_range, term, slope_term, curvature_term, sums_of, vapor_of, vapor_from, vapor_pressure_of};
+ghost use Rattle.liquid.specs.Vapor.{in_range, sums_of, vapor_of, vapor_from, vapor_pressure_of};
 ghost use Rattle.outcome.specs.Refused.{outcome_of};
 
 use floats::Count;
@@ -25,6 +25,7 @@ pub struct VaporPressure {
 }
 
 // ln p, p in Pa, with its derivatives by T in 1/K and 1/K².
+// Kept: this and Sums have a Jet's three fields, but are public types, and the definitions in specs/ name their own.
 #[derive(Clone, Copy)]
 pub struct Logarithm {
     pub value: f64,
@@ -40,7 +41,7 @@ pub struct Sums {
     pub d2s: f64,
 }
 
-// T in a closed range, K.
+// In a closed range.
 pub fn in_range(low: f64, high: f64, t: f64) -> bool
     ensures { result ≡ in_range low high t }
 {
@@ -59,6 +60,7 @@ fn add_term(z: Sums, t_r: f64, n: f64, e: f64, p: f64, q: f64, r: f64) -> Sums
 }
 
 // Two terms to a step, so that their powers are worked out side by side; of an odd count not the last.
+// Kept: (n, e, t_r, theta, m) go through two functions alone, so a struct of them saves nothing.
 fn sum_pairs(n: &[f64; 8], e: &[f64; 8], t_r: f64, theta: f64, l: f64, m: Count) -> Sums
     requires { l ≡ ln_of theta }
     ensures { result ≡ sums_of n.now e.now t_r theta (2 * (m.n / 2)) }

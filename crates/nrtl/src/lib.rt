@@ -67,7 +67,7 @@ fn jet_in(l: &[f64; 24], i: usize) -> Jet
 
 // ---- the table and the composition
 
-// Kept: wilson has a jet_at, a two_at and a keep_lns too. One pub fn for both has no `requires`, and would mask each index of these loops.
+// Kept: wilson has a jet_at, a two_at, a keep_lns and a Liquid too. One pub fn for both has no `requires`, and would mask each index of these loops; b is a plane's begin, a constant.
 #[tactic(auto, unfolding(jet::specs::Planes::jet_at))]
 fn jet_at(table: &[f64; 512], b: usize, e: usize) -> Jet
     requires { (b ≤ 320) × (e < 64) }
@@ -87,19 +87,19 @@ fn two_at(table: &[f64; 512], b: usize, e: usize) -> Jet
     Jet::two(table[b + e], table[b + 64 + e])
 }
 
-// The table of a temperature, and the fractions x of m solvents.
+// A table, and the mole fractions x of its solvents.
 #[derive(Clone, Copy)]
-struct Mixture<'a> {
+struct Liquid<'a> {
     table: &'a [f64; 512],
     x: &'a [f64; 8],
     m: Count,
 }
 
-impl Mixture<'_> {
+impl Liquid<'_> {
     // Entry (k, i) of the planes at b, times x_k.
     fn part(self, b: usize, k: usize, i: usize) -> Jet
         requires { (b ≤ 320) × (k < 8) × (i < 8) }
-        ensures { result ≡ scale_j (jets self.entry.table.now b k i) (at self.entry.x.now k) }
+        ensures { let q = self.entry in result ≡ scale_j (jets q.table.now b k i) (at q.x.now k) }
     {
         jet_at(self.table, b, k * 8 + i).scale(self.x[k])
     }
@@ -107,7 +107,7 @@ impl Mixture<'_> {
     // The sums of W columns from i on.
     fn columns<const W: usize>(self, b: usize, i: usize) -> [Jet; W]
         requires { (b ≤ 320) × (i + W ≤ 8) }
-        ensures { Side (col_s (jets self.entry.table.now b) (at self.entry.x.now) self.entry.m.n) i W result }
+        ensures { let q = self.entry in Side (col_s (jets q.table.now b) (at q.x.now) q.m.n) i W result }
     {
         let mut s = [Jet::constant(0.0); W];
         for k in 0..self.m.n {
@@ -121,8 +121,8 @@ impl Mixture<'_> {
     // S and R = C / S of W solvents from i on.
     fn sums_from<const W: usize>(self, i: usize, sums: &mut [f64; 24], ratios: &mut [f64; 24])
         requires { i + W ≤ 8 }
-        ensures s { sums.new ≡ lanes_from (s_on self.entry.table.now (at self.entry.x.now) self.entry.m.n) 2 i W sums.old }
-        ensures r { ratios.new ≡ lanes_from (r_on self.entry.table.now (at self.entry.x.now) self.entry.m.n) 3 i W ratios.old }
+        ensures s { let q = self.entry in sums.new ≡ lanes_from (s_on q.table.now (at q.x.now) q.m.n) 2 i W sums.old }
+        ensures r { let q = self.entry in ratios.new ≡ lanes_from (r_on q.table.now (at q.x.now) q.m.n) 3 i W ratios.old }
     {
         let s = self.columns::<W>(G_PLANE, i);
         let c = self.columns::<W>(H_PLANE, i);
@@ -133,8 +133,8 @@ impl Mixture<'_> {
     }
 
     fn fill_sums(self, sums: &mut [f64; 24], ratios: &mut [f64; 24])
-        ensures s { sums.new ≡ lanes (s_on self.entry.table.now (at self.entry.x.now) self.entry.m.n) 2 (evened self.entry.m.n) sums.old }
-        ensures r { ratios.new ≡ lanes (r_on self.entry.table.now (at self.entry.x.now) self.entry.m.n) 3 (evened self.entry.m.n) ratios.old }
+        ensures s { let q = self.entry in sums.new ≡ lanes (s_on q.table.now (at q.x.now) q.m.n) 2 (evened q.m.n) sums.old }
+        ensures r { let q = self.entry in ratios.new ≡ lanes (r_on q.table.now (at q.x.now) q.m.n) 3 (evened q.m.n) ratios.old }
     {
         // Kept: as a `for` over the fours an activity of four solvents takes 1 to 3 % longer, and with the choice in its body one of two a fifth.
         let mut i = 0;
@@ -147,7 +147,7 @@ impl Mixture<'_> {
         }
     }
 
-    // Of arrays that hold 0.0 everywhere.
+    // ln γ, slopes and energies of the liquid, into arrays that hold 0.0 everywhere.
     // Kept: ln_gamma and slopes go side by side, as excess's functions take them; a struct of two `&mut` would be taken apart for each.
     fn state(
         self,
@@ -156,7 +156,7 @@ impl Mixture<'_> {
         slopes: &mut [f64; 8],
     ) -> Result<Energies, Refusal>
         requires { (ln_gamma.now ≡ zeros8) × (slopes.now ≡ zeros8) }
-        ensures { Gives (state_from (reduced_on self.entry.table.now (at self.entry.x.now) self.entry.m.n) (ln_gamma_on self.entry.table.now (at self.entry.x.now) self.entry.m.n) self.entry.m.n t.0) result ln_gamma.new slopes.new }
+        ensures { let q = self.entry in Gives (state_from (reduced_on q.table.now (at q.x.now) q.m.n) (ln_gamma_on q.table.now (at q.x.now) q.m.n) q.m.n t.0) result ln_gamma.new slopes.new }
     {
         let mut sums = [0.0; 24];
         let mut ratios = [0.0; 24];
@@ -172,11 +172,11 @@ impl Mixture<'_> {
     }
 }
 
-// The same, with S without its second derivative and R = C / S of each solvent.
+// A liquid with its sums S, without their second derivatives, and its ratios R = C / S.
 // Kept: as one struct of two arrays they are cleared by a call of memset, and an activity of two solvents takes 4 % longer.
 #[derive(Clone, Copy)]
 struct Summed<'a> {
-    of: Mixture<'a>,
+    of: Liquid<'a>,
     sums: &'a [f64; 24],
     ratios: &'a [f64; 24],
 }
@@ -184,7 +184,7 @@ struct Summed<'a> {
 impl Summed<'_> {
     // g^E/RT
     fn reduced(self) -> Jet
-        ensures { result ≡ gibbs_from (jet_in self.entry.ratios.now) (at self.entry.of.x.now) self.entry.of.m.n }
+        ensures { let q = self.entry in result ≡ gibbs_from (jet_in q.ratios.now) (at q.of.x.now) q.of.m.n }
     {
         let mut e = Jet::constant(0.0);
         for i in 0..self.of.m.n {
@@ -197,7 +197,7 @@ impl Summed<'_> {
     #[tactic(auto, unfolding(crate::specs::Columns::term_j))]
     fn term(self, i: usize, j: usize) -> Jet
         requires { (i < 8) × (j < 8) }
-        ensures { result ≡ term_j (twos self.entry.of.table.now tau_plane i j) (twos self.entry.of.table.now g_plane i j) (two_in self.entry.sums.now j) (two_in self.entry.ratios.now j) (at self.entry.of.x.now j) }
+        ensures { let q = self.entry in result ≡ term_j (twos q.of.table.now tau_plane i j) (twos q.of.table.now g_plane i j) (two_in q.sums.now j) (two_in q.ratios.now j) (at q.of.x.now j) }
     {
         let e = i * 8 + j;
         let tau = two_at(self.of.table, TAU_PLANE, e);
@@ -210,7 +210,7 @@ impl Summed<'_> {
     // ln γ of W solvents from i on.
     fn lns_from<const W: usize>(self, i: usize) -> [Jet; W]
         requires { i + W ≤ 8 }
-        ensures { Side (ln_in self.entry.of.table.now self.entry.sums.now self.entry.ratios.now (at self.entry.of.x.now) self.entry.of.m.n) i W result }
+        ensures { let q = self.entry in Side (ln_in q.of.table.now q.sums.now q.ratios.now (at q.of.x.now) q.of.m.n) i W result }
     {
         let mut l = [Jet::constant(0.0); W];
         for w in 0..W {
@@ -225,7 +225,7 @@ impl Summed<'_> {
     }
 
     fn fill_lns(self, ln_gamma: &mut [f64; 8], slopes: &mut [f64; 8])
-        ensures { GammasTo (ln_in self.entry.of.table.now self.entry.sums.now self.entry.ratios.now (at self.entry.of.x.now) self.entry.of.m.n) (evened self.entry.of.m.n) ln_gamma.old slopes.old ln_gamma.new slopes.new }
+        ensures { let q = self.entry in GammasTo (ln_in q.of.table.now q.sums.now q.ratios.now (at q.of.x.now) q.of.m.n) (evened q.of.m.n) ln_gamma.old slopes.old ln_gamma.new slopes.new }
     {
         // Kept: as in `fill_sums`.
         let mut i = 0;
@@ -282,5 +282,5 @@ pub fn excess(
     excess::clear(ln_gamma, slopes);
     excess::with_state(t, x, n).and(alphas)?;
     let m = Count::of(n);
-    Mixture { table, x, m }.state(t, ln_gamma, slopes)
+    Liquid { table, x, m }.state(t, ln_gamma, slopes)
 }

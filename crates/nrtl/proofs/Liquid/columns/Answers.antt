@@ -3,7 +3,7 @@ use Rattle.floats.specs.Fold.{fold_to}
 use Rattle.jet.proofs.Sums.{sum_jet_turn}
 use Rattle.excess.proofs.Steps.{side-same, turning-next}
 use Rattle.nrtl.specs.Columns.{col_s}
-use Rattle.nrtl.proofs.Mixture.columns.Goals as goal
+use Rattle.nrtl.proofs.Liquid.columns.Goals as goal
 
 pub loop-k-init : goal.loop-k-init
 unfolding col_s fold_to

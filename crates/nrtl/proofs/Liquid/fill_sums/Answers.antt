@@ -2,7 +2,7 @@ use mathlib.Core.Path.{refl}
 use native.Mathlib.Omega.{arith}
 use Rattle.floats.specs.Fold.{fold_to}
 use Rattle.nrtl.proofs.Lanes.{lanes_turn, lanes_done}
-use Rattle.nrtl.proofs.Mixture.fill_sums.Goals as goal
+use Rattle.nrtl.proofs.Liquid.fill_sums.Goals as goal
 
 pub loop-i-init : goal.loop-i-init
 unfolding fold_to

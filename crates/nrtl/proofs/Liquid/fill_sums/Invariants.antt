@@ -1,10 +1,10 @@
--- `nrtl::Mixture::fill_sums` meets its contract. Assumes nothing.
+-- `nrtl::Liquid::fill_sums` meets its contract. Assumes nothing.
 use Prim.Native.Nat.{◌≤◌, ◌+◌, ◌-◌, ◌%◌}
 use mathlib.Core.Path.{◌≡◌}
 use Rattle.floats.specs.Vector.{at}
 use Rattle.nrtl.specs.Lanes.{lanes}
 use Rattle.nrtl.specs.On.{s_on, r_on}
-use Rattle.nrtl.proofs.Mixture.fill_sums.Given as goal
+use Rattle.nrtl.proofs.Liquid.fill_sums.Given as goal
 
 abbrev pub invariant-loop-i : goal.invariant-loop-i
 invariant-loop-i l = record {

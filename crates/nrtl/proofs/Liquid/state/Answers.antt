@@ -1,10 +1,10 @@
--- `nrtl::Mixture::state` meets its contract. Assumes nothing.
+-- `nrtl::Liquid::state` meets its contract. Assumes nothing.
 use mathlib.Core.Path.{◌≡◌}
 use native.Mathlib.Omega.{arith}
 use Rattle.floats.specs.Vector.{places}
 use Rattle.excess.proofs.Passing.{gives}
 use Rattle.nrtl.proofs.Whole.{state_is}
-use Rattle.nrtl.proofs.Mixture.state.Goals as goal
+use Rattle.nrtl.proofs.Liquid.state.Goals as goal
 
 pub returns : goal.returns
 returns c =

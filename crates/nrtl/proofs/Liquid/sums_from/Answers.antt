@@ -3,7 +3,7 @@ use Rattle.floats.specs.Fold.{fold_to}
 use Rattle.floats.specs.Vector.{at}
 use Rattle.nrtl.specs.On.{s_on, r_on}
 use Rattle.nrtl.proofs.Lanes.{lane_turn}
-use Rattle.nrtl.proofs.Mixture.sums_from.Goals as goal
+use Rattle.nrtl.proofs.Liquid.sums_from.Goals as goal
 
 pub loop-w-init : goal.loop-w-init
 unfolding fold_to

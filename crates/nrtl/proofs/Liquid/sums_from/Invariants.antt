@@ -1,9 +1,9 @@
--- `nrtl::Mixture::sums_from` meets its contract. Assumes nothing.
+-- `nrtl::Liquid::sums_from` meets its contract. Assumes nothing.
 use mathlib.Core.Path.{◌≡◌}
 use Rattle.floats.specs.Vector.{at}
 use Rattle.nrtl.specs.Lanes.{lanes_from}
 use Rattle.nrtl.specs.On.{s_on, r_on}
-use Rattle.nrtl.proofs.Mixture.sums_from.Given as goal
+use Rattle.nrtl.proofs.Liquid.sums_from.Given as goal
 
 abbrev pub invariant-loop-w : goal.invariant-loop-w
 invariant-loop-w g l = record {
