@@ -113,6 +113,7 @@ impl Pairs<8> for Basis {
 // ---- question 24
 
 // Kept: two of the three take (parameters, b, m), and a struct of them makes no contract shorter; i and j are a loop's own.
+#[tactic(auto, unfolding(crate::specs::Pair::alpha_right))]
 fn alpha_right(parameters: &[f64; 384], b: Basis, i: usize, j: usize) -> bool
     requires { (i < 8) × (j < 8) }
     ensures { result ≡ alpha_right parameters.now b i j }

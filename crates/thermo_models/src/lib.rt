@@ -76,6 +76,7 @@ pub fn check_pressure(p: f64) -> bool
 
 // p of ln p, two solvents to a step.
 // Kept: `numerics::exps` says nothing of the entries past n, so that a loop that clears them would follow it, and an odd n has one exp more.
+#[tactic(auto, unfolding(floats::specs::Vector::fill))]
 fn fill_pressures(ls: &[f64; 8], m: Count, ps: &mut [f64; 8])
     ensures { ps.new ≡ vec (λ i. exp_of (at ls.now i)) m.n }
 {
@@ -97,6 +98,7 @@ fn all_representable(ps: &[f64; 8], ls: &[f64; 8], dps: &[f64; 8], cs: &[f64; 8]
 impl Solvents<'_> {
     // ln p and its two derivatives of each.
     // Kept: the slopes are the caller's own array; as [Logarithm; 8] they would be copied out of it in a loop more.
+    #[tactic(auto, unfolding(floats::specs::Vector::fill))]
     fn fill_logarithms(self, ls: &mut [f64; 8], dps: &mut [f64; 8], cs: &mut [f64; 8])
         ensures ls_after { let s = self.entry in ls.new ≡ vec (λ i. (vapor_of (vapor_record s.book.now i) s.t).ln_pressure) s.m.n }
         ensures dps_after { let s = self.entry in dps.new ≡ vec (λ i. (vapor_of (vapor_record s.book.now i) s.t).d_ln_pressure_dt) s.m.n }

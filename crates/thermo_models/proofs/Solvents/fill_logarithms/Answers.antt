@@ -1,13 +1,7 @@
-use mathlib.Core.Path.{refl}
 use native.Mathlib.Omega.{arith}
-use Rattle.floats.specs.Vector.{fill}
 use Rattle.floats.proofs.Fills.{fill-turn, fill_done}
 use Rattle.thermo_models.proofs.Pures.{logarithm_of}
 use Rattle.thermo_models.proofs.Solvents.fill_logarithms.Goals as goal
-
-pub loop-i-init : goal.loop-i-init
-unfolding fill
-loop-i-init c = (refl, refl, refl)
 
 pub loop-i-preserved : goal.loop-i-preserved
 loop-i-preserved c = let a = c.loop-i.invariant in
