@@ -8,7 +8,7 @@ ghost use Rattle.outcome.specs.Refused.{outcome_of, number_in};
 ghost use Rattle.thermo_types.specs.Quantities.{positive_of};
 ghost use Rattle.records.specs.Offered.{with_pair};
 ghost use Rattle.thermo_models.specs.Domain.{pure_liquids_of};
-ghost use Rattle.thermo_models.specs.Mixture.{Mixture, mixture_with, mixture_of};
+ghost use Rattle.thermo_models.specs.Mixture.{mixture_with, mixture_of};
 ghost use Rattle.question.specs.Inputs.{task_number, needs_temperature};
 ghost use Rattle.replies.specs.Blocks.{answer_room, answer_bytes};
 ghost use Rattle.sheet.specs.Tasks.{alone, saturated, task1, task6, task7, task_at, task_under, task_of};
@@ -42,6 +42,7 @@ struct Source<'a> {
 }
 
 // Tables, what they stand for, and the vapor pressures that the task reads.
+// Kept: no ghost field says that the tables stand for the mixture. `answer_ready` is asked with any, and only its ensures has that as a premise.
 #[derive(Clone, Copy)]
 struct Made<'a> {
     table: &'a [f64; 512],
@@ -85,6 +86,7 @@ impl<'a> Source<'a> {
     }
 
     // Those that the task reads; a number that is no task's reads those of 7.
+    // Kept: a number, since `make_ready` is public and takes any; so in `ready` and `task_at`.
     fn pressures_for(self, task: u64, pressure: f64, t: Temperature) -> Result<[f64; 8], Refusal>
         ensures { (P : List Float) (copy : List ℕ) → outcome_of result ≡ pressures_for (mixture_with self.entry.book.now P copy (places self.entry.n)) task pressure t.0 }
     {
@@ -125,7 +127,8 @@ impl<'a> Source<'a> {
     }
 }
 
-// With nothing offered.
+// What the tasks at a temperature share for a book of n solvents, as `answer_ready` takes it: the tables and vapor pressures that
+// the task reads. What the tables stand for; or 13, 14, 22, 23, or 25 of a vapor pressure.
 pub fn make_ready(
     book: &[u8],
     n: usize,
@@ -168,8 +171,8 @@ impl<'a> Asked<'a> {
         blocks::write_block(out, self.rule, &answer_words(self.q.task, b));
     }
 
-    // 25 where g^E / RT isn't finite.
-    fn task_1(self, made: Made, out: &mut [u8; ANSWER_ROOM]) -> Result<(), Refusal>
+    // Task 1: 25 where g^E / RT isn't finite.
+    fn activity(self, made: Made, out: &mut [u8; ANSWER_ROOM]) -> Result<(), Refusal>
         ensures { TableOf (mixture_in self.entry.source) made.entry.at made.entry.table.now → Answers (bytes_for self.entry (task1 (mixture_in self.entry.source) self.entry.q.now made.entry.at.t.0)) (number_in result) out.old out.new }
     {
         let Source { book, offered, n } = self.source;
@@ -198,7 +201,8 @@ impl<'a> Asked<'a> {
         Ok(())
     }
 
-    fn task_6(self, made: Made, out: &mut [u8; ANSWER_ROOM]) -> Result<(), Refusal>
+    // Task 6.
+    fn stability(self, made: Made, out: &mut [u8; ANSWER_ROOM]) -> Result<(), Refusal>
         ensures { TableOf (mixture_in self.entry.source) made.entry.at made.entry.table.now → Answers (bytes_for self.entry (task6 (mixture_in self.entry.source) self.entry.q.now made.entry.at.t.0)) (number_in result) out.old out.new }
     {
         let q = self.q;
@@ -213,8 +217,8 @@ impl<'a> Asked<'a> {
         Ok(())
     }
 
-    // From the vapor pressures that its T and p have.
-    fn task_7(self, made: Made, p: Pressure, out: &mut [u8; ANSWER_ROOM]) -> Result<(), Refusal>
+    // Task 7, from the vapor pressures that its T and p have.
+    fn flash(self, made: Made, p: Pressure, out: &mut [u8; ANSWER_ROOM]) -> Result<(), Refusal>
         ensures { TableOf (mixture_in self.entry.source) made.entry.at made.entry.table.now → flash_pressures (mixture_in self.entry.source) made.entry.at.t.0 p.0 ≡ ok made.entry.ps.now → Answers (bytes_for self.entry (task7 (mixture_in self.entry.source) self.entry.q.now made.entry.at.t.0 p.0)) (number_in result) out.old out.new }
     {
         let Made { table, at, ps } = made;
@@ -246,7 +250,7 @@ impl<'a> Asked<'a> {
         let Made { table, at, ps } = made;
         let q = self.q;
         match Task::try_from(q.task).unwrap_or(Task::Flash) {
-            Task::Activity => self.task_1(made, out),
+            Task::Activity => self.activity(made, out),
             Task::BubblePressure => {
                 self.saturated(activity_bubble_pressure(table, at, &q.fractions, ps), out)
             }
@@ -254,10 +258,10 @@ impl<'a> Asked<'a> {
                 let found = activity_dew_pressure(table, at, &q.fractions, ps, q.options);
                 self.saturated(found, out)
             }
-            Task::Stability => self.task_6(made, out),
+            Task::Stability => self.stability(made, out),
             _ => {
                 let p = Pressure::new(q.pressure)?;
-                self.task_7(made, p, out)
+                self.flash(made, p, out)
             }
         }
     }
@@ -350,7 +354,7 @@ pub fn answer_offered(
     asked.solve(room)
 }
 
-// With nothing offered.
+// The answer to a question that was read, for a book of n solvents with its own pairs: 10, then the task's own numbers.
 pub fn answer_asked(book: &[u8], n: usize, q: Question, out: &mut [u8]) -> Result<(), Refusal>
     ensures { Answers (roomy (length out.old) (answer_to book.now (places n) q)) (number_in result) out.old out.new }
 {

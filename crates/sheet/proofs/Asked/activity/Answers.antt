@@ -1,8 +1,8 @@
--- `sheet::Asked::task_1` meets its contract. Assumes nothing.
+-- `sheet::Asked::activity` meets its contract. Assumes nothing.
 use Rattle.floats.proofs.Outcomes.{bind_yes, bind-no}
 use Rattle.sheet.proofs.Laws.{same_as, refuses, quits}
 use Rattle.sheet.proofs.Replies.{excess_refused, excess_wild, excess_answered}
-use Rattle.sheet.proofs.Asked.task_1.Goals as goal
+use Rattle.sheet.proofs.Asked.activity.Goals as goal
 
 pub returns-in_err-e : goal.returns-in_err-e
 returns-in_err-e c h = quits _ _ c.from_residual.ensures.1 (bind-no _ (excess_refused _ h c.in_err-e.ensures.energies))

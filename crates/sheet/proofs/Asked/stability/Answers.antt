@@ -1,9 +1,9 @@
--- `sheet::Asked::task_6` meets its contract. Assumes nothing.
+-- `sheet::Asked::stability` meets its contract. Assumes nothing.
 use mathlib.Core.Path.{sym, ◌∙◌}
 use Rattle.floats.proofs.Outcomes.{bind_yes, bind-no}
 use Rattle.sheet.proofs.Laws.{same_as, quits}
 use Rattle.sheet.proofs.Replies.{stability-at, stability_fits}
-use Rattle.sheet.proofs.Asked.task_6.Goals as goal
+use Rattle.sheet.proofs.Asked.stability.Goals as goal
 
 pub returns-in_err-found : goal.returns-in_err-found
 returns-in_err-found c h = quits _ _ c.from_residual.ensures.1 (bind-no _ (stability-at _ h ∙ bind-no _ (sym c.in_err-found.ensures)))

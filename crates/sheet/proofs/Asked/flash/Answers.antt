@@ -1,9 +1,9 @@
--- `sheet::Asked::task_7` meets its contract. Assumes nothing.
+-- `sheet::Asked::flash` meets its contract. Assumes nothing.
 use mathlib.Core.Path.{sym, ◌∙◌}
 use Rattle.floats.proofs.Outcomes.{bind_yes, bind-no}
 use Rattle.sheet.proofs.Laws.{same_as, quits}
 use Rattle.sheet.proofs.Replies.{flash-at, flash_fits}
-use Rattle.sheet.proofs.Asked.task_7.Goals as goal
+use Rattle.sheet.proofs.Asked.flash.Goals as goal
 
 pub returns-in_err-f : goal.returns-in_err-f
 returns-in_err-f c h w = quits _ _ c.from_residual.ensures.1 (bind-no _ (flash-at _ h _ w ∙ bind-no _ (sym c.in_err-f.ensures)))
