@@ -12,7 +12,7 @@ ghost use Rattle.thermo_models.specs.Mixture.{mixture_of};
 ghost use Rattle.replies.specs.Blocks.{answer_room};
 ghost use Rattle.sheet.specs.Ready.{Readied};
 ghost use Rattle.sheet.specs.Sheet.{Answers, number_of};
-ghost use Rattle.batch.specs.Feeds.{feeds_right, task_among, feed_to, parts_to, feeds_of, slice_of, Keeps};
+ghost use Rattle.batch.specs.Feeds.{feed_count, feeds_right, task_among, feed_to, parts_to, feeds_of, slice_of, Keeps};
 
 use blocks::word;
 use book::Head;
@@ -22,6 +22,7 @@ use replies::ANSWER_ROOM;
 use thermo_models::Tabled;
 
 // 33
+// Kept: one line, as pool's for drums; shared it would be a public function of its own, and no plainer.
 #[tactic(auto, unfolding(crate::specs::Feeds::feeds_right))]
 fn feeds_right(feeds: &[u8]) -> bool
     ensures { result ≡ feeds_right feeds.now }
@@ -50,6 +51,7 @@ impl<'a> Call<'a> {
     fn task_among(self) -> Result<Task, Refusal>
         ensures { task_found result ≡ task_among self.entry.book.now self.entry.head.version self.entry.question.now }
     {
+        // Kept: the task's number again below, since `needs_temperature` is public and takes any.
         let task = read_task(book::rule_of(self.book), self.question)?;
         if !question::needs_temperature(u64::from(task)) {
             return Err(Refusal::Task);
@@ -98,9 +100,9 @@ impl<'a> Call<'a> {
     }
 
     // A refusal is a block too. What one feed needs is kept for the others: the tables and vapor pressures are worked out once.
-    fn answer_feeds(self, feeds: &[u8], count: usize, out: &mut [u8])
-        requires { (count ≤ 64) × (answer_room * count ≤ length out.old) }
-        ensures { out.new ≡ parts_to self.entry.book.now self.entry.head.version (places self.entry.head.n) self.entry.question.now feeds.now out.old count }
+    fn answer_feeds(self, feeds: &[u8], out: &mut [u8])
+        requires { (feed_count feeds.now ≤ 64) × (answer_room * feed_count feeds.now ≤ length out.old) }
+        ensures { out.new ≡ parts_to self.entry.book.now self.entry.head.version (places self.entry.head.n) self.entry.question.now feeds.now out.old (feed_count feeds.now) }
     {
         let rule = book::rule_of(self.book);
         let among = self.task_among();
@@ -110,7 +112,7 @@ impl<'a> Call<'a> {
             ps: [0.0; 8],
         };
         // Kept: parts by their index, since of a slice that was lent by `as_chunks_mut` a proof knows no bytes afterwards.
-        for k in 0..count {
+        for k in 0..feeds.len() / 64 {
             let x = floats_from(feeds, 8 * k, self.head.n);
             let part = &mut out[ANSWER_ROOM * k..];
             if let Err(refusal) = self.answer_feed(among, &x, &mut kept, part) {
@@ -138,6 +140,6 @@ pub fn answer(book: &[u8], question: &[u8], feeds: &[u8], out: &mut [u8]) -> Res
         head,
         question,
     };
-    call.answer_feeds(feeds, count, out);
+    call.answer_feeds(feeds, out);
     Ok(())
 }
