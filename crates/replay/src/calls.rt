@@ -1,9 +1,7 @@
 // The core's functions on the words of a stored line.
 use outcome::{Refusal, number_in};
 use rachford_rice::{RachfordRice, RachfordRiceOutcome};
-
-// Of an answer, with its trials.
-const ANSWER_BYTES: usize = 4608;
+use replies::ANSWER_ROOM;
 
 // A stored call: the inputs that are not taken yet, the results that are not given yet, and whether one that was given differs.
 #[derive(Drop)]
@@ -101,7 +99,7 @@ impl<'a> Stored<'a> {
     fn give_answer(&mut self, answered: Result<(), Refusal>, slice: &[u8], parts: usize) {
         self.give(number_in(answered));
         if answered.is_ok() {
-            for part in slice.chunks(ANSWER_BYTES).take(parts) {
+            for part in slice.chunks(ANSWER_ROOM).take(parts) {
                 self.give_blocks(part);
             }
         }
