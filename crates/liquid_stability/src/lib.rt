@@ -39,7 +39,7 @@ impl LiquidStabilityTrial {
 }
 
 // The first `count` of the eight trials are filled.
-// Kept: an array and a count, for memory is fixed and there is no heap.
+// Kept: an array and a count, for the definition has eight entries, and memory is fixed.
 #[derive(Clone, Copy)]
 pub struct LiquidStability {
     pub stable: bool,
@@ -71,12 +71,12 @@ pub fn present_count(x: &[f64; 8], n: usize) -> usize
 
 // ln γ of x; its slopes aren't used here.
 #[tactic(auto, using(outcome::proofs::Exits::met), unfolding(floats::specs::Outcome::bind))]
-fn ln_gamma(table: &[f64; 512], at: Tabled, x: &[f64; 8]) -> Result<[f64; 8], Refusal>
-    ensures { outcome_of result ≡ bind (activity_on table.now at x.now) (λ a. ok a.ln_gamma) }
+fn ln_gamma(table: &[f64; 512], tabled: Tabled, x: &[f64; 8]) -> Result<[f64; 8], Refusal>
+    ensures { outcome_of result ≡ bind (activity_on table.now tabled x.now) (λ a. ok a.ln_gamma) }
 {
     let mut lg = [0.0; 8];
     let mut sl = [0.0; 8];
-    thermo_models::activity(table, at, x, &mut lg, &mut sl)?;
+    thermo_models::activity(table, tabled, x, &mut lg, &mut sl)?;
     Ok(lg)
 }
 
@@ -107,6 +107,7 @@ pub fn no_trials() -> LiquidStability
 }
 
 // d_i = ln x_i + ln γ_i(x) of the solvents present.
+// Kept: a loop to the count, here and below: `array::from_fn` works out all eight.
 #[tactic(auto, unfolding(crate::specs::Stability::tangent, floats::specs::Vector::fill))]
 fn tangent(x: &[f64; 8], lg: &[f64; 8], m: Count) -> [f64; 8]
     ensures { result ≡ tangent x.now lg.now m.n }
@@ -135,7 +136,7 @@ const LN_W_TOLERANCE: f64 = 1e-10;
 #[derive(Clone, Copy)]
 struct Tested<'a> {
     table: &'a [f64; 512],
-    at: Tabled,
+    tabled: Tabled,
     m: Count,
     o: ActivityOptions,
     x: &'a [f64; 8],
@@ -172,6 +173,7 @@ impl<'a> Tested<'a> {
         big
     }
 
+    // Kept: a loop, here and in measure: a fold's closure gives the sums back in an `else`, and is no plainer.
     #[tactic(auto, unfolding(floats::specs::Fold::fold_to))]
     fn total(self, big: &[f64; 8]) -> f64
         ensures { result ≡ fold_to (active (at self.entry.x.now) (λ i s. s ⊕ at big.now i)) 0f self.entry.m.n }
@@ -188,7 +190,7 @@ impl<'a> Tested<'a> {
     // w_i = W_i / Σ W.
     #[tactic(auto, unfolding(floats::specs::Vector::fill))]
     fn composition(self, big: &[f64; 8], s: f64) -> [f64; 8]
-        ensures { result ≡ vec (λ i. cond (lt 0f (at self.entry.x.now i)) (at big.now i ⊘ s) 0f) self.entry.m.n }
+        ensures { let l = self.entry in result ≡ vec (λ i. cond (lt 0f (at l.x.now i)) (at big.now i ⊘ s) 0f) l.m.n }
     {
         let mut w = [0.0; 8];
         for i in 0..self.m.n {
@@ -203,19 +205,22 @@ impl<'a> Tested<'a> {
         ensures { let l = self.entry in
             (result.distance ≡ distance_of l.x.now ln_w.now lg.now l.d.now l.m.n) × (result.change ≡ change_of l.x.now ln_w.now lg.now l.d.now l.m.n) × (result.apart ≡ apart_of l.x.now w.now l.m.n) }
     {
-        let mut m = Measured {
+        let mut measured = Measured {
             distance: 1.0,
             change: 0.0,
             apart: 0.0,
         };
         for i in 0..self.m.n {
             if self.x[i] > 0.0 {
-                m.distance += big[i] * (ln_w[i] + lg[i] - self.d[i] - 1.0);
-                m.change = floats::max(m.change, floats::abs(self.d[i] - lg[i] - ln_w[i]));
-                m.apart = floats::max(m.apart, floats::abs(w[i] - self.x[i]));
+                measured.distance += big[i] * (ln_w[i] + lg[i] - self.d[i] - 1.0);
+                measured.change = floats::max(
+                    measured.change,
+                    floats::abs(self.d[i] - lg[i] - ln_w[i]),
+                );
+                measured.apart = floats::max(measured.apart, floats::abs(w[i] - self.x[i]));
             }
         }
-        m
+        measured
     }
 
     // ln W_i = d_i - ln γ_i(w).
@@ -238,24 +243,24 @@ impl<'a> Tested<'a> {
         ln_w: &[f64; 8],
     ) -> Result<ControlFlow<LiquidStabilityTrial, [f64; 8]>, Refusal>
         ensures { let l = self.entry in
-            TrialTurn (activity_on l.table.now l.at) l.o.tm_threshold l.m.n l.x.now l.d.now j iteration ln_w.now result }
+            TrialTurn (activity_on l.table.now l.tabled) l.o.tm_threshold l.m.n l.x.now l.d.now j iteration ln_w.now result }
     {
         let big = self.amounts(ln_w);
         let s = self.total(&big);
         let w = self.composition(&big, s);
-        let lg = ln_gamma(self.table, self.at, &w)?;
-        let m = self.measure(ln_w, &big, &lg, &w);
-        if !floats::is_finite(m.distance) {
+        let lg = ln_gamma(self.table, self.tabled, &w)?;
+        let measured = self.measure(ln_w, &big, &lg, &w);
+        if !floats::is_finite(measured.distance) {
             return Err(Refusal::ResultNotFinite);
         }
         let found = LiquidStabilityTrial {
             component: j,
-            distance: m.distance,
+            distance: measured.distance,
             composition: w,
             iterations: iteration,
-            trivial: m.apart <= TRIVIAL_DISTANCE,
+            trivial: measured.apart <= TRIVIAL_DISTANCE,
         };
-        if found.is_unstable(self.o.tm_threshold) || m.change <= LN_W_TOLERANCE {
+        if found.is_unstable(self.o.tm_threshold) || measured.change <= LN_W_TOLERANCE {
             return Ok(ControlFlow::Break(found));
         }
         Ok(ControlFlow::Continue(self.next(&lg)))
@@ -264,7 +269,7 @@ impl<'a> Tested<'a> {
     // The trial near solvent j: 24, 25, and 27 at its limit.
     fn trial(self, j: usize) -> Result<LiquidStabilityTrial, Refusal>
         ensures { let l = self.entry in
-            outcome_of result ≡ trial_from (activity_on l.table.now l.at) l.o.tm_threshold l.m.n l.x.now l.d.now j l.o.max_iterations 0 (start_of l.x.now l.m.n j) }
+            outcome_of result ≡ trial_from (activity_on l.table.now l.tabled) l.o.tm_threshold l.m.n l.x.now l.d.now j l.o.max_iterations 0 (start_of l.x.now l.m.n j) }
     {
         let mut ln_w = self.start(j);
         for done in 0..self.o.max_iterations {
@@ -278,7 +283,7 @@ impl<'a> Tested<'a> {
 
     // One trial near each solvent present. All of them run: a later trial's refusal stands before an unstable one's answer.
     fn trials(self) -> Result<LiquidStability, Refusal>
-        ensures { let l = self.entry in outcome_of result ≡ trials_to (activity_on l.table.now l.at) l.m.n l.o l.x.now l.d.now l.m.n }
+        ensures { let l = self.entry in outcome_of result ≡ trials_to (activity_on l.table.now l.tabled) l.m.n l.o l.x.now l.d.now l.m.n }
     {
         let mut all = no_trials();
         for j in 0..self.m.n {
@@ -313,7 +318,7 @@ pub fn liquid_stability(
     let others = (count - 1) as f64;
     let tested = Tested {
         table,
-        at,
+        tabled: at,
         m,
         o,
         x,

@@ -62,8 +62,8 @@ pub struct ActivitySaturation {
 
 // ---- modified Raoult
 
-// |ln(y_i p) - ln(x_i γ_i p_i^sat)| of one solvent; ln_p is ln p.
-fn gap(lg: f64, ps: f64, ln_p: f64, x: f64, y: f64) -> f64
+// |ln(y_i p) - ln(x_i γ_i p_i^sat)| of one solvent; lg is its ln γ, ln_p is ln p.
+pub fn gap(lg: f64, ps: f64, ln_p: f64, x: f64, y: f64) -> f64
     ensures { result ≡ abs_of (ln_of y ⊕ ln_p ⊖ ln_of x ⊖ lg ⊖ ln_of ps) }
 {
     floats::abs(numerics::ln(y) + ln_p - numerics::ln(x) - lg - numerics::ln(ps))
@@ -79,6 +79,7 @@ struct Raoult<'a> {
 
 impl Raoult<'_> {
     // f of each solvent's fraction, γ and vapor pressure; 0.0 past the solvents.
+    // Kept: a loop to the count, for `array::from_fn` works out all eight.
     #[tactic(auto, unfolding(floats::specs::Vector::fill))]
     fn terms<F: Fn(f64, f64, f64) -> f64>(self, z: &[f64; 8], f: F) -> [f64; 8]
         requires { F.IsAlwaysCallable f }
@@ -95,9 +96,10 @@ impl Raoult<'_> {
     }
 
     // The largest gap of a solvent that is present in both phases.
+    // Kept: a loop, here and in largest_change: a fold's closure gives `r` back in an `else`, and is no plainer.
     #[tactic(auto, unfolding(crate::specs::Saturation::gap_of, floats::specs::Fold::fold_to))]
     fn largest_gap(self, p: f64, x: &[f64; 8], y: &[f64; 8]) -> f64
-        ensures { result ≡ gap_of self.entry.lg.now self.entry.ps.now p x.now y.now self.entry.m.n }
+        ensures { let l = self.entry in result ≡ gap_of l.lg.now l.ps.now p x.now y.now l.m.n }
     {
         let ln_p = numerics::ln(p);
         let mut r = 0.0;
@@ -168,8 +170,9 @@ struct Vapor<'a> {
 
 impl Vapor<'_> {
     // What ln γ gives: 34, then what `activity` refuses at the incipient liquid.
+    // Kept: zeros that `activity` fills, for it is public and writes to its caller's arrays.
     fn incipient(self, lg: &[f64; 8]) -> Result<IncipientLiquid, Refusal>
-        ensures { outcome_of result ≡ incipient (activity_on self.entry.table.now self.entry.tabled) self.entry.ps.now self.entry.m.n self.entry.y.now lg.now }
+        ensures { let v = self.entry in outcome_of result ≡ incipient (activity_on v.table.now v.tabled) v.ps.now v.m.n v.y.now lg.now }
     {
         let Vapor { y, ps, m, .. } = self;
         let raoult = Raoult { lg, ps, m };
@@ -213,7 +216,8 @@ impl Vapor<'_> {
 
     // A turn from ln γ: 25 where change or pressure isn't finite.
     fn turn(self, lg: &[f64; 8]) -> Result<DewTurn, Refusal>
-        ensures { outcome_of result ≡ bind (dew_turn (activity_on self.entry.table.now self.entry.tabled) self.entry.ps.now self.entry.m.n self.entry.y.now lg.now) (λ a. ok (turned self.entry.y.now lg.now self.entry.m.n a)) }
+        ensures { let v = self.entry in
+            outcome_of result ≡ bind (dew_turn (activity_on v.table.now v.tabled) v.ps.now v.m.n v.y.now lg.now) (λ a. ok (turned v.y.now lg.now v.m.n a)) }
     {
         let IncipientLiquid {
             pressure,
@@ -230,7 +234,7 @@ impl Vapor<'_> {
 
     // The dew point of converged ln γ.
     fn point(self, lg: &[f64; 8], iterations: u64) -> Result<DewPoint, Refusal>
-        ensures { outcome_of result ≡ dew_point (activity_on self.entry.table.now self.entry.tabled) self.entry.ps.now self.entry.m.n self.entry.y.now lg.now iterations }
+        ensures { let v = self.entry in outcome_of result ≡ dew_point (activity_on v.table.now v.tabled) v.ps.now v.m.n v.y.now lg.now iterations }
     {
         let IncipientLiquid {
             pressure,
@@ -329,6 +333,7 @@ pub fn activity_dew_pressure(
     if !thermo_models::check_pressure(d.pressure) {
         return Err(Refusal::PressureOutside);
     }
+    // Kept: a variable, for the borrow checker doesn't cover an array field that is stored straight.
     let liquid = d.liquid;
     Ok(ActivitySaturation {
         temperature: s.t.value(),

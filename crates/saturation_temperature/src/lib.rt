@@ -45,6 +45,7 @@ struct Bracket {
 
 // ---- the search, for any f
 
+// Kept: `rachford_rice` has the same line; shared it would be a public function with contract and edits in their place.
 fn middle(lo: f64, hi: f64) -> f64
     ensures { result ≡ middle lo hi }
 {
@@ -153,6 +154,7 @@ struct Feed<'a> {
 
 impl Feed<'_> {
     // Σ w_i, Pa, and Σ w_i (∂ ln γ_i/∂T + d ln p_i^sat/dT), Pa/K, where w = x γ p_sat of each solvent present.
+    // Kept: a loop, here and in dew_slope: a fold's closure gives the sums back in an `else`, and is no plainer.
     #[tactic(auto, unfolding(crate::specs::Boiling::weight_sum, crate::specs::Boiling::weight_slope, floats::specs::Fold::fold_to))]
     fn weigh(self, lg: &[f64; 8], sl: &[f64; 8], ps: &[f64; 8], dps: &[f64; 8]) -> (f64, f64)
         ensures { Weighed self.entry.z.now lg.now sl.now ps.now dps.now self.entry.m.n result.0 result.1 }
@@ -174,7 +176,7 @@ impl Feed<'_> {
     // f(T) = ln Σ w_i - ln p, beside ln γ of the feed and the vapor pressures: 13, the activity of the feed (24, 25), then the
     // pure liquids (22, 25).
     fn try_bubble(self, t: f64) -> Result<(Point, ([f64; 8], [f64; 8])), Refusal>
-        ensures { outcome_of result ≡ bubble_tried (activity_of self.entry.book.now self.entry.parameters.now self.entry.m.n) (pure_liquids_of self.entry.book.now self.entry.m.n) self.entry.m.n self.entry.p self.entry.z.now t }
+        ensures { let f = self.entry in outcome_of result ≡ bubble_tried (activity_of f.book.now f.parameters.now f.m.n) (pure_liquids_of f.book.now f.m.n) f.m.n f.p f.z.now t }
     {
         let kelvin = Temperature::new(t)?;
         let mut table = [0.0; 512];
@@ -201,7 +203,8 @@ impl Feed<'_> {
         ps: &[f64; 8],
         root: Root,
     ) -> Result<ActivitySaturation, Refusal>
-        ensures { (E : List Float → Out Activity) (sl : List Float) → E self.entry.z.now ≡ ok (activity_from lg.now sl) → outcome_of result ≡ bubble_saturation E ps.now self.entry.m.n self.entry.p self.entry.z.now root.iterations root.temperature }
+        ensures { let f = self.entry in
+            (E : List Float → Out Activity) (sl : List Float) → E f.z.now ≡ ok (activity_from lg.now sl) → outcome_of result ≡ bubble_saturation E ps.now f.m.n f.p f.z.now root.iterations root.temperature }
     {
         let BubblePoint { pressure, vapor } = saturation::bubble_from(self.z, lg, ps, self.m.n)?;
         let gap = saturation::residual_with(lg, ps, self.p, self.z, &vapor, self.m.n)?;
@@ -263,7 +266,7 @@ impl Feed<'_> {
 
     // f(T) = ln p_dew(T) - ln p, beside the dew point and the vapor pressures: 13, the pure liquids (22, 25), then the dew point.
     fn try_dew(self, o: ActivityOptions, t: f64) -> Result<(Point, (DewPoint, [f64; 8])), Refusal>
-        ensures { outcome_of result ≡ dew_tried (activity_of self.entry.book.now self.entry.parameters.now self.entry.m.n) (pure_liquids_of self.entry.book.now self.entry.m.n) self.entry.m.n o self.entry.p self.entry.z.now t }
+        ensures { let f = self.entry in outcome_of result ≡ dew_tried (activity_of f.book.now f.parameters.now f.m.n) (pure_liquids_of f.book.now f.m.n) f.m.n o f.p f.z.now t }
     {
         let kelvin = Temperature::new(t)?;
         let mut ps = [0.0; 8];
@@ -283,7 +286,8 @@ impl Feed<'_> {
     // limit of a question reaches.
     #[tactic(auto, unfolding(crate::specs::Boiling::dew_saturation, floats::specs::Outcome::bind))]
     fn dew_with(self, d: DewPoint, ps: &[f64; 8], root: Root) -> Result<ActivitySaturation, Refusal>
-        ensures { (E : List Float → Out Activity) (o : ActivityOptions) → dew_at E ps.now self.entry.m.n o self.entry.z.now ≡ ok d → outcome_of result ≡ dew_saturation E ps.now self.entry.m.n o self.entry.p self.entry.z.now root.iterations root.temperature }
+        ensures { let f = self.entry in
+            (E : List Float → Out Activity) (o : ActivityOptions) → dew_at E ps.now f.m.n o f.z.now ≡ ok d → outcome_of result ≡ dew_saturation E ps.now f.m.n o f.p f.z.now root.iterations root.temperature }
     {
         let lg = &d.activity.ln_gamma;
         let gap = saturation::residual_with(lg, ps, self.p, &d.liquid, self.z, self.m.n)?;

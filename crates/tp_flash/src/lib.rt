@@ -24,7 +24,7 @@ pub enum FlashPhases {
 }
 
 // Pressures in Pa. `trials` are those of the liquid, where it was tested.
-// Kept: `tested` beside `trials`, for the reply has both words either way, and an Option would be taken apart into them again.
+// Kept: `tested`, which is true but for a vapor, and `trials` beside it, for the definition's Flash has both.
 #[derive(Clone, Copy)]
 pub struct ActivityTpFlash {
     pub phases: FlashPhases,
@@ -48,7 +48,8 @@ struct Saturated {
     dew: f64,
 }
 
-// A7-GAMMA-PHI is bit 0, A7-SPLIT-AT-SATURATION-BOUNDARY bit 1, A7-LIQUID-TPD-FINITE-TRIALS bit 2.
+// The word `notes` of the answer: A7-GAMMA-PHI is bit 0, A7-SPLIT-AT-SATURATION-BOUNDARY bit 1, A7-LIQUID-TPD-FINITE-TRIALS bit 2.
+// Kept: numbers, for they are that word itself, and the definitions have it as a number.
 const GAMMA_PHI: u64 = 1;
 
 const AT_BOUNDARY: u64 = 1 + 2;
@@ -142,6 +143,8 @@ struct Feed<'a> {
 impl<'a> Feed<'a> {
     // ---- the split at T and p
 
+    // Kept: loops to the count, for `array::from_fn` works out all eight; and `places(self.at.n)`, with no Count beside `at`, for
+    // trials and dew point take `at` and their contracts say `places at.n`.
     // K_i = γ_i p_i^sat / p where the feed is positive, else 1.0, which no sum of Rachford-Rice reads.
     #[tactic(auto, unfolding(crate::specs::Split::k_values, floats::specs::Vector::fill))]
     fn k_values(self, lg: &[f64; 8]) -> [f64; 8]
@@ -172,6 +175,7 @@ impl<'a> Feed<'a> {
     }
 
     // max_i |ln(y_i p) - ln(x_i γ_i p_i^sat)| where the feed is positive.
+    // Kept: a loop, for a fold's closure gives `r` back in an `else`, and is no plainer.
     #[tactic(auto, unfolding(crate::specs::Split::split_gap, floats::specs::Fold::fold_to))]
     fn split_gap(self, lg: &[f64; 8], x: &[f64; 8], y: &[f64; 8]) -> f64
         ensures { let f = self.entry in result ≡ split_gap f.z.now lg.now f.ps.now f.p.0 x.now y.now (places f.at.n) }
@@ -180,11 +184,7 @@ impl<'a> Feed<'a> {
         let mut r = 0.0;
         for i in 0..floats::places(self.at.n) {
             if self.z[i] > 0.0 {
-                let gap = numerics::ln(y[i]) + ln_p
-                    - numerics::ln(x[i])
-                    - lg[i]
-                    - numerics::ln(self.ps[i]);
-                r = floats::max(r, floats::abs(gap));
+                r = floats::max(r, saturation::gap(lg[i], self.ps[i], ln_p, x[i], y[i]));
             }
         }
         r
@@ -213,10 +213,18 @@ impl<'a> Feed<'a> {
     ) -> Result<SplitTurn, Refusal>
         ensures { let f = self.entry in outcome_of result ≡ turn_at (activity_on f.table.now f.at) f.ps.now (places f.at.n) f.p.0 f.z.now beta x y iteration }
     {
-        let mut lg = [0.0; 8];
-        let mut sl = [0.0; 8];
-        thermo_models::activity(self.table, self.at, &x, &mut lg, &mut sl)?;
-        let residual = self.split_gap(&lg, &x, &y);
+        let mut activity = ActivityCoefficients {
+            ln_gamma: [0.0; 8],
+            slopes: [0.0; 8],
+        };
+        thermo_models::activity(
+            self.table,
+            self.at,
+            &x,
+            &mut activity.ln_gamma,
+            &mut activity.slopes,
+        )?;
+        let residual = self.split_gap(&activity.ln_gamma, &x, &y);
         if !floats::is_finite(residual) {
             return Err(Refusal::ResultNotFinite);
         }
@@ -228,10 +236,7 @@ impl<'a> Feed<'a> {
                 residual,
                 iterations: iteration,
             },
-            activity: ActivityCoefficients {
-                ln_gamma: lg,
-                slopes: sl,
-            },
+            activity,
         })
     }
 
@@ -404,10 +409,12 @@ pub fn activity_tp_flash(
 ) -> Result<ActivityTpFlash, Refusal>
     ensures { outcome_of result ≡ phases_of (activity_on table.now at) (places at.n) o z.now p.0 ps.now }
 {
-    let mut lg = [0.0; 8];
-    let mut sl = [0.0; 8];
-    thermo_models::activity(table, at, z, &mut lg, &mut sl)?;
-    let b = saturation::bubble_from(z, &lg, ps, at.n)?;
+    let mut activity = ActivityCoefficients {
+        ln_gamma: [0.0; 8],
+        slopes: [0.0; 8],
+    };
+    thermo_models::activity(table, at, z, &mut activity.ln_gamma, &mut activity.slopes)?;
+    let b = saturation::bubble_from(z, &activity.ln_gamma, ps, at.n)?;
     let feed = Feed {
         table,
         at,
@@ -420,10 +427,6 @@ pub fn activity_tp_flash(
     let saturated = Saturated {
         bubble: b.pressure,
         dew,
-    };
-    let activity = ActivityCoefficients {
-        ln_gamma: lg,
-        slopes: sl,
     };
     feed.between(saturated, activity)
 }

@@ -7,4 +7,4 @@ use Rattle.thermo_models.specs.Activity.{activity_on}
 use Rattle.liquid_stability.proofs.Tested.trials.Given as goal
 
 abbrev pub invariant-loop-j : goal.invariant-loop-j
-invariant-loop-j l = (l.all.count ≤ l.j) × (trials_to (activity_on l.self.table.now l.self.at) l.self.m.n l.self.o l.self.x.now l.self.d.now l.j ≡ ok l.all)
+invariant-loop-j l = (l.all.count ≤ l.j) × (trials_to (activity_on l.self.table.now l.self.tabled) l.self.m.n l.self.o l.self.x.now l.self.d.now l.j ≡ ok l.all)
