@@ -14,7 +14,7 @@ ghost use Rattle.rachford_rice.specs.Rachford.{middle, turn_of, residual_of, slo
 use floats::Count;
 use outcome::Refusal;
 
-// The constrained outcome: vapor fraction, residual |g(β)| and count of a split.
+// Constrained or negative: vapor fraction, residual |g(β)| and count of a split.
 #[derive(Clone, Copy)]
 pub enum RachfordRiceOutcome {
     LiquidOnly,
@@ -23,6 +23,7 @@ pub enum RachfordRiceOutcome {
 }
 
 // The outcome, with the compositions beside it: zeros where there is one phase.
+// Kept: arrays beside the enum, a rule of the project: docs/CHECKLIST.md, "Forms".
 #[derive(Clone, Copy)]
 pub struct RachfordRice {
     pub outcome: RachfordRiceOutcome,
@@ -31,7 +32,7 @@ pub struct RachfordRice {
 }
 
 // One turn: the bounds moved, the next β, and whether it is the last.
-// Kept: a flag and no enum, since `next` is read either way: as the root where it is the last turn, else as the next β.
+// Kept: a flag and no ControlFlow, since `next` is read either way: as the root where it is the last turn, else as the next β.
 #[derive(Clone, Copy)]
 struct Turn {
     lo: f64,
@@ -82,16 +83,6 @@ fn one_phase(outcome: RachfordRiceOutcome) -> RachfordRice
     }
 }
 
-fn liquid_part(z: f64, k: f64, beta: f64) -> f64
-    ensures { result ≡ cond (lt 0f z) (z ⊘ (1f ⊕ beta ⊗ (k ⊖ 1f))) 0f }
-{
-    if z > 0.0 {
-        z / (1.0 + beta * (k - 1.0))
-    } else {
-        0.0
-    }
-}
-
 // ---- the iteration
 
 // Newton's value where it lies between the bounds, else their middle.
@@ -125,6 +116,16 @@ fn turn_from(g: f64, slope: f64, lo: f64, hi: f64, beta: f64) -> Turn
 
 // ---- a feed and its ratios
 
+fn liquid_part(z: f64, k: f64, beta: f64) -> f64
+    ensures { result ≡ cond (lt 0f z) (z ⊘ (1f ⊕ beta ⊗ (k ⊖ 1f))) 0f }
+{
+    if z > 0.0 {
+        z / (1.0 + beta * (k - 1.0))
+    } else {
+        0.0
+    }
+}
+
 // Feed fractions z and ratios K of the solvents that count.
 #[derive(Clone, Copy)]
 struct Feed<'a> {
@@ -154,8 +155,9 @@ impl<'a> Feed<'a> {
         ensures slope_value { result.slope ≡ slope_of (at self.entry.z.now) (at self.entry.k.now) self.entry.m.n beta }
     {
         let (residual, squares) = (0..self.m.n).fold((0.0, 0.0), |(residual, squares), i| {
-            let (z, k) = (self.z[i], self.k[i]);
+            let z = self.z[i];
             if z > 0.0 {
+                let k = self.k[i];
                 let over = 1.0 + beta * (k - 1.0);
                 (
                     residual + z * (k - 1.0) / over,
@@ -172,18 +174,17 @@ impl<'a> Feed<'a> {
     }
 
     // What `choose` makes of the K, one after the other from `first` on.
-    #[tactic(auto, unfolding(floats::specs::Fold::fold_to))]
     fn k_chosen<F: Fn(f64, f64) -> f64>(self, choose: F, first: f64) -> f64
         requires { F.IsAlwaysCallable choose }
         ensures { (f : Float → Float → Float) → ((a b r : Float) → F.post choose a b r → r ≡ f a b) → result ≡ fold_to (active (at self.entry.z.now) (λ i s. f s (at self.entry.k.now i))) first self.entry.m.n }
     {
-        let mut s = first;
-        for i in 0..self.m.n {
+        (0..self.m.n).fold(first, |s, i| {
             if self.z[i] > 0.0 {
-                s = choose(s, self.k[i]);
+                choose(s, self.k[i])
+            } else {
+                s
             }
-        }
-        s
+        })
     }
 
     fn k_max(self) -> f64
@@ -198,6 +199,7 @@ impl<'a> Feed<'a> {
         self.k_chosen(floats::min, f64::INFINITY)
     }
 
+    // Kept: a loop to n, here and below: `from_fn` would go over all eight.
     #[tactic(auto, unfolding(floats::specs::Vector::fill, crate::specs::Rachford::liquid_part))]
     fn liquid_parts(self, beta: f64) -> [f64; 8]
         ensures { result ≡ vec (liquid_part (at self.entry.z.now) (at self.entry.k.now) self.entry.m.n beta) self.entry.m.n }
@@ -272,6 +274,7 @@ impl<'a> Feed<'a> {
 }
 
 // ---- what other crates call
+// Kept: `validate`, then the feed, twice: a constructor would say in its contract what the three fields are, and be longer.
 
 // g(β) = 0 between the poles, so that β may lie outside [0, 1].
 pub fn rachford_rice_negative(

@@ -1,10 +1,10 @@
-use native.Mathlib.Omega.{arith}
-use Rattle.floats.proofs.Folds.{fold_turn, fold_done}
+-- `rachford_rice::Feed::k_chosen` meets its contract: the fold over the entries. Assumes nothing.
+use mathlib.Core.Path.{refl}
+use Rattle.std.proofs.Common.{rules}
+use Rattle.floats.specs.Fold.{active}
+use Rattle.floats.specs.Vector.{at}
+use Rattle.floats.proofs.Chains.{fold_of_range}
 use Rattle.rachford_rice.proofs.Feed.k_chosen.Goals as goal
-use Rattle.rachford_rice.proofs.Feed.k_chosen.Goals.{then-self-i, else-self-i}
-
-pub loop-i-preserved : goal.loop-i-preserved
-loop-i-preserved g c = λ f h. fold_turn _ _ _ (elim c.if-self-i.branch [ then-self-i w ↦ rw (w.if-self-i.true, w.s-is) (h _ _ _ w.choose-s.ensures) | else-self-i w ↦ rw (w.if-self-i.false, w.s-is) ]) (c.loop-i.invariant f h)
 
 pub returns : goal.returns
-returns g c = λ f h. fold_done _ _ _ _ (omega arith) (c.loop-i.invariant f h)
+returns g c = λ f h. fold_of_range (active (at c.args.self.z.now) (λ i s. f s (at c.args.self.k.now i))) c.args.first c.args.self.m.n refl c.fold.ensures.ran (λ s i r q w. search rules)
