@@ -26,6 +26,7 @@ fn added(a: u64, b: u64) -> u64
 }
 
 // 31
+// Kept: `batch::feeds_right` has this body for another question; one line each, and no plainer as a `pub fn` with edits.
 #[tactic(auto, unfolding(crate::specs::Pool::drums_right))]
 fn drums_right(drums: &[u8]) -> bool
     ensures { result ≡ drums_right drums.now }
@@ -34,19 +35,16 @@ fn drums_right(drums: &[u8]) -> bool
 }
 
 // The sum over the drums of their counts of solvent i.
+// Kept: `i < 8` is the index of a row of eight.
 fn pool_count(drums: &[u8], i: usize) -> u64
     requires { i < 8 }
     ensures { result ≡ min (pool_count drums.now i) (2 ^ 53 + 1) }
 {
-    let m = drums.len() / 64;
-    let mut sum: u64 = 0;
-    for d in 0..m {
-        sum = added(sum, word(drums, 8 * d + i));
-    }
-    sum
+    (0..drums.len() / 64).fold(0, |sum, d| added(sum, word(drums, 8 * d + i)))
 }
 
 // Of the solvents that count, 0 past them.
+// Kept: a loop to n, here and in `amounts`: `from_fn` would go over all eight.
 fn pool_counts(drums: &[u8], m: Count) -> [u64; 8]
     ensures { result ≡ fill (λ i. min (pool_count drums.now i) (2 ^ 53 + 1)) m.n (replicate 8 0) }
 {
@@ -61,11 +59,8 @@ fn pool_counts(drums: &[u8], m: Count) -> [u64; 8]
 fn total_right(counts: &[u64; 8], m: Count) -> bool
     ensures { result ≡ within 1 (2 ^ 53) (total_to (word_at counts.now) m.n) }
 {
-    let mut sum: u64 = 0;
-    for i in 0..m.n {
-        sum = added(sum, counts[i]);
-    }
-    1 <= sum && sum <= MOST
+    let sum = (0..m.n).fold(0, |sum, i| added(sum, counts[i]));
+    (1..=MOST).contains(&sum)
 }
 
 // Counts as floats, each exact.
