@@ -18,7 +18,7 @@ use floats::Count;
 
 // A correlation of document 003: t_r, low and high in K, the reducing value in Pa; the first `count` of n and t are
 // its terms.
-// Kept: a count beside arrays of eight: fixed memory, no heap.
+// Kept: a count beside arrays of eight: all eight words are read, and the definition has them all.
 #[derive(Clone, Copy)]
 pub struct Ancillary {
     pub t_r: f64,
@@ -31,13 +31,13 @@ pub struct Ancillary {
 }
 
 // The temperatures that a correlation holds between, in K, the lower first.
-// Kept: its two readers hand on both ends in this order, and would say no more with names.
+// Kept: a public type, read as .0 and .1.
 #[derive(Clone, Copy)]
 pub struct Range(pub f64, pub f64);
 
 // The parameters of an ordered pair. NRTL: tau = t0 + t1 / T + t2 ln T + t3 T, alpha = a0 + a1 T. Wilson: t0 and t1 are
 // the a and b of Λ = exp(a + b / T), the others +0.
-#[derive(Clone, Copy)]
+#[derive(Clone, Copy, Default)]
 pub struct Terms {
     pub t0: f64,
     pub t1: f64,
@@ -46,15 +46,6 @@ pub struct Terms {
     pub a0: f64,
     pub a1: f64,
 }
-
-const NONE: Terms = Terms {
-    t0: 0.0,
-    t1: 0.0,
-    t2: 0.0,
-    t3: 0.0,
-    a0: 0.0,
-    a1: 0.0,
-};
 
 // The temperatures that a pair was regressed between, in K, and whether they were inferred.
 #[derive(Clone, Copy)]
@@ -72,7 +63,7 @@ pub struct Pair {
     pub regression: Option<Interval>,
 }
 
-// Kept: `question` has the same line; shared it would be a public function with contract and edits in their place.
+// Kept: as in question; one line each; shared it is longer, and no plainer.
 fn float_at(s: &[u8], k: usize) -> f64
     ensures { result ≡ float (word s.now) k }
 {
@@ -157,6 +148,8 @@ fn pair_place(m: Count, i: usize, j: usize) -> usize
 // ---- a pair offered in the place of the book's own
 
 // The block in whose place it stands; 0 where it is for no pair of the book's first n solvents.
+// Kept: no Option: block 0 is no pair's, so one test `k == place` serves both; for the same reason the empty slice is
+// "nothing offered" (a public caller's slice).
 pub fn offered_place(book: &[u8], offered: &[u8], n: usize) -> usize
     ensures { result ≡ offered_place (places n) book.now offered.now }
 {
@@ -188,7 +181,6 @@ fn regression_at(s: &[u8]) -> Option<Interval>
 
 // Tau of the pair (i, j) from word 3 on, alpha from word 11 on. The last word first: past the test for it the others need none,
 // those of the caller neither.
-// Kept: like `question::options_in` in shape alone, with no field in common.
 #[inline(always)]
 fn nrtl_terms(s: &[u8]) -> Terms
     ensures { result ≡ terms_of (term_in (word s.now) 3) }
@@ -211,7 +203,7 @@ fn wilson_terms(s: &[u8], f: usize) -> Terms
     Terms {
         t1: float_at(s, f + 1),
         t0: float_at(s, f),
-        ..NONE
+        ..Terms::default()
     }
 }
 
@@ -262,15 +254,16 @@ fn set_terms(plane: &mut [f64; 384], from: usize, t: Terms)
     plane[from + 5] = t.a1;
 }
 
-// Kept: `i < 8` is the index of a row of eight, as below.
+// Kept: `i < 8` is the index of a row of eight, here and in the three below.
 fn diagonal(i: usize, plane: &mut [f64; 384])
     requires { i < 8 }
     ensures { plane.new ≡ fill_from (λ _. 0f) ((i * 8 + i) * 6) 6 plane.old }
 {
-    set_terms(plane, (i * 8 + i) * 6, NONE);
+    set_terms(plane, (i * 8 + i) * 6, Terms::default());
 }
 
 // The pair blocks of a book, where a block is offered for the pair at `place`.
+// Kept: `thermo_models::Present` has four of these fields and looks at a drum; shared it would be public, and its methods here.
 #[derive(Clone, Copy)]
 struct PairBlocks<'a> {
     model: Model,
