@@ -82,7 +82,7 @@ impl Rule {
     }
 }
 
-// Kept: `word` is asked for words 0 to 62 alone, which a closure over a block can't give further on.
+// Kept: `map` and `fold` would ask `word` for any index, a block has 63; here and in `running_sum`.
 fn plain_sum<F: Fn(usize) -> u64>(word: F) -> u64
     requires { TakesWords (F.pre word) }
     ensures { (w : ℕ → ℕ) → GivesWords (F.post word) w → result ≡ check_sum w 63 }
@@ -122,6 +122,7 @@ fn lanes_sum(a0: u64, a1: u64, a2: u64, t0: u64, t1: u64, t2: u64, t3: u64) -> u
 // and the sum t of what a was before each row, and no row waits for the one word before. The rows go by the slice, at most
 // a block's sixteen, and its length is tested after them: a count of 16 would have the compiler take the loop apart before it
 // puts two lanes to a step, and the sum would take twice as long.
+// Kept: eight scalars: as two arrays each line would be a loop over four, inside the one whose shape matters.
 fn running_rows(s: &[u8]) -> u64
     ensures { 512 ≤ length s.now → result ≡ running_sum (word s.now) 63 }
 {
@@ -149,6 +150,7 @@ fn running_rows(s: &[u8]) -> u64
 
 // The sum of a block's words 0 to 62 by a rule. A whole block has loops of its own: with `word`'s test in it the sum takes
 // four times as long.
+// Kept: `match rule` is the definition by cases.
 fn block_sum(rule: Rule, s: &[u8]) -> u64
     ensures { result ≡ sum_by rule (word s.now) }
 {

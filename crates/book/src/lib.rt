@@ -41,7 +41,7 @@ fn whole_blocks(book: &[u8]) -> Option<&[[u8; 512]]>
 }
 
 // A word of a whole block, read with no test for its end.
-// Kept: shared with `blocks` it would be a `pub fn` with a `requires`. `k < 64` is the place of a word, here and below.
+// Kept: shared with `blocks` it would be a `pub fn` with a `requires`, and `float_at` is one line. `k < 64` is the place of a word, here and below.
 fn word(s: &[u8; 512], k: usize) -> u64
     requires { k < 64 }
     ensures { result ≡ word s.now k }
@@ -104,7 +104,7 @@ fn model_right(s: &[u8; 512]) -> bool
     model == 0 || (model == 1 && 2 <= word(s, 1))
 }
 
-// By word 3 of block 0, whatever else stands there.
+// By its number: 1, Wilson; NRTL by every other.
 fn model_in(w: u64) -> Model
     ensures { result ≡ (if w == 1 then Model.Wilson else Model.Nrtl) }
 {
@@ -114,6 +114,7 @@ fn model_in(w: u64) -> Model
     }
 }
 
+// By word 3 of block 0, whatever else stands there.
 #[tactic(auto, unfolding(crate::specs::Book::model_in))]
 pub fn model_of(book: &[u8]) -> Model
     ensures { result ≡ model_of book.now }
@@ -149,7 +150,7 @@ fn solvents_right(solvents: &[[u8; 512]]) -> bool
 }
 
 // 0 < low ≤ high < t_r (K), the reducing value positive.
-// Kept: `f` is a word's place, with room for the record behind it; as an enum of two records it would be turned into 3 or 24 here.
+// Kept: `f` is a word's place, with room for the record behind it (`record_right` too); as an enum of two records it would be turned into 3 or 24 here.
 fn range_right(s: &[u8; 512], f: usize) -> bool
     requires { f ≤ 24 }
     ensures { result ≡ range_right (word s.now) f }

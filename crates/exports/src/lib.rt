@@ -271,6 +271,7 @@ fn repeat(table: &[f64; 512], s: Tabled, x: &[f64; 8], count: u64) -> u64
     count
 }
 
+// Kept: parameters, then tables, as in `excess_in`: two lines, and a function of its own would repeat the contract of `tables`.
 fn repeat_from(book: &[u8], n: usize, t: Temperature, x: &[f64; 8], count: u64) -> u64
     ensures { result ≡ count }
 {

@@ -2,11 +2,11 @@
 // the rest (13 to 21), put to that feed; 34 where mass fractions can't be brought to moles.
 #![tactic(auto)]
 
-ghost use Rattle.std.specs.Prelude.{◌≡◌, ◌≤◌, ◌+◌};
+ghost use Rattle.std.specs.Prelude.{◌≡◌, ◌+◌};
 ghost use Rattle.floats.specs.Arithmetic.{◌⊘◌};
 ghost use Rattle.floats.specs.Small.{float};
 ghost use Rattle.floats.specs.Vector.{at, vec, places};
-ghost use Rattle.floats.specs.Outcome.{ok, bind, need};
+ghost use Rattle.floats.specs.Outcome.{ok, need};
 ghost use Rattle.outcome.specs.Refused.{outcome_of};
 ghost use Rattle.blocks.specs.Words.{word};
 ghost use Rattle.book.specs.Places.{words};
@@ -66,7 +66,7 @@ impl TryFrom<u64> for Task {
 // K, Pa; the first n fractions and K values, 0.0 past them.
 #[derive(Clone, Copy)]
 pub struct Question {
-    // Kept: a number, since a public call takes a question with any (no `requires` on a `pub fn`).
+    // Kept: a number: a narrower type would ask more of who calls `sheet::answer_asked`.
     pub task: u64,
     pub temperature: f64,
     pub pressure: f64,
@@ -78,6 +78,7 @@ pub struct Question {
 // Of the options' tolerances.
 const LARGEST_TOLERANCE: f64 = 1e-6;
 
+// Kept: by number, here and below, since a question's task is one; each test of a block reads word 1 as its definition does.
 pub fn needs_temperature(task: u64) -> bool
     ensures { result ≡ needs_temperature task }
 {
@@ -104,7 +105,7 @@ fn needs_ratios(task: u64) -> bool
     matches!(task, 8..=9)
 }
 
-// Kept: as in records, since one line in each is shorter than a `pub fn` (and `blocks` knows no floats).
+// Kept: as in records; one line each; shared it is longer, and no plainer.
 fn float_at(q: &[u8], k: usize) -> f64
     ensures { result ≡ float (word q.now) k }
 {
@@ -112,6 +113,7 @@ fn float_at(q: &[u8], k: usize) -> f64
 }
 
 // The first n floats from word `from` on, 0.0 past them.
+// Kept: a loop to n, here and in `over_masses`: `from_fn` would go over all eight.
 pub fn floats_from(q: &[u8], from: usize, n: usize) -> [f64; 8]
     ensures { result ≡ vec (λ i. float (word q.now) (from + i)) (places n) }
 {
@@ -151,11 +153,11 @@ fn ratios_positive(q: &[u8], n: usize, k: &[f64; 8]) -> bool
     !needs_ratios(word(q, 1)) || thermo_types::all_positive(k, n)
 }
 
-#[tactic(auto, unfolding(crate::specs::Asked::tolerance_right))]
+#[tactic(auto, unfolding(crate::specs::Asked::tolerance_right, floats::specs::Small::positive))]
 fn tolerance_right(v: f64) -> bool
     ensures { result ≡ tolerance_right v }
 {
-    floats::is_finite(v) && 0.0 < v && v <= LARGEST_TOLERANCE
+    floats::positive(v) && v <= LARGEST_TOLERANCE
 }
 
 // `validate`: both tolerances, the threshold, the bracket (K).
@@ -203,7 +205,7 @@ fn limits_few(q: &[u8]) -> bool
     (!needs_options(task) || (most && limited(word(q, 14)))) && (!needs_ratios(task) || most)
 }
 
-// Kept: six fields by their words, like other terms in records in its look alone.
+// Six fields by their words.
 #[tactic(auto, unfolding(crate::specs::Asked::options_in))]
 fn options_in(q: &[u8]) -> ActivityOptions
     ensures { result ≡ options_in (word q.now) }
@@ -284,6 +286,7 @@ fn check_limits(q: &[u8]) -> Result<(), Refusal>
 }
 
 // Questions 13 to 18 of the feed x and the K values k.
+// Kept: four parameters and no struct: `inputs_finite` alone reads them all.
 #[tactic(auto, unfolding(crate::specs::Asked::inputs_right, floats::specs::Outcome::need))]
 fn check_inputs(q: &[u8], n: usize, x: &[f64; 8], k: &[f64; 8]) -> Result<(), Refusal>
     ensures { outcome_of result ≡ inputs_right (word q.now) (places n) x.now k.now (ok tt) }
