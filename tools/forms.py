@@ -11,9 +11,10 @@ import os
 import re
 import sys
 
+# A function or a method: indentation, visibility, name, generics, parameters, result, clauses, body.
 FUNCTION = re.compile(
-    r'^((?:pub(?:\(crate\))? )?(?:extern "C" )?)fn (\w+)(<[^{]*?>)?\((.*?)\)(?: -> ([^\n{]+?))?'
-    r"\n?((?:\s+(?:requires|ensures)[^\n]*\n)*)\s*\{\n(.*?)^\}\n",
+    r'^( *)((?:pub(?:\(crate\))? )?(?:extern "C" )?)fn (\w+)(<[^{]*?>)?\((.*?)\)(?: -> ([^\n{]+?))?'
+    r"(?: |\n((?:\1 +\S[^\n]*\n)*)\1)\{\n(.*?)^\1\}\n",
     re.S | re.M,
 )
 
@@ -49,12 +50,12 @@ def places(top):
                 if re.search(r"Refused|No\(|no_|refuse|return [1-9]\d", m[0]):
                     yield "1 refusal as a number", f"{where}:{line}: {m[0].strip()}"
         for m in FUNCTION.finditer(text):
-            head, name, generic, args, result, clauses, body = m.groups()
+            _, head, name, generic, args, result, clauses, body = m.groups()
             crate = where.split("/")[0]
             if "extern" not in head:
                 named[name].append((crate, shape(args)))
             shaped[shape(body)].append(f"{crate}::{name}")
-            for fact in re.findall(r"requires[^{\n]*\{(.*)\}", clauses):
+            for fact in re.findall(r"requires[^{\n]*\{(.*)\}", clauses or ""):
                 for part in fact.split(" × "):
                     facts[re.sub(r"^\(|\)$", "", part.strip())] += 1
             names = [f"{a}: {t}" for a, t in re.findall(r"(\w+): ([^,]+?)(?:,|$)", " ".join(args.split()))]

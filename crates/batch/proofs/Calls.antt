@@ -1,6 +1,6 @@
 -- The ways through a call on many feeds, each by the function that takes it. Assumes nothing.
 use Prim.Native.Nat.{ℕ, ◌+◌, ◌*◌, ◌-◌, ◌%◌, ◌≤◌, ◌<◌}
-use mathlib.Core.Path.{◌≡◌, refl, sym, ap, ◌∙◌}
+use mathlib.Core.Path.{◌≡◌, refl, sym, ◌∙◌}
 use mathlib.Core.Bool.{Bool, true, false, ◌&&◌, true≢false}
 use mathlib.Core.List.{List}
 use native.Mathlib.Nat.{min-eq_left}
@@ -11,13 +11,11 @@ use lib.Dec.{eqb, leb}
 use lib.ListN.{length, take, drop}
 use lib.Ieee.{Float}
 use lib.Ieee.Bits.{is_true}
-use Rattle.std.specs.Prelude.{Option, Some, None, Result, Ok, Err}
+use Rattle.std.specs.Prelude.{Some, None, Result, Ok, Err}
 use Rattle.std.specs.Result.{IsErrAnd}
-use Rattle.floats.specs.Fold.{fold_to}
 use Rattle.floats.specs.Small.{float}
 use Rattle.floats.specs.Vector.{places, vec}
 use Rattle.floats.specs.Outcome.{Out, ok, no, bind, need}
-use Rattle.floats.proofs.Folds.{fold_cong}
 use Rattle.floats.proofs.Outcomes.{need_inv, bind_inv, Each, each-ok, each-need, each-bind}
 use Rattle.outcome.specs.declared.Refusal.{Refusal}
 use Rattle.outcome.specs.Refused.{number, number_in}
@@ -34,13 +32,13 @@ use Rattle.thermo_models.specs.Mixture.{Mixture}
 use Rattle.question.specs.declared.Question.{Question}
 use Rattle.question.specs.declared.Task.{Task}
 use Rattle.question.specs.Inputs.{needs_temperature, task_found}
-use Rattle.question.specs.Asked.{task_in, kind_right, inputs_right, moles_of, limits_right, question_from, rest_of}
+use Rattle.question.specs.Asked.{task_in, inputs_right, moles_of, limits_right, question_from, rest_of}
 use Rattle.replies.specs.Blocks.{answer_room, refusal_bytes}
 use Rattle.sheet.specs.Ready.{Readied}
-use Rattle.sheet.specs.Sheet.{Answers, number_of, written, answer_to, reply_of}
+use Rattle.sheet.specs.Sheet.{Answers, number_of, written, reply_of}
 use Rattle.refusals.specs.Numbered.{Numbered}
-use Rattle.refusals.proofs.Laws.{never, num_bind}
-use Rattle.refusals.proofs.Theorem.{num_rest, num_answer}
+use Rattle.refusals.proofs.Laws.{never, numbers}
+use Rattle.refusals.proofs.Theorem.{num_task_in, num_rest, num_answer}
 use Rattle.batch.specs.Feeds.{feed_count, feeds_right, feed_at, task_among, feed_to, feed_reply, parts_to, feeds_of, slice_of, Keeps}
 use Rattle.batch.proofs.Parts.{parts-turn, refusal-put}
 
@@ -96,21 +94,18 @@ module _ (rule : Rule) (question : List ℕ) {old mid : List ℕ} where
   refuses (ok bs) e a l h = absurd (never e a.number)
   refuses (no k) e a l h = h ∙ rw (a.bytes, a.number) (refusal-put rule question k old l)
 
--- ---- a feed x, of a question whose task is among those at a temperature
-module _ (book : List ℕ) (version n : ℕ) (question : List ℕ) (x : List Float) (v : (task : ℕ) × (ok task ≡ task_among book version question)) where
-  pub rested : feed_to book version n question x ≡ bind (rest_of question (molar_mass (words book)) n x) (answer_to book n)
-  unfolding feed_to bind
-  rested = rw (sym v.1)
+-- ---- a feed x
+numbered : (book : List ℕ) (version n : ℕ) (question : List ℕ) (x : List Float) → Numbered (model_of book) (feed_to book version n question x)
+unfolding feed_to task_among
+numbered book version n question x = search (numbers, num_task_in, num_rest, num_answer) depth 8
 
-  numbered : Numbered (model_of book) (feed_to book version n question x)
-  numbered = rw rested (num_bind (rest_of question (molar_mass (words book)) n x) (num_rest question (molar_mass (words book)) n x) (λ q. num_answer book n q))
-
-  module _ {q : Question} (e : ok q ≡ rest_of question (molar_mass (words book)) n x) where
+module _ (book : List ℕ) (version n : ℕ) (question : List ℕ) (x : List Float) where
+  module _ {k : ℕ} (v : ok k ≡ task_among book version question) {q : Question} (e : ok q ≡ rest_of question (molar_mass (words book)) n x) where
     asks : Reads (word question) q
     asks = (reads question (molar_mass (words book)) n x).each q (sym e)
 
     pub feed-warm : needs_temperature q.task ≡ true
-    feed-warm = rw asks.task (among-warm book version question v.1)
+    feed-warm = rw asks.task (among-warm book version question v)
 
     pub feed_ready : {m : Mixture} {r : Result Tabled Refusal} {table ps : List Float} → Readied m (word question 1) (float (word question) 2) (float (word question) 3) r table ps
         → Readied m q.task q.temperature q.pressure r table ps
@@ -119,7 +114,7 @@ module _ (book : List ℕ) (version n : ℕ) (question : List ℕ) (x : List Flo
   -- its reply, by what the call on it gave
   module _ (rule : Rule) {r : Result Unit Refusal} {old mid : List ℕ} (a : Answers (feed_to book version n question x) (number_in r) old mid) where
     pub replied : r ≡ Ok tt → mid ≡ put old 0 (reply_of rule question (feed_to book version n question x))
-    replied e = answered rule question (feed_to book version n question x) numbered (rw e at a)
+    replied e = answered rule question (feed_to book version n question x) (numbered book version n question x) (rw e at a)
 
     pub refused : {e : Refusal} {new : List ℕ} → r ≡ Err e → answer_room ≤ length old → new ≡ stored mid 0 (refusal_bytes rule question (number e))
         → new ≡ put old 0 (reply_of rule question (feed_to book version n question x))
@@ -149,12 +144,6 @@ pub feeds_turn : (book : List ℕ) (version n : ℕ) (question feeds old out : L
     → put_mid (answer_room * k) (length out - answer_room * k) out y ≡ parts_to book version n question feeds old (k + 1)
 unfolding parts_to feed_reply feed_at
 feeds_turn book version n question feeds old out k u f e h = parts-turn (feed_reply book version n question feeds) k old out (rw (u, f) at e) h
-
-pub all_refused : (book : List ℕ) (version n : ℕ) (question feeds old : List ℕ) (count : ℕ) {r : ℕ} {rule : Rule} {new : List ℕ} → rule ≡ rule_of book
-    → no r ≡ task_among book version question → new ≡ fold_to (λ j (l : List ℕ). put l (answer_room * j) (refusal_bytes rule question r)) old count
-    → new ≡ parts_to book version n question feeds old count
-unfolding parts_to feed_reply feed_to reply_of bind
-all_refused book version n question feeds old count u e h = h ∙ fold_cong old count (λ k l c. rw (u, sym e))
 
 -- ---- the call
 module _ {o : Out (List ℕ)} {old : List ℕ} where

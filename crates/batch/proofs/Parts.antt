@@ -37,10 +37,3 @@ part_room out old k count l h e = simp (length-take, length-drop) (omega arith)
 pub refusal-put : (rule : Rule) (question : List ℕ) (r : ℕ) (old : List ℕ) → answer_room ≤ length old → stored old 0 (refusal_bytes rule question r) ≡ put old 0 (refusal_bytes rule question r)
 unfolding refusal_bytes
 refusal-put rule question r old l = stored-fits old (refusal_bytes rule question r) 0 (length_block-bytes rule (word_at (refusal_words question r))) (omega arith)
-
-pub refusal-turn : (rule : Rule) (question : List ℕ) (r k count : ℕ) (old out : List ℕ) {x : List ℕ} → k < count → answer_room * count ≤ length old → length out ≡ length old
-    → x ≡ stored (take (length out - answer_room * k) (drop (answer_room * k) out)) 0 (refusal_bytes rule question r)
-    → out ≡ fold_to (λ j (l : List ℕ). put l (answer_room * j) (refusal_bytes rule question r)) old k
-    → put_mid (answer_room * k) (length out - answer_room * k) out x ≡ fold_to (λ j (l : List ℕ). put l (answer_room * j) (refusal_bytes rule question r)) old (k + 1)
-refusal-turn rule question r k count old out l h n e o =
-    parts-turn (λ j. refusal_bytes rule question r) k old out (e ∙ refusal-put rule question r _ (part_room out old k count l h n)) o

@@ -2,23 +2,19 @@
 // vapor pressures are worked out once, when a feed first needs them.
 #![tactic(auto)]
 
-ghost use Rattle.std.specs.Prelude.{◌≡◌, List, ℕ, ◌≤◌, ◌*◌, length};
+ghost use Rattle.std.specs.Prelude.{◌≡◌, ◌≤◌, ◌*◌, length};
 ghost use Rattle.floats.specs.Small.{float};
 ghost use Rattle.floats.specs.Vector.{places};
-ghost use Rattle.floats.specs.Fold.{fold_to};
-ghost use Rattle.floats.specs.Outcome.{ok};
-ghost use Rattle.outcome.specs.Refused.{number, number_in};
+ghost use Rattle.outcome.specs.Refused.{number_in};
 ghost use Rattle.blocks.specs.Words.{word};
-ghost use Rattle.blocks.specs.Bytes.{put};
-ghost use Rattle.book.specs.Book.{rule_of};
 ghost use Rattle.question.specs.Inputs.{task_found};
 ghost use Rattle.thermo_models.specs.Mixture.{mixture_of};
-ghost use Rattle.replies.specs.Blocks.{answer_room, refusal_bytes};
+ghost use Rattle.replies.specs.Blocks.{answer_room};
 ghost use Rattle.sheet.specs.Ready.{Readied};
-ghost use Rattle.sheet.specs.Sheet.{Answers, number_of, reply_of};
-ghost use Rattle.batch.specs.Feeds.{feeds_right, task_among, feed_to, parts_to, feeds_of, slice_of, Keeps};
+ghost use Rattle.sheet.specs.Sheet.{Answers, number_of};
+ghost use Rattle.batch.specs.Feeds.{feed_count, feeds_right, task_among, feed_to, parts_to, feeds_of, slice_of, Keeps};
 
-use blocks::{Rule, word};
+use blocks::word;
 use book::Head;
 use outcome::Refusal;
 use question::{Task, floats_from, read_rest, read_task};
@@ -26,6 +22,7 @@ use replies::ANSWER_ROOM;
 use thermo_models::Tabled;
 
 // 33
+// Kept: one line, as pool's for drums; shared it would be a public function of its own, and no plainer.
 #[tactic(auto, unfolding(crate::specs::Feeds::feeds_right))]
 fn feeds_right(feeds: &[u8]) -> bool
     ensures { result ≡ feeds_right feeds.now }
@@ -33,142 +30,95 @@ fn feeds_right(feeds: &[u8]) -> bool
     feeds.len() % 64 == 0 && matches!(feeds.len() / 64, 1..=64)
 }
 
-// 11, 12 and 36, which are the same for every feed.
-fn task_among(rule: Rule, version: u64, question: &[u8]) -> Result<Task, Refusal>
-    ensures { (book : List ℕ) → rule ≡ rule_of book → task_found result ≡ task_among book version question.now }
-{
-    let task = read_task(rule, question)?;
-    if !question::needs_temperature(u64::from(task)) {
-        return Err(Refusal::Task);
-    }
-    if !question::kind_right(version, question) {
-        return Err(Refusal::FeedKind);
-    }
-    Ok(task)
+// What is kept from feed to feed: what was made ready, once a feed needed it.
+#[derive(Clone, Copy)]
+struct Kept {
+    made: Option<Result<Tabled, Refusal>>,
+    table: [f64; 512],
+    ps: [f64; 8],
 }
 
-fn kept_or_made(
-    book: &[u8],
-    n: usize,
-    question: &[u8],
-    kept: Option<Result<Tabled, Refusal>>,
-    table: &mut [f64; 512],
-    ps: &mut [f64; 8],
-) -> Result<Tabled, Refusal>
-    ensures { Keeps (mixture_of book.now (places n)) question.now kept table.old ps.old → Readied (mixture_of book.now (places n)) (word question.now 1) (float (word question.now) 2) (float (word question.now) 3) result table.new ps.new }
-{
-    match kept {
-        Some(made) => made,
-        None => sheet::make_ready(
-            book,
-            n,
-            word(question, 1),
-            floats::float_of(word(question, 2)),
-            floats::float_of(word(question, 3)),
-            table,
-            ps,
-        ),
-    }
-}
-
-// The feed x: its answer's blocks at the front of the slice, and what is kept for the next feed.
-fn answer_feed(
-    book: &[u8],
+// A question to a book that was opened.
+#[derive(Clone, Copy)]
+struct Call<'a> {
+    book: &'a [u8],
     head: Head,
-    question: &[u8],
-    x: &[f64; 8],
-    kept: &mut Option<Result<Tabled, Refusal>>,
-    table: &mut [f64; 512],
-    ps: &mut [f64; 8],
-    out: &mut [u8],
-) -> Result<(), Refusal>
-    requires { (answer_room ≤ length out.old) × ((task : ℕ) × (ok task ≡ task_among book.now head.version question.now)) × Keeps (mixture_of book.now (places head.n)) question.now kept.old table.old ps.old }
-    ensures keeps { Keeps (mixture_of book.now (places head.n)) question.now kept.new table.new ps.new }
-    ensures answers { Answers (feed_to book.now head.version (places head.n) question.now x.now) (number_in result) out.old out.new }
-{
-    let q = read_rest(question, book, head.n, x)?;
-    let made = kept_or_made(book, head.n, question, *kept, table, ps);
-    *kept = Some(made);
-    sheet::answer_ready(book, head.n, made, table, ps, q, out)
+    question: &'a [u8],
 }
 
-// Its reply: a refusal is a block too.
-fn reply_feed(
-    rule: Rule,
-    book: &[u8],
-    head: Head,
-    question: &[u8],
-    x: &[f64; 8],
-    kept: &mut Option<Result<Tabled, Refusal>>,
-    table: &mut [f64; 512],
-    ps: &mut [f64; 8],
-    out: &mut [u8],
-)
-    requires { (answer_room ≤ length out.old) × ((task : ℕ) × (ok task ≡ task_among book.now head.version question.now)) × Keeps (mixture_of book.now (places head.n)) question.now kept.old table.old ps.old }
-    ensures keeps { Keeps (mixture_of book.now (places head.n)) question.now kept.new table.new ps.new }
-    ensures out_after { out.new ≡ put out.old 0 (reply_of rule question.now (feed_to book.now head.version (places head.n) question.now x.now)) }
-{
-    let answered = answer_feed(book, head, question, x, kept, table, ps, out);
-    if let Err(refusal) = answered {
-        replies::write_refusal(rule, question, u64::from(refusal), out);
+impl<'a> Call<'a> {
+    // 11, 12 and 36, which are the same for every feed.
+    fn task_among(self) -> Result<Task, Refusal>
+        ensures { task_found result ≡ task_among self.entry.book.now self.entry.head.version self.entry.question.now }
+    {
+        // Kept: the task's number again below, since `needs_temperature` is public and takes any.
+        let task = read_task(book::rule_of(self.book), self.question)?;
+        if !question::needs_temperature(u64::from(task)) {
+            return Err(Refusal::Task);
+        }
+        if !question::kind_right(self.head.version, self.question) {
+            return Err(Refusal::FeedKind);
+        }
+        Ok(task)
     }
-}
 
-// What one feed needs is kept for the others: the tables and vapor pressures are worked out once.
-fn answer_feeds(
-    rule: Rule,
-    book: &[u8],
-    head: Head,
-    question: &[u8],
-    feeds: &[u8],
-    count: usize,
-    out: &mut [u8],
-)
-    requires { (count ≤ 64) × (answer_room * count ≤ length out.old) × (rule ≡ rule_of book.now) × ((task : ℕ) × (ok task ≡ task_among book.now head.version question.now)) }
-    ensures { out.new ≡ parts_to book.now head.version (places head.n) question.now feeds.now out.old count }
-{
-    let mut table = [0.0; 512];
-    let mut ps = [0.0; 8];
-    let mut kept = None;
-    for k in 0..count {
-        let x = floats_from(feeds, 8 * k, head.n);
-        reply_feed(
-            rule,
-            book,
-            head,
-            question,
-            &x,
-            &mut kept,
-            &mut table,
-            &mut ps,
-            &mut out[ANSWER_ROOM * k..],
-        );
+    fn kept_or_made(self, kept: &mut Kept) -> Result<Tabled, Refusal>
+        ensures { Keeps (mixture_of self.entry.book.now (places self.entry.head.n)) self.entry.question.now kept.old.made kept.old.table kept.old.ps → Readied (mixture_of self.entry.book.now (places self.entry.head.n)) (word self.entry.question.now 1) (float (word self.entry.question.now) 2) (float (word self.entry.question.now) 3) result kept.new.table kept.new.ps }
+    {
+        match kept.made {
+            Some(made) => made,
+            None => sheet::make_ready(
+                self.book,
+                self.head.n,
+                word(self.question, 1),
+                floats::float_of(word(self.question, 2)),
+                floats::float_of(word(self.question, 3)),
+                &mut kept.table,
+                &mut kept.ps,
+            ),
+        }
     }
-}
 
-// The same refusal for every feed.
-fn refuse_feeds(rule: Rule, question: &[u8], refusal: Refusal, count: usize, out: &mut [u8])
-    requires { (count ≤ 64) × (answer_room * count ≤ length out.old) }
-    ensures { out.new ≡ fold_to (λ j (l : List ℕ). put l (answer_room * j) (refusal_bytes rule question.now (number refusal))) out.old count }
-{
-    for k in 0..count {
-        replies::write_refusal(
-            rule,
-            question,
-            u64::from(refusal),
-            &mut out[ANSWER_ROOM * k..],
-        );
+    // The feed x: its answer's blocks at the front of the slice, and what is kept for the next feed.
+    fn answer_feed(
+        self,
+        among: Result<Task, Refusal>,
+        x: &[f64; 8],
+        kept: &mut Kept,
+        out: &mut [u8],
+    ) -> Result<(), Refusal>
+        requires { (answer_room ≤ length out.old) × (task_found among ≡ task_among self.book.now self.head.version self.question.now) × Keeps (mixture_of self.book.now (places self.head.n)) self.question.now kept.old.made kept.old.table kept.old.ps }
+        ensures keeps { Keeps (mixture_of self.entry.book.now (places self.entry.head.n)) self.entry.question.now kept.new.made kept.new.table kept.new.ps }
+        ensures answers { Answers (feed_to self.entry.book.now self.entry.head.version (places self.entry.head.n) self.entry.question.now x.now) (number_in result) out.old out.new }
+    {
+        among?;
+        let n = self.head.n;
+        let q = read_rest(self.question, self.book, n, x)?;
+        let made = self.kept_or_made(kept);
+        kept.made = Some(made);
+        sheet::answer_ready(self.book, n, made, &kept.table, &kept.ps, q, out)
     }
-}
 
-fn answer_all(book: &[u8], head: Head, question: &[u8], feeds: &[u8], count: usize, out: &mut [u8])
-    requires { (count ≤ 64) × (answer_room * count ≤ length out.old) }
-    ensures { out.new ≡ parts_to book.now head.version (places head.n) question.now feeds.now out.old count }
-{
-    let rule = book::rule_of(book);
-    match task_among(rule, head.version, question) {
-        Err(refusal) => refuse_feeds(rule, question, refusal, count, out),
-        Ok(_) => answer_feeds(rule, book, head, question, feeds, count, out),
+    // A refusal is a block too. What one feed needs is kept for the others: the tables and vapor pressures are worked out once.
+    fn answer_feeds(self, feeds: &[u8], out: &mut [u8])
+        requires { (feed_count feeds.now ≤ 64) × (answer_room * feed_count feeds.now ≤ length out.old) }
+        ensures { out.new ≡ parts_to self.entry.book.now self.entry.head.version (places self.entry.head.n) self.entry.question.now feeds.now out.old (feed_count feeds.now) }
+    {
+        let rule = book::rule_of(self.book);
+        let among = self.task_among();
+        let mut kept = Kept {
+            made: None,
+            table: [0.0; 512],
+            ps: [0.0; 8],
+        };
+        // Kept: parts by their index, since of a slice that was lent by `as_chunks_mut` a proof knows no bytes afterwards.
+        for k in 0..feeds.len() / 64 {
+            let x = floats_from(feeds, 8 * k, self.head.n);
+            let part = &mut out[ANSWER_ROOM * k..];
+            if let Err(refusal) = self.answer_feed(among, &x, &mut kept, part) {
+                replies::write_refusal(rule, self.question, u64::from(refusal), part);
+            }
+        }
     }
 }
 
@@ -185,6 +135,11 @@ pub fn answer(book: &[u8], question: &[u8], feeds: &[u8], out: &mut [u8]) -> Res
     if out.len() < ANSWER_ROOM * count {
         return Err(Refusal::AnswerShort);
     }
-    answer_all(book, head, question, feeds, count, out);
+    let call = Call {
+        book,
+        head,
+        question,
+    };
+    call.answer_feeds(feeds, out);
     Ok(())
 }

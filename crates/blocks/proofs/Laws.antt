@@ -1,8 +1,8 @@
 -- Laws of words, sums and rows of bytes, which the proofs of reading and writing cite. Assumes nothing.
-use Rattle.std.proofs.Common.{◌≡◌, ℕ, zero, suc, ◌+◌, ◌-◌, ◌*◌, ◌/◌, ◌%◌, ◌^◌, ◌<◌, ◌≤◌, List, [], ◌++◌, length, get_or, take, drop, set, sym, refl, ap, ◌∙◌, ⊎_elim, append_assoc, append-nil, add-zero, suc-mul, eq-or-lt_of_le, add-one, arith, length-append, length-drop, drop_of_length-le, length-take, take_all, drop-drop, take_at, get_or-append-add, get_or-take, get_or-drop, le-leb}
+use Rattle.std.proofs.Common.{◌≡◌, ℕ, zero, suc, ◌+◌, ◌-◌, ◌*◌, ◌/◌, ◌%◌, ◌^◌, ◌<◌, ◌≤◌, List, [], ◌++◌, length, get_or, take, drop, sym, refl, ap, ◌∙◌, ⊎_elim, append_assoc, append-nil, add-zero, suc-mul, eq-or-lt_of_le, add-one, arith, length-append, length-drop, drop_of_length-le, length-take, take_all, drop-drop, take_at, get_or-append-add, get_or-take, get_or-drop, le-leb}
 use lib.ListN.{get_or-eq_default}
 use borrow.Author.Tests.{lt-leb}
-use lib.Seq.{sets-eq, take-nil, drop-append-add}
+use lib.Seq.{take-nil, drop-append-add}
 use borrow.Rule.Slice.PartMut.{put_mid}
 use Rattle.std.specs.Int.{w64, from_le_bytes, to_le_bytes}
 use Rattle.std.proofs.lemmas.Nat.{from_le_bytes-to_le_bytes_8}
@@ -26,9 +26,6 @@ length_block s k h = simp (length-take, length-drop) (omega arith)
 pub part-block : (s : List ℕ) (k : ℕ) → take (512 * k + 512 - 512 * k) (drop (512 * k) s) ≡ block s k
 unfolding block
 part-block s k = let e : 512 * k + 512 - 512 * k ≡ 512 = omega arith in rw e
-
-pub byte_past : (s : List ℕ) (i : ℕ) → length s ≤ i → 0 ≡ byte s i
-byte_past s i h = sym (get_or-eq_default s 0 h)
 
 pub word-past : (s : List ℕ) (k : ℕ) → length s / 8 < k → 0 ≡ word s k
 unfolding word

@@ -1,9 +1,9 @@
 -- Arrays made by `from_fn`: each element is what the closure gives at its index. Assumes nothing.
 use Prim.Native.Nat.{ℕ, zero, suc, ◌+◌, ◌<◌, ◌≤◌}
-use mathlib.Core.Path.{◌≡◌, refl, sym, ◌∙◌, ap, subst}
+use mathlib.Core.Path.{◌≡◌, ◌∙◌, subst}
 use native.Mathlib.Omega.{arith}
 use mathlib.Core.List.{List}
-use lib.ListN.{length, get_or}
+use lib.ListN.{get_or}
 use denote.Param.Members.{Mut}
 use Rattle.std.proofs.Common.{⊎_elim, eq-or-lt_of_le}
 use Rattle.std.specs.Fn.{Called}

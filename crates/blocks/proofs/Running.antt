@@ -17,9 +17,6 @@ carry-left a b = omega arith
 carry-both : (a b : ℕ) → (a % 2 ^ 64 + b % 2 ^ 64) % 2 ^ 64 ≡ (a + b) % 2 ^ 64
 carry-both a b = omega arith
 
-carry-right : (a b : ℕ) → (a + b % 2 ^ 64) % 2 ^ 64 ≡ (a + b) % 2 ^ 64
-carry-right a b = omega arith
-
 dropped : (a q : ℕ) → (a + 2 ^ 64 * q) % 2 ^ 64 ≡ a % 2 ^ 64
 dropped a q = omega arith
 

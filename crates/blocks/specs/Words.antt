@@ -1,5 +1,5 @@
 -- Bytes as little-endian words of 64 bits, blocks of 512 bytes, and the check sum. Assumes nothing.
-use Rattle.std.specs.Prelude.{ℕ, zero, suc, ◌+◌, ◌*◌, ◌%◌, ◌^◌, ◌<◌, Bool, List, take, drop, ◌==◌, slice_index}
+use Rattle.std.specs.Prelude.{◌≡◌, ℕ, zero, suc, ◌+◌, ◌*◌, ◌%◌, ◌^◌, ◌<◌, Bool, List, take, drop, ◌==◌, slice_index}
 use Rattle.blocks.specs.declared.Rule.{Rule}
 use Rattle.blocks.specs.declared.Rule.TheVariants.{Plain, Running}
 
@@ -46,3 +46,10 @@ sum_by Running w = running_sum w 63
 -- of a block's words: is word 63 the check of the others?
 unfoldable pub check_right : Rule → (ℕ → ℕ) → Bool
 check_right rule w = sum_by rule w == w 63
+
+-- a reader of words, by what it may be asked for and by what it gives: words 0 to 62, those of w
+abbrev pub TakesWords : (ℕ → Type 0) → Type 0
+TakesWords takes = (k : ℕ) → k < 63 → takes k
+
+abbrev pub GivesWords : (ℕ → ℕ → Type 0) → (ℕ → ℕ) → Type 0
+GivesWords gives w = (k x : ℕ) → k < 63 → gives k x → x ≡ w k

@@ -1,8 +1,8 @@
 // Blocks of 512 bytes: 64 little-endian words of 64 bits, the last the check of the others.
 #![tactic(auto)]
 
-ghost use Rattle.std.specs.Prelude.{◌≡◌, ℕ, ◌+◌, ◌*◌, ◌%◌, ◌^◌, ◌<◌, ◌≤◌, ◌++◌, length, drop};
-ghost use Rattle.blocks.specs.Words.{byte, word, word_of, word_from, block, check_sum, running_sum, sum_by, check_right};
+ghost use Rattle.std.specs.Prelude.{◌≡◌, ℕ, ◌+◌, ◌*◌, ◌%◌, ◌^◌, ◌≤◌, ◌++◌, length, drop};
+ghost use Rattle.blocks.specs.Words.{byte, word, word_of, word_from, block, check_sum, running_sum, sum_by, check_right, TakesWords, GivesWords};
 ghost use Rattle.blocks.specs.Bytes.{bytes, row_to, put, stored, block_bytes, word_at};
 
 // How a block's check is worked out of its words 0 to 62: plainly their sum, or the sum of their running sums.
@@ -68,9 +68,24 @@ pub fn block(book: &[u8], k: usize) -> &[u8]
     &book[from..]
 }
 
+impl Rule {
+    // The sum of words 0 to 62, modulo 2^64.
+    // Kept: `match self` is the definition by cases.
+    fn sum<F: Fn(usize) -> u64>(self, word: F) -> u64
+        requires { TakesWords (F.pre word) }
+        ensures { (w : ℕ → ℕ) → GivesWords (F.post word) w → result ≡ sum_by self w }
+    {
+        match self {
+            Rule::Plain => plain_sum(word),
+            Rule::Running => running_sum(word),
+        }
+    }
+}
+
+// Kept: `map` and `fold` would ask `word` for any index, a block has 63; here and in `running_sum`.
 fn plain_sum<F: Fn(usize) -> u64>(word: F) -> u64
-    requires { (k : ℕ) → k < 63 → F.pre word k }
-    ensures { (w : ℕ → ℕ) → ((k x : ℕ) → k < 63 → F.post word k x → x ≡ w k) → result ≡ check_sum w 63 }
+    requires { TakesWords (F.pre word) }
+    ensures { (w : ℕ → ℕ) → GivesWords (F.post word) w → result ≡ check_sum w 63 }
 {
     let mut sum: u64 = 0;
     for k in 0usize..63 {
@@ -80,8 +95,8 @@ fn plain_sum<F: Fn(usize) -> u64>(word: F) -> u64
 }
 
 fn running_sum<F: Fn(usize) -> u64>(word: F) -> u64
-    requires { (k : ℕ) → k < 63 → F.pre word k }
-    ensures { (w : ℕ → ℕ) → ((k x : ℕ) → k < 63 → F.post word k x → x ≡ w k) → result ≡ running_sum w 63 }
+    requires { TakesWords (F.pre word) }
+    ensures { (w : ℕ → ℕ) → GivesWords (F.post word) w → result ≡ running_sum w 63 }
 {
     let mut sum: u64 = 0;
     let mut runs: u64 = 0;
@@ -90,17 +105,6 @@ fn running_sum<F: Fn(usize) -> u64>(word: F) -> u64
         runs = runs.wrapping_add(sum);
     }
     runs
-}
-
-// The sum of words 0 to 62 by a rule, modulo 2^64.
-fn sum_by<F: Fn(usize) -> u64>(rule: Rule, word: F) -> u64
-    requires { (k : ℕ) → k < 63 → F.pre word k }
-    ensures { (w : ℕ → ℕ) → ((k x : ℕ) → k < 63 → F.post word k x → x ≡ w k) → result ≡ sum_by rule w }
-{
-    match rule {
-        Rule::Plain => plain_sum(word),
-        Rule::Running => running_sum(word),
-    }
 }
 
 fn lanes_sum(a0: u64, a1: u64, a2: u64, t0: u64, t1: u64, t2: u64, t3: u64) -> u64
@@ -118,6 +122,7 @@ fn lanes_sum(a0: u64, a1: u64, a2: u64, t0: u64, t1: u64, t2: u64, t3: u64) -> u
 // and the sum t of what a was before each row, and no row waits for the one word before. The rows go by the slice, at most
 // a block's sixteen, and its length is tested after them: a count of 16 would have the compiler take the loop apart before it
 // puts two lanes to a step, and the sum would take twice as long.
+// Kept: eight scalars: as two arrays each line would be a loop over four, inside the one whose shape matters.
 fn running_rows(s: &[u8]) -> u64
     ensures { 512 ≤ length s.now → result ≡ running_sum (word s.now) 63 }
 {
@@ -145,6 +150,7 @@ fn running_rows(s: &[u8]) -> u64
 
 // The sum of a block's words 0 to 62 by a rule. A whole block has loops of its own: with `word`'s test in it the sum takes
 // four times as long.
+// Kept: `match rule` is the definition by cases.
 fn block_sum(rule: Rule, s: &[u8]) -> u64
     ensures { result ≡ sum_by rule (word s.now) }
 {
@@ -161,7 +167,7 @@ fn block_sum(rule: Rule, s: &[u8]) -> u64
             }
         }
     }
-    sum_by(rule, |k| short_word(s, k))
+    rule.sum(|k| short_word(s, k))
 }
 
 // Is word 63 of a block the check of the words before it?
@@ -203,7 +209,7 @@ fn store_at(out: &mut [u8], b: usize, rule: Rule, ws: &[u64; 64])
     requires { 512 * b + 512 ≤ length out.old }
     ensures { out.new ≡ put out.old (512 * b) (block_bytes rule (word_at ws.now)) }
 {
-    let check = sum_by(rule, |k| ws[k]);
+    let check = rule.sum(|k| ws[k]);
     let from = 512 * b;
     store_words(&mut out[from..], ws, check);
 }

@@ -1,44 +1,34 @@
 -- Laws of questions in a row and of the places of pairs. Assumes nothing.
-use Rattle.std.proofs.Common.{◌≡◌, ℕ, zero, suc, ◌+◌, ◌-◌, ◌*◌, ◌%◌, ◌<◌, ◌≤◌, Bool, true, false, cond, not, ◌&&◌, eqb, ltb, leb, List, length, sym, refl, ◌∙◌, true≢false, add-one, arith, le-ltb, lt-ltb, eq-eqb, ne_eqb, leb-true}
-use Rattle.blocks.specs.declared.Rule.TheVariants.{Plain, Running}
+use Rattle.std.proofs.Common.{◌≡◌, ℕ, zero, suc, ◌+◌, ◌-◌, ◌*◌, ◌%◌, ◌<◌, ◌≤◌, Bool, true, false, ◌&&◌, eqb, ltb, leb, List, length, sym, refl, true≢false, add-one, arith, lt-ltb, eq-eqb, ne_eqb, leb-true}
+use Rattle.blocks.specs.declared.Rule.TheVariants.{Plain}
 use Rattle.floats.specs.Fold.{all_to}
-use Rattle.floats.specs.Outcome.{no, need}
+use Rattle.floats.specs.Outcome.{Out, no, need}
+use Rattle.floats.specs.Vector.{places}
 use Rattle.floats.proofs.Folds.{all_at}
 use Rattle.book.specs.Places.{words, pair_count, block_count, row_from, pair_place}
-use Rattle.book.specs.Book.{head_right, rule_in, rule_of, book_of}
+use Rattle.book.specs.declared.Head.{Head}
+use Rattle.book.specs.Book.{head_right, whole_blocks, rule_in, rule_of, book_of}
 
--- question 1
-pub length_none : (s : List ℕ) → length s ≡ 0 → no 1 ≡ book_of s
+-- what is no book by question 1
+pub no_rule : (s : List ℕ) → false ≡ whole_blocks s → Plain ≡ rule_of s
+unfolding rule_of
+no_rule s e = rw (← e)
+
+pub no_book : (s : List ℕ) → false ≡ whole_blocks s → no 1 ≡ book_of s
 unfolding book_of need
-length_none s e = rw e
+no_book s e = pick (eqb (length s % 512) 0) (ltb 0 (length s)) _ e
+  where
+    pick : (a b : Bool) (o : Out Head) → false ≡ (a && b) → no 1 ≡ need a 1 (need b 1 o)
+    pick true b o e = rw (← e)
+    pick false b o e = refl
 
-pub length-cut : (s : List ℕ) → (length s % 512 ≡ 0 → ⊥) → no 1 ≡ book_of s
-unfolding book_of need
-length-cut s f = rw (ne_eqb (length s % 512) 0 f)
-
-pub some : (l : ℕ) → (l ≡ 0 → ⊥) → ltb 0 l ≡ true
-some l f = lt-ltb 0 l (omega arith)
-
--- the rule: of what is no book by question 1, and of whole blocks
-pub rule-cut : (s : List ℕ) → (length s % 512 ≡ 0 → ⊥) → Plain ≡ rule_of s
-unfolding rule_of
-rule-cut s f = rw (ne_eqb (length s % 512) 0 f)
-
-pub rule-none : (s : List ℕ) → length s ≡ 0 → Plain ≡ rule_of s
-unfolding rule_of
-rule-none s e = rw e
-
-pub rule-whole : (s : List ℕ) → length s % 512 ≡ 0 → (length s ≡ 0 → ⊥) → rule_of s ≡ rule_in (words s 0)
-unfolding rule_of
-rule-whole s e f = rw (eq-eqb (length s % 512) 0 e, some (length s) f)
+-- what is one
+pub whole_sized : (s : List ℕ) (n : ℕ) → 0 < n → length s ≡ 512 * n → whole_blocks s ≡ true
+whole_sized s n h e = let f : length s % 512 ≡ 0 = omega arith in let z : 0 < length s = omega arith in rw (eq-eqb (length s % 512) 0 f, lt-ltb 0 (length s) z)
 
 pub rule-sized : (s : List ℕ) (n : ℕ) → length s ≡ 512 * block_count n → rule_of s ≡ rule_in (words s 0)
-rule-sized s n e = rule-whole s (omega arith) (λ (z : length s ≡ 0). omega arith)
-
-pub rule-read : (s : List ℕ) {b : Bool} → length s % 512 ≡ 0 → (length s ≡ 0 → ⊥) → (eqb (words s 0 0) 1 && eqb (words s 0 1) 3) ≡ b
-    → cond b Running Plain ≡ rule_of s
-unfolding rule_in
-rule-read s e f h = rw (rule-whole s e f, h)
+unfolding rule_of
+rule-sized s n e = rw (whole_sized s (block_count n) (omega arith) e)
 
 -- the rows of pairs end where the book does, and a count of pairs is small: at n up to 8 antt computes it
 fitting : ℕ → ℕ → Bool
@@ -57,6 +47,10 @@ pub row_next : (n i : ℕ) → row_from n (i + 1) ≡ row_from n i + (n - i - 1)
 unfolding row_from
 row_next n i = rw add-one
 
+-- a row ends within the book, which is short
+pub row_ends : (n i : ℕ) {from : ℕ} → n ≤ 8 → i < n → from ≡ row_from n i → (from + (n - i - 1) ≤ block_count n) × (block_count n ≤ 37)
+row_ends n i a l e = (omega (arith, e, row_fits n (i + 1) a (omega arith), row_next n i), omega (arith, few n a))
+
 -- the pairs stand behind the solvents
 pub row-above : (n i : ℕ) → n < row_from n i
 unfolding row_from
@@ -72,12 +66,6 @@ pub place-within : (n i j : ℕ) → n ≤ 8 → i < j → j < n → pair_place 
 unfolding pair_place
 place-within n i j a h l = omega (arith, row_fits n (i + 1) a (omega arith), row_next n i)
 
-pub same : {a b x y : ℕ} → x ≡ a → y ≡ b → x ≡ y → not (eqb a b) ≡ false
-same {a} {b} p q e = rw (eq-eqb a b (sym p ∙ e ∙ q))
-
-pub other : {a b x y : ℕ} → x ≡ a → y ≡ b → (x ≡ y → ⊥) → not (eqb a b) ≡ true
-other {a} {b} p q f = rw (ne_eqb a b (λ e. f (p ∙ e ∙ sym q)))
-
 second : (a : Bool) {b : Bool} → a && b ≡ true → b ≡ true
 second true e = e
 second false e = absurd (true≢false (sym e))
@@ -85,6 +73,9 @@ second false e = absurd (true≢false (sym e))
 pub head_few : (w : ℕ → ℕ) → head_right w ≡ true → w 2 ≤ 8
 unfolding head_right
 head_few w h = leb-true (w 2) 8 (second (eqb (w 0) 1 && ltb 0 (w 2)) h)
+
+pub head_count : (w : ℕ → ℕ) {k n : ℕ} → true ≡ head_right w → k ≡ w 2 → n ≡ places k → n ≡ w 2
+head_count w h e p = omega (arith, head_few w (sym h))
 
 pub count_no : {count r n m : ℕ} → (count ≡ 1 + n + r → ⊥) → r ≡ pair_count n → n ≡ m → eqb count (block_count m) ≡ false
 count_no {count} {r} {n} {m} f e q = ne_eqb count (block_count m) (λ p. f (rw (e, q) p))

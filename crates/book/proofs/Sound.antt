@@ -1,19 +1,17 @@
 -- What one scan of a block shows: the floats that a question asks for are among the finite ones, and equal words are equal floats. Assumes nothing.
-use Rattle.std.proofs.Common.{◌≡◌, ℕ, zero, suc, ◌+◌, ◌-◌, ◌*◌, ◌<◌, ◌≤◌, Bool, true, false, cond, not, ◌&&◌, T, eqb, ltb, List, length, sym, refl, ap, ◌∙◌, true≢false, arith, take_all, eqb-true}
+use Rattle.std.proofs.Common.{◌≡◌, ℕ, zero, suc, ◌+◌, ◌-◌, ◌*◌, ◌<◌, ◌≤◌, Bool, true, false, cond, ◌&&◌, T, eqb, sym, refl, ◌∙◌, true≢false, arith, eqb-true}
 use mathlib.Core.Bool.{false≢true}
 use native.Mathlib.Nat.{min-le_right}
 use lib.Dec.{eqb_refl}
-use Rattle.blocks.specs.Words.{word, block}
 use lib.Ieee.{Float, nan, inf, fin, up, down, eq}
 use Rattle.floats.specs.Small.{is_finite, float}
 use Rattle.floats.specs.Fold.{all_to}
-use Rattle.floats.proofs.Folds.{all_at, all_done}
+use Rattle.floats.proofs.Folds.{all_at}
 use Rattle.floats.specs.Outcome.{ok, no, need}
-use Rattle.book.specs.declared.Model.{Model}
 use Rattle.book.specs.declared.Model.TheVariants.{Nrtl, Wilson}
 use Rattle.book.specs.declared.Head.{Head}
-use Rattle.book.specs.Places.{words, pair_count, row_from}
-use Rattle.book.specs.Book.{floats_finite, range_right, term_count, record_right, records_right, pair_right, row_right, offered_right}
+use Rattle.book.specs.Places.{pair_count, row_from}
+use Rattle.book.specs.Book.{floats_finite, range_right, term_count, record_right, records_right, row_right}
 use Rattle.book.specs.Book.{parameters_finite, bounds_finite, pair_finite, alphas_equal, pairs_of}
 
 first : (a b : Bool) → a && b ≡ true → a ≡ true
@@ -119,39 +117,15 @@ finite_at w h d = pair_finite h.model (w (1 + h.n + d))
 abbrev equal-at : (ℕ → ℕ → ℕ) → Head → ℕ → Bool
 equal-at w h d = alphas_equal h.model (w (1 + h.n + d))
 
-module _ (w : ℕ → ℕ → ℕ) (h : Head) {count : ℕ} (e : count ≡ pair_count h.n)
-    (rows : all_to (λ i. row_right w i (row_from h.n i) (h.n - i - 1)) h.n ≡ true) where
-  counted : (p : ℕ → Bool) {b : Bool} → b ≡ all_to p count → all_to p (pair_count h.n) ≡ b
-  counted p s = sym (all_done p count (pair_count h.n) e s)
-
-  pub pairs_pass : true ≡ all_to (λ d. finite_at w h d && equal-at w h d) count → ok h ≡ pairs_of w h
+module _ (w : ℕ → ℕ → ℕ) (h : Head) (rows : all_to (λ i. row_right w i (row_from h.n i) (h.n - i - 1)) h.n ≡ true) where
+  pub pairs_pass : true ≡ all_to (λ d. finite_at w h d && equal-at w h d) (pair_count h.n) → ok h ≡ pairs_of w h
   unfolding pairs_of need
-  pairs_pass sound =
-      let both = counted (λ d. finite_at w h d && equal-at w h d) sound in
-      rw (rows, all_first (finite_at w h) (equal-at w h) (pair_count h.n) both, all_second (finite_at w h) (equal-at w h) (pair_count h.n) both)
+  pairs_pass sound = rw (rows, all_first (finite_at w h) (equal-at w h) (pair_count h.n) (sym sound), all_second (finite_at w h) (equal-at w h) (pair_count h.n) (sym sound))
 
-  pub pairs_infinite : false ≡ all_to (finite_at w h) count → no 8 ≡ pairs_of w h
+  pub pairs_infinite : false ≡ all_to (finite_at w h) (pair_count h.n) → no 8 ≡ pairs_of w h
   unfolding pairs_of need
-  pairs_infinite f = rw (rows, counted (finite_at w h) f)
+  pairs_infinite f = rw (rows, ← f)
 
-  pub pairs-unequal : true ≡ all_to (finite_at w h) count → false ≡ all_to (λ d. finite_at w h d && equal-at w h d) count → no 9 ≡ pairs_of w h
+  pub pairs-unequal : true ≡ all_to (finite_at w h) (pair_count h.n) → false ≡ all_to (λ d. finite_at w h d && equal-at w h d) (pair_count h.n) → no 9 ≡ pairs_of w h
   unfolding pairs_of need
-  pairs-unequal f u =
-      let finite = counted (finite_at w h) f in
-      rw (rows, finite, second-no (finite_at w h) (equal-at w h) (pair_count h.n) (counted (λ d. finite_at w h d && equal-at w h d) u) finite)
-
--- the alphas of a pair that is finite
-pub finite_equal : (m : Model) (w : ℕ → ℕ) {b : Bool} → true ≡ pair_finite m w → b ≡ (pair_finite m w && alphas_equal m w) → b ≡ alphas_equal m w
-finite_equal m w f h = rw (sym f) at h
-
--- a block by itself is its own block 0
-of_one : (s : List ℕ) (f : (ℕ → ℕ) → Bool) {b : Bool} → length s ≡ 512 → b ≡ all_to (λ d. f (words s (0 + d))) 1 → b ≡ f (word s)
-unfolding all_to block
-of_one s f l e = e ∙ ap (λ (t : List ℕ). f (word t)) (take_all 512 s (omega (arith, l)))
-
-pub finite_one : (m : Model) (s : List ℕ) {b : Bool} → length s ≡ 512 → b ≡ all_to (λ d. pair_finite m (words s (0 + d))) 1 → b ≡ pair_finite m (word s)
-finite_one m s l e = of_one s (pair_finite m) l e
-
-pub sound_one : (m : Model) (s : List ℕ) {b : Bool} → length s ≡ 512 → b ≡ all_to (λ d. pair_finite m (words s (0 + d)) && alphas_equal m (words s (0 + d))) 1
-    → b ≡ (pair_finite m (word s) && alphas_equal m (word s))
-sound_one m s l e = of_one s (λ w. pair_finite m w && alphas_equal m w) l e
+  pairs-unequal f u = rw (rows, ← f, second-no (finite_at w h) (equal-at w h) (pair_count h.n) (sym u) (sym f))

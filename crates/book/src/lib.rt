@@ -1,15 +1,17 @@
 // The book: questions 1 to 9, 35, 37 and 38.
 #![tactic(auto)]
 
-ghost use Rattle.std.specs.Prelude.{◌≡◌, ◌+◌, ◌-◌, ◌*◌, ◌<◌, ◌≤◌, ◌&&◌, length, nat_lt};
-ghost use Rattle.blocks.specs.Words.{word, word_from, block, check_right};
+ghost use Rattle.std.specs.Prelude.{◌≡◌, ◌+◌, ◌-◌, ◌<◌, ◌≤◌, not, false, ◌&&◌, ◌||◌, ◌==◌, if◌then◌else◌, length, take, nat_lt, MatchOption};
+ghost use Rattle.std.specs.List.{list_all};
+ghost use Rattle.blocks.specs.Words.{word, check_right};
 ghost use Rattle.floats.specs.Small.{is_finite, positive, float_of, float};
 ghost use Rattle.floats.specs.Fold.{all_to};
-ghost use Rattle.book.specs.Places.{words, pair_count, block_count, row_from};
-ghost use Rattle.book.specs.Book.{floats_finite, version_right, head_right, model_right, model_of, solvent_right, range_right, record_right, records_right, has_masses, molar_mass, masses_right, cas_new, pair_right, row_right, parameters_finite, bounds_finite, pair_finite, alphas_equal, pairs_of, solvents_of, head_of, rule_of, book_of, offered_right, offered_of};
+ghost use Rattle.book.specs.Places.{pair_count, block_count, row_from, words_in, Whole};
+ghost use Rattle.book.specs.Book.{floats_finite, version_right, head_right, model_right, model_of, solvent_right, range_right, record_right, records_right, has_masses, pair_right, row_right, parameters_finite, bounds_finite, pair_finite, alphas_equal, pairs_of, solvents_of, head_of, whole_blocks, rule_in, rule_of, book_of, offered_right, offered_of};
 ghost use Rattle.outcome.specs.Refused.{outcome_of};
 
 use blocks::Rule;
+use floats::Count;
 use outcome::Refusal;
 
 // What the activity coefficients are worked out by.
@@ -27,17 +29,19 @@ pub struct Head {
     pub model: Model,
 }
 
-// A block that is there: its 512 bytes of the caller's own slice.
-fn whole_block(book: &[u8], k: usize) -> &[u8; 512]
-    requires { 512 * k + 512 ≤ length book.now }
-    ensures { result.now ≡ block book.now k }
+// A book's blocks, where its bytes are whole ones and at least one: question 1.
+fn whole_blocks(book: &[u8]) -> Option<&[[u8; 512]]>
+    ensures { MatchOption result (whole_blocks book.now ≡ false) (λ blocks. Whole book.now blocks.now) }
 {
-    let from = 512 * k;
-    book[from..from + 512].try_into().unwrap()
+    let (blocks, rest) = book.as_chunks::<512>();
+    if blocks.is_empty() || !rest.is_empty() {
+        return None;
+    }
+    Some(blocks)
 }
 
 // A word of a whole block, read with no test for its end.
-// Kept: shared with `blocks` it would be a `pub fn` with a `requires`.
+// Kept: shared with `blocks` it would be a `pub fn` with a `requires`, and `float_at` is one line. `k < 64` is the place of a word, here and below.
 fn word(s: &[u8; 512], k: usize) -> u64
     requires { k < 64 }
     ensures { result ≡ word s.now k }
@@ -72,10 +76,10 @@ fn floats_finite(s: &[u8; 512], from: usize, count: usize) -> bool
     carries < 0x8000000000000000
 }
 
-fn checks_right(rule: Rule, book: &[u8], count: usize) -> bool
-    ensures { result ≡ all_to (λ k. check_right rule (words book.now k)) count }
+fn checks_right(rule: Rule, blocks: &[[u8; 512]]) -> bool
+    ensures { result ≡ list_all (λ s. check_right rule (word s)) blocks.now }
 {
-    (0..count).all(|k| blocks::check_right(rule, blocks::block(book, k)))
+    blocks.iter().all(|s| blocks::check_right(rule, s))
 }
 
 // Kind 1 has version 1 to 3.
@@ -100,21 +104,28 @@ fn model_right(s: &[u8; 512]) -> bool
     model == 0 || (model == 1 && 2 <= word(s, 1))
 }
 
-// By word 3 of block 0, whatever else stands there.
-pub fn model_of(book: &[u8]) -> Model
-    ensures { result ≡ model_of book.now }
+// By its number: 1, Wilson; NRTL by every other.
+fn model_in(w: u64) -> Model
+    ensures { result ≡ (if w == 1 then Model.Wilson else Model.Nrtl) }
 {
-    match blocks::word(blocks::block(book, 0), 3) {
+    match w {
         1 => Model::Wilson,
         _ => Model::Nrtl,
     }
 }
 
-fn pair_count(n: usize) -> usize
-    requires { n ≤ 8 }
-    ensures { (result ≡ pair_count n) × (result ≤ 28) }
+// By word 3 of block 0, whatever else stands there.
+#[tactic(auto, unfolding(crate::specs::Book::model_in))]
+pub fn model_of(book: &[u8]) -> Model
+    ensures { result ≡ model_of book.now }
 {
-    n * n.saturating_sub(1) / 2
+    model_in(blocks::word(blocks::block(book, 0), 3))
+}
+
+fn pair_count(m: Count) -> usize
+    ensures { (result ≡ pair_count m.n) × (result ≤ 28) }
+{
+    m.n * m.n.saturating_sub(1) / 2
 }
 
 // Kind 2, its own index, a CAS number, term counts 1 to 8.
@@ -132,14 +143,14 @@ fn solvent_right(s: &[u8; 512], i: u64) -> bool
         & (more <= 8)
 }
 
-fn solvents_right(book: &[u8], n: usize) -> bool
-    requires { 512 * n + 512 ≤ length book.now }
-    ensures { result ≡ all_to (λ i. solvent_right (words book.now (i + 1)) i) n }
+fn solvents_right(solvents: &[[u8; 512]]) -> bool
+    ensures { result ≡ all_to (λ i. solvent_right (words_in solvents.now i) i) (length solvents.now) }
 {
-    (0..n).all(|i| solvent_right(whole_block(book, i + 1), i as u64))
+    (0..solvents.len()).all(|i| solvent_right(&solvents[i], i as u64))
 }
 
 // 0 < low ≤ high < t_r (K), the reducing value positive.
+// Kept: `f` is a word's place, with room for the record behind it (`record_right` too); as an enum of two records it would be turned into 3 or 24 here.
 fn range_right(s: &[u8; 512], f: usize) -> bool
     requires { f ≤ 24 }
     ensures { result ≡ range_right (word s.now) f }
@@ -173,11 +184,10 @@ fn records_right(s: &[u8; 512]) -> bool
     record_right(s, 3) & record_right(s, 24)
 }
 
-fn all_records_right(book: &[u8], n: usize) -> bool
-    requires { 512 * n + 512 ≤ length book.now }
-    ensures { result ≡ all_to (λ i. records_right (words book.now (i + 1))) n }
+fn all_records_right(solvents: &[[u8; 512]]) -> bool
+    ensures { result ≡ list_all (λ s. records_right (word s)) solvents.now }
 {
-    (0..n).all(|i| records_right(whole_block(book, i + 1)))
+    solvents.iter().all(|s| records_right(s))
 }
 
 // From version 2 on.
@@ -187,49 +197,30 @@ pub fn has_masses(version: u64) -> bool
     2 <= version
 }
 
-// kg/mol
-fn molar_mass(book: &[u8], i: usize) -> f64
-    requires { 512 * i + 1024 ≤ length book.now }
-    ensures { result ≡ molar_mass (words book.now) i }
+// Word 45, in kg/mol.
+fn masses_positive(solvents: &[[u8; 512]]) -> bool
+    ensures { result ≡ list_all (λ s. positive (float (word s) 45)) solvents.now }
 {
-    float_at(whole_block(book, i + 1), 45)
-}
-
-fn masses_positive(book: &[u8], n: usize) -> bool
-    requires { 512 * n + 512 ≤ length book.now }
-    ensures { result ≡ all_to (λ i. positive (molar_mass (words book.now) i)) n }
-{
-    (0..n).all(|i| floats::positive(molar_mass(book, i)))
+    solvents.iter().all(|s| floats::positive(float_at(s, 45)))
 }
 
 // Word 45 of version 1 is not read.
-fn masses_right(book: &[u8], head: Head) -> bool
-    requires { 512 * head.n + 512 ≤ length book.now }
-    ensures { result ≡ masses_right (words book.now) head }
+fn masses_right(version: u64, solvents: &[[u8; 512]]) -> bool
+    ensures { result ≡ (not (has_masses version) || list_all (λ s. positive (float (word s) 45)) solvents.now) }
 {
-    !has_masses(head.version) || masses_positive(book, head.n)
+    !has_masses(version) || masses_positive(solvents)
 }
 
-fn cas(book: &[u8], i: usize) -> u64
-    requires { 512 * i + 1024 ≤ length book.now }
-    ensures { result ≡ words book.now (i + 1) 2 }
+fn cas_new(own: u64, before: &[[u8; 512]]) -> bool
+    ensures { result ≡ list_all (λ s. not (word s 2 == own)) before.now }
 {
-    word(whole_block(book, i + 1), 2)
+    before.iter().all(|s| word(s, 2) != own)
 }
 
-fn cas_new(book: &[u8], i: usize) -> bool
-    requires { 512 * i + 1024 ≤ length book.now }
-    ensures { result ≡ cas_new (words book.now) i }
+fn cas_distinct(solvents: &[[u8; 512]]) -> bool
+    ensures { result ≡ all_to (λ i. list_all (λ s. not (word s 2 == words_in solvents.now i 2)) (take i solvents.now)) (length solvents.now) }
 {
-    let own = cas(book, i);
-    (0..i).all(|j| cas(book, j) != own)
-}
-
-fn cas_distinct(book: &[u8], n: usize) -> bool
-    requires { 512 * n + 512 ≤ length book.now }
-    ensures { result ≡ all_to (cas_new (words book.now)) n }
-{
-    (0..n).all(|i| cas_new(book, i))
+    (0..solvents.len()).all(|i| cas_new(word(&solvents[i], 2), &solvents[..i]))
 }
 
 // Kind 3, due i and j, flags 0 or 1.
@@ -243,26 +234,11 @@ fn pair_right(s: &[u8; 512], i: u64, j: u64) -> bool
         & (word(s, 18) <= 1)
 }
 
-fn row_right(book: &[u8], i: usize, from: usize, count: usize) -> bool
-    requires { (512 * (from + count) ≤ length book.now) × (i + count ≤ 8) }
-    ensures { result ≡ row_right (words book.now) i from count }
+fn row_right(i: usize, row: &[[u8; 512]]) -> bool
+    requires { i + length row.now ≤ 8 }
+    ensures { result ≡ all_to (λ d. pair_right (words_in row.now d) i (i + 1 + d)) (length row.now) }
 {
-    (0..count).all(|d| pair_right(whole_block(book, from + d), i as u64, (i + 1 + d) as u64))
-}
-
-fn pairs_right(book: &[u8], n: usize) -> bool
-    requires { (n ≤ 8) × (512 * block_count n ≤ length book.now) }
-    ensures { result ≡ all_to (λ i. row_right (words book.now) i (row_from n i) (n - i - 1)) n }
-{
-    let mut from = 1 + n;
-    for i in 0..n {
-        let count = n - i - 1;
-        if !row_right(book, i, from, count) {
-            return false;
-        }
-        from += count;
-    }
-    true
+    (0..row.len()).all(|d| pair_right(&row[d], i as u64, (i + 1 + d) as u64))
 }
 
 // The bounds of an interval are read only if it is flagged.
@@ -272,27 +248,45 @@ fn bounds_finite(s: &[u8; 512]) -> bool
     word(s, 15) == 0 || floats_finite(s, 16, 2)
 }
 
-// Four taus and two alphas each way, or a and b.
-fn parameters_finite(model: Model, s: &[u8; 512]) -> bool
-    ensures { result ≡ parameters_finite model (word s.now) }
-{
-    match model {
-        Model::Nrtl => floats_finite(s, 3, 12),
-        Model::Wilson => floats_finite(s, 3, 4),
+// Kept: each `match self` is a definition by cases, with a constant in each: a count that is known lets the loop unroll.
+impl Model {
+    // Four taus and two alphas each way, or a and b.
+    fn parameters_finite(self, s: &[u8; 512]) -> bool
+        ensures { result ≡ parameters_finite self (word s.now) }
+    {
+        match self {
+            Model::Nrtl => floats_finite(s, 3, 12),
+            Model::Wilson => floats_finite(s, 3, 4),
+        }
     }
-}
 
-fn pair_finite(model: Model, s: &[u8; 512]) -> bool
-    ensures { result ≡ pair_finite model (word s.now) }
-{
-    parameters_finite(model, s) & bounds_finite(s)
-}
+    fn pair_finite(self, s: &[u8; 512]) -> bool
+        ensures { result ≡ pair_finite self (word s.now) }
+    {
+        self.parameters_finite(s) & bounds_finite(s)
+    }
 
-fn pairs_finite(model: Model, book: &[u8], from: usize, count: usize) -> bool
-    requires { 512 * (from + count) ≤ length book.now }
-    ensures { result ≡ all_to (λ d. pair_finite model (words book.now (from + d))) count }
-{
-    (0..count).all(|d| pair_finite(model, whole_block(book, from + d)))
+    // Wilson has no alphas.
+    fn pair_sound(self, s: &[u8; 512]) -> bool
+        ensures { result ≡ (pair_finite self (word s.now) && alphas_equal self (word s.now)) }
+    {
+        match self {
+            Model::Nrtl => nrtl_sound(s),
+            Model::Wilson => self.pair_finite(s),
+        }
+    }
+
+    fn pairs_finite(self, pairs: &[[u8; 512]]) -> bool
+        ensures { result ≡ list_all (λ s. pair_finite self (word s)) pairs.now }
+    {
+        pairs.iter().all(|s| self.pair_finite(s))
+    }
+
+    fn pairs_sound(self, pairs: &[[u8; 512]]) -> bool
+        ensures { result ≡ list_all (λ s. pair_finite self (word s) && alphas_equal self (word s)) pairs.now }
+    {
+        pairs.iter().all(|s| self.pair_sound(s))
+    }
 }
 
 fn alphas_equal(s: &[u8; 512]) -> bool
@@ -309,96 +303,116 @@ fn nrtl_sound(s: &[u8; 512]) -> bool
     if same & floats_finite(s, 3, 15) {
         return true;
     }
-    pair_finite(Model::Nrtl, s) & alphas_equal(s)
+    Model::Nrtl.pair_finite(s) & alphas_equal(s)
 }
 
-// Wilson has no alphas.
-fn pair_sound(model: Model, s: &[u8; 512]) -> bool
-    ensures { result ≡ (pair_finite model (word s.now) && alphas_equal model (word s.now)) }
-{
-    match model {
-        Model::Nrtl => nrtl_sound(s),
-        Model::Wilson => pair_finite(model, s),
+// A book that has a block for each solvent and each pair.
+#[derive(Clone, Copy)]
+struct Book<'a> {
+    blocks: &'a [[u8; 512]],
+    head: Head,
+    ghost few: { head.n ≤ 8 },
+    ghost size: { length blocks.now ≡ block_count head.n },
+}
+
+impl<'a> Book<'a> {
+    fn pairs_right(self) -> bool
+        ensures { result ≡ all_to (λ i. row_right (words_in self.entry.blocks.now) i (row_from self.entry.head.n i) (self.entry.head.n - i - 1)) self.entry.head.n }
+    {
+        let n = self.head.n;
+        let mut from = 1 + n;
+        for i in 0..n {
+            let count = n - i - 1;
+            if !row_right(i, &self.blocks[from..from + count]) {
+                return false;
+            }
+            from += count;
+        }
+        true
+    }
+
+    fn open_pairs(self) -> Result<Head, Refusal>
+        ensures { outcome_of result ≡ pairs_of (words_in self.entry.blocks.now) self.entry.head }
+    {
+        let Head { n, model, .. } = self.head;
+        if !self.pairs_right() {
+            return Err(Refusal::PairBlock);
+        }
+        let pairs = &self.blocks[1 + n..];
+        if model.pairs_sound(pairs) {
+            return Ok(self.head);
+        }
+        if !model.pairs_finite(pairs) {
+            return Err(Refusal::PairNumber);
+        }
+        Err(Refusal::PairAlphas)
+    }
+
+    #[tactic(auto, using(crate::proofs::Blocks::solvents_asked), unfolding(floats::specs::Outcome::need))]
+    fn open_solvents(self) -> Result<Head, Refusal>
+        ensures { outcome_of result ≡ solvents_of (words_in self.entry.blocks.now) self.entry.head }
+    {
+        let Head { n, version, .. } = self.head;
+        let solvents = &self.blocks[1..1 + n];
+        if !solvents_right(solvents) {
+            return Err(Refusal::SolventBlock);
+        }
+        if !all_records_right(solvents) {
+            return Err(Refusal::SolventNumber);
+        }
+        if !masses_right(version, solvents) {
+            return Err(Refusal::MolarMass);
+        }
+        if !cas_distinct(solvents) {
+            return Err(Refusal::SolventTwice);
+        }
+        self.open_pairs()
     }
 }
 
-fn pairs_sound(model: Model, book: &[u8], from: usize, count: usize) -> bool
-    requires { 512 * (from + count) ≤ length book.now }
-    ensures { result ≡ all_to (λ d. pair_finite model (words book.now (from + d)) && alphas_equal model (words book.now (from + d))) count }
+fn open_head(blocks: &[[u8; 512]]) -> Result<Head, Refusal>
+    requires { 0 < length blocks.now }
+    ensures { outcome_of result ≡ head_of (words_in blocks.now) (length blocks.now) }
 {
-    (0..count).all(|d| pair_sound(model, whole_block(book, from + d)))
-}
-
-fn open_pairs(book: &[u8], head: Head) -> Result<Head, Refusal>
-    requires { (head.n ≤ 8) × (512 * block_count head.n ≤ length book.now) }
-    ensures { outcome_of result ≡ pairs_of (words book.now) head }
-{
-    let Head { n, model, .. } = head;
-    if !pairs_right(book, n) {
-        return Err(Refusal::PairBlock);
-    }
-    let count = pair_count(n);
-    if pairs_sound(model, book, 1 + n, count) {
-        return Ok(head);
-    }
-    if !pairs_finite(model, book, 1 + n, count) {
-        return Err(Refusal::PairNumber);
-    }
-    Err(Refusal::PairAlphas)
-}
-
-fn open_solvents(book: &[u8], head: Head) -> Result<Head, Refusal>
-    requires { (head.n ≤ 8) × (512 * block_count head.n ≤ length book.now) }
-    ensures { outcome_of result ≡ solvents_of (words book.now) head }
-{
-    let n = head.n;
-    if !solvents_right(book, n) {
-        return Err(Refusal::SolventBlock);
-    }
-    if !all_records_right(book, n) {
-        return Err(Refusal::SolventNumber);
-    }
-    if !masses_right(book, head) {
-        return Err(Refusal::MolarMass);
-    }
-    if !cas_distinct(book, n) {
-        return Err(Refusal::SolventTwice);
-    }
-    open_pairs(book, head)
-}
-
-fn open_head(book: &[u8], count: usize) -> Result<Head, Refusal>
-    requires { (0 < count) × (512 * count ≤ length book.now) }
-    ensures { outcome_of result ≡ head_of (words book.now) count }
-{
-    let first = whole_block(book, 0);
+    let first = &blocks[0];
     if !head_right(first) {
         return Err(Refusal::BookHead);
     }
-    let n = word(first, 2) as usize;
-    if count != 1 + n + pair_count(n) {
+    let m = Count::of(word(first, 2) as usize);
+    if blocks.len() != 1 + m.n + pair_count(m) {
         return Err(Refusal::BookHead);
     }
     if !model_right(first) {
         return Err(Refusal::BookModel);
     }
-    let version = word(first, 1);
-    let model = model_of(book);
-    open_solvents(book, Head { n, version, model })
+    let head = Head {
+        n: m.n,
+        version: word(first, 1),
+        model: model_in(word(first, 3)),
+    };
+    Book { blocks, head }.open_solvents()
 }
 
-// The rule by which the blocks of a call are checked: a book's own, its question's and its answer's.
-pub fn rule_of(book: &[u8]) -> Rule
-    ensures { result ≡ rule_of book.now }
+// Version 3 of kind 1 is checked by running sums.
+#[tactic(auto, unfolding(crate::specs::Book::rule_in))]
+fn rule_in(s: &[u8; 512]) -> Rule
+    ensures { result ≡ rule_in (word s.now) }
 {
-    if book.is_empty() || book.len() % 512 != 0 {
-        return Rule::Plain;
-    }
-    let first = whole_block(book, 0);
-    if word(first, 0) == 1 && word(first, 1) == 3 {
+    if word(s, 0) == 1 && word(s, 1) == 3 {
         Rule::Running
     } else {
         Rule::Plain
+    }
+}
+
+// The rule by which the blocks of a call are checked: a book's own, its question's and its answer's.
+#[tactic(auto, using(crate::proofs::Laws::no_rule, crate::proofs::Blocks::rule_whole))]
+pub fn rule_of(book: &[u8]) -> Rule
+    ensures { result ≡ rule_of book.now }
+{
+    match whole_blocks(book) {
+        Some(blocks) => rule_in(&blocks[0]),
+        None => Rule::Plain,
     }
 }
 
@@ -406,30 +420,17 @@ pub fn rule_of(book: &[u8]) -> Rule
 pub fn open_book(book: &[u8]) -> Result<Head, Refusal>
     ensures { outcome_of result ≡ book_of book.now }
 {
-    if book.is_empty() || book.len() % 512 != 0 {
+    let Some(blocks) = whole_blocks(book) else {
         return Err(Refusal::BookLength);
-    }
-    if !version_right(whole_block(book, 0)) {
+    };
+    let first = &blocks[0];
+    if !version_right(first) {
         return Err(Refusal::BookVersion);
     }
-    let count = book.len() / 512;
-    if !checks_right(rule_of(book), book, count) {
+    if !checks_right(rule_in(first), blocks) {
         return Err(Refusal::BookCheck);
     }
-    open_head(book, count)
-}
-
-// Questions 8, and 8 and 9 in one reading, of one block by itself: through the loops over a book's pairs, so that these keep their bodies to themselves.
-fn one_finite(model: Model, s: &[u8; 512]) -> bool
-    ensures { result ≡ pair_finite model (word s.now) }
-{
-    pairs_finite(model, s, 0, 1)
-}
-
-fn one_sound(model: Model, s: &[u8; 512]) -> bool
-    ensures { result ≡ (pair_finite model (word s.now) && alphas_equal model (word s.now)) }
-{
-    pairs_sound(model, s, 0, 1)
+    open_head(blocks)
 }
 
 // Any i < j below n.
@@ -442,6 +443,7 @@ fn names_pair(s: &[u8; 512], n: usize) -> bool
 }
 
 // A pair's block offered for a book that passed: exactly one whole block (1), its check (2), any i < j below n (7), then 8 and 9.
+#[tactic(auto, using(crate::proofs::Blocks::offered_asked), unfolding(crate::specs::Book::offered_of, floats::specs::Outcome::need))]
 pub fn open_offered(rule: Rule, head: Head, offered: &[u8]) -> Result<Head, Refusal>
     ensures { outcome_of result ≡ offered_of rule head offered.now }
 {
@@ -454,10 +456,12 @@ pub fn open_offered(rule: Rule, head: Head, offered: &[u8]) -> Result<Head, Refu
     if !names_pair(s, head.n) {
         return Err(Refusal::PairBlock);
     }
-    if !one_finite(head.model, s) {
+    // Through the loops over a book's pairs, so that these keep their bodies to themselves.
+    let pairs = std::slice::from_ref(s);
+    if !head.model.pairs_finite(pairs) {
         return Err(Refusal::PairNumber);
     }
-    if !one_sound(head.model, s) {
+    if !head.model.pairs_sound(pairs) {
         return Err(Refusal::PairAlphas);
     }
     Ok(head)

@@ -32,6 +32,13 @@ sum-turn S R x i old {e} ps pc pp pr =
       kept = rw (ps, pc, z);
     }
 
+-- of a sum and a Jet that stand for S_i and R_i
+pub sum_same : (S R : ℕ → Jet) (x : ℕ → Float) (i : ℕ) {s c e r : Jet} {old new : List Float} → s ≡ S i → c ≡ R i → SumTurn (λ _. s) (λ _. c) x i e r old new → SumTurn S R x i e r old new
+sum_same S R x i ps pc t = record {
+  next = t.next ∙ rw pc;
+  kept = t.kept ∙ rw (ps, pc);
+}
+
 pub sums-turn : (S R : ℕ → Jet) (x : ℕ → Float) (k : ℕ) (old : List Float) {e r : Jet} {mid new : List Float} → SumTurn S R x k e r mid new
     → SumsTo S R x k e old mid → SumsTo S R x (k + 1) r old new
 sums-turn S R x k old p q = record {

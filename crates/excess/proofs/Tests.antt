@@ -1,12 +1,11 @@
 -- The ways out of `state`; the code's one test for 25 is the definition's four. Assumes nothing.
-use Prim.Native.Nat.{ℕ}
-use mathlib.Core.Path.{◌≡◌, refl, sym, ◌∙◌}
+use mathlib.Core.Path.{◌≡◌, refl, ◌∙◌}
 use mathlib.Core.Bool.{Bool, true, false, ◌&&◌}
 use mathlib.Core.List.{List}
 use lib.Ieee.{Float}
 use Rattle.std.specs.Prelude.{Result, Ok}
 use Rattle.floats.specs.Small.{is_finite}
-use Rattle.floats.specs.Outcome.{Out, ok, no, need}
+use Rattle.floats.specs.Outcome.{ok, no, need}
 use Rattle.floats.proofs.Outcomes.{need_yes, need-no, need_both}
 use Rattle.outcome.specs.declared.Refusal.{Refusal}
 use Rattle.jet.specs.declared.Jet.{Jet}

@@ -27,6 +27,8 @@ pub struct Energies {
 const GAS_CONSTANT: f64 = 8.31446261815324;
 
 // T is finite and positive (13), and the first n of x are mole fractions (15, 16, 18).
+// Not inlined: a model's loops then begin with a test of n of their own, by which they are unrolled.
+#[inline(never)]
 pub fn with_state(t: Temperature, x: &[f64; 8], n: usize) -> Result<(), Refusal>
     ensures { outcome_of result ≡ with_state t.0 (at x.now) (places n) (ok tt) }
 {
@@ -36,6 +38,7 @@ pub fn with_state(t: Temperature, x: &[f64; 8], n: usize) -> Result<(), Refusal>
     thermo_types::with_fractions(x, n)
 }
 
+#[tactic(auto, unfolding(crate::specs::Answers::energies_at, crate::specs::State::gibbs_of, crate::specs::State::enthalpy_of, crate::specs::State::entropy_of, crate::specs::State::heat_capacity_of))]
 fn energies_at(e: Jet, t: f64) -> Energies
     ensures { result ≡ energies_at e t }
 {
@@ -50,6 +53,7 @@ fn energies_at(e: Jet, t: f64) -> Energies
     }
 }
 
+#[tactic(auto, unfolding(crate::specs::Answers::energies_finite))]
 fn energies_finite(e: Energies) -> bool
     ensures { result ≡ energies_finite e }
 {
@@ -60,6 +64,7 @@ fn energies_finite(e: Energies) -> bool
 }
 
 // What the arrays of a refusal hold: 0.0 everywhere.
+// Kept: here and below ln γ and slopes go side by side, since a public function's arrays come so, and a struct of two `&mut` would be made and taken apart for each.
 pub fn clear(values: &mut [f64; 8], slopes: &mut [f64; 8])
     ensures cleared_values { values.new ≡ zeros8 }
     ensures cleared_slopes { slopes.new ≡ zeros8 }

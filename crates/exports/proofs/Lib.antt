@@ -1,3 +1,4 @@
 -- Laws of exports. Assumes nothing.
 mod Ways
 mod States
+mod Fronts

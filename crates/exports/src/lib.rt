@@ -1,7 +1,7 @@
 // The functions under C names, for the comparison with the reference and for benchmarks. A slice passes as a pointer and a length.
 #![tactic(auto)]
 
-ghost use Rattle.std.specs.Prelude.{◌≡◌, cond, ◌≤◌, leb, length, set};
+ghost use Rattle.std.specs.Prelude.{◌≡◌, cond, leb, length};
 ghost use Rattle.floats.specs.Small.{is_finite, max_of, min_of, abs_of, bits_of, float_of};
 ghost use Rattle.floats.specs.Vector.{at, fill_from, places};
 ghost use Rattle.floats.specs.Outcome.{ok, need};
@@ -104,13 +104,14 @@ pub extern "C" fn zektonk_fractions(x: &[f64], n: usize) -> u64
 
 // 0, and the first n of eight entries over their sum, 0.0 past them; or 34. With 34 the slice stays, as does one shorter than eight.
 #[unsafe(no_mangle)]
+#[tactic(auto, unfolding(crate::specs::Slices::outcome_number, crate::specs::Slices::fractions_written, crate::specs::Slices::filled_front))]
 pub extern "C" fn zektonk_normalize(x: &mut [f64], n: usize) -> u64
     ensures { NormalizedGives (normalize_of (at (eight_of x.old)) (places n)) result x.old x.new }
 {
     match thermo_types::normalize(&eight(x), n) {
         Ok(fractions) => {
-            if x.len() >= 8 {
-                x[..8].copy_from_slice(&fractions);
+            if let Some(front) = x.first_chunk_mut() {
+                *front = fractions;
             }
             0
         }
@@ -119,16 +120,6 @@ pub extern "C" fn zektonk_normalize(x: &mut [f64], n: usize) -> u64
 }
 
 // ---- vapor pressure
-
-fn store_vapor(v: VaporPressure, out: &mut [f64])
-    requires { 4 ≤ length out.old }
-    ensures { out.new ≡ set (set (set (set out.old 0 v.pressure) 1 v.ln_pressure) 2 v.d_ln_pressure_dt) 3 v.d2_ln_pressure_dt2 }
-{
-    out[0] = v.pressure;
-    out[1] = v.ln_pressure;
-    out[2] = v.d_ln_pressure_dt;
-    out[3] = v.d2_ln_pressure_dt2;
-}
 
 #[tactic(auto, unfolding(crate::specs::Models::vapor_at, crate::specs::Models::vapor_from, floats::specs::Outcome::bind))]
 fn vapor_at(book: &[u8], i: usize, t: f64) -> Result<VaporPressure, Refusal>
@@ -141,15 +132,21 @@ fn vapor_at(book: &[u8], i: usize, t: f64) -> Result<VaporPressure, Refusal>
 
 // 0, with p (Pa), ln p and its two derivatives by T in the first four entries; or 100 for a slice shorter than that, one of the book, 13, 22, 25.
 #[unsafe(no_mangle)]
+#[tactic(auto, unfolding(floats::specs::Outcome::need, crate::specs::Slices::outcome_number, crate::specs::Models::vapor_written))]
 pub extern "C" fn zektonk_vapor_pressure(book: &[u8], i: usize, t: f64, out: &mut [f64]) -> u64
     ensures { VaporGives (need (leb 4 (length out.old)) 100 (vapor_at book.now i t)) result out.old out.new }
 {
-    if out.len() < 4 {
-        return 100;
-    }
+    let Some(front) = out.first_chunk_mut() else {
+        return 100; // Kept: for C, and no refusal's number.
+    };
     match vapor_at(book, i, t) {
         Ok(v) => {
-            store_vapor(v, out);
+            *front = [
+                v.pressure,
+                v.ln_pressure,
+                v.d_ln_pressure_dt,
+                v.d2_ln_pressure_dt2,
+            ];
             0
         }
         Err(refusal) => u64::from(refusal),
@@ -158,8 +155,7 @@ pub extern "C" fn zektonk_vapor_pressure(book: &[u8], i: usize, t: f64, out: &mu
 
 // ---- excess
 
-fn store_energies(e: Energies, a: Assessment, out: &mut [f64])
-    requires { 23 ≤ length out.old }
+fn store_energies(e: Energies, a: Assessment, out: &mut [f64; 23])
     ensures { out.new ≡ energies_stored e a out.old }
 {
     out[16] = e.reduced;
@@ -171,8 +167,7 @@ fn store_energies(e: Energies, a: Assessment, out: &mut [f64])
     out[22] = f64::from(a.inferred);
 }
 
-fn store_state(lg: &[f64; 8], sl: &[f64; 8], e: Energies, a: Assessment, out: &mut [f64])
-    requires { 23 ≤ length out.old }
+fn store_state(lg: &[f64; 8], sl: &[f64; 8], e: Energies, a: Assessment, out: &mut [f64; 23])
     ensures { out.new ≡ energies_stored e a (fill_from (at sl.now) 8 8 (fill_from (at lg.now) 0 8 out.old)) }
 {
     out[..8].copy_from_slice(lg);
@@ -185,9 +180,8 @@ fn excess_in(
     n: usize,
     t: Temperature,
     x: &[f64; 8],
-    out: &mut [f64],
+    out: &mut [f64; 23],
 ) -> Result<(), Refusal>
-    requires { 23 ≤ length out.old }
     ensures { ExcessGives (excess_in (mixture_of book.now (places n)) t.0 x.now) (number_in result) out.old out.new }
 {
     let mut parameters = [0.0; 384];
@@ -202,8 +196,7 @@ fn excess_in(
     Ok(())
 }
 
-fn excess_at(book: &[u8], t: f64, x: &[f64], out: &mut [f64]) -> Result<(), Refusal>
-    requires { 23 ≤ length out.old }
+fn excess_at(book: &[u8], t: f64, x: &[f64], out: &mut [f64; 23]) -> Result<(), Refusal>
     ensures { ExcessGives (excess_at book.now t x.now) (number_in result) out.old out.new }
 {
     let head = book::open_book(book)?;
@@ -214,13 +207,14 @@ fn excess_at(book: &[u8], t: f64, x: &[f64], out: &mut [f64]) -> Result<(), Refu
 // 0, with ln γ (8), slopes (8), the reduced and the plain Gibbs energy, enthalpy, entropy, heat capacity, validity (0, 1, 2) and inferred (0, 1) in
 // the first 23 entries; or 100 for a slice shorter than that, one of the book, 13, 15, 16, 18, 24, 25.
 #[unsafe(no_mangle)]
+#[tactic(auto, unfolding(floats::specs::Outcome::need, crate::specs::Slices::outcome_number, crate::specs::Models::excess_written))]
 pub extern "C" fn zektonk_excess(book: &[u8], t: f64, x: &[f64], out: &mut [f64]) -> u64
     ensures { ExcessGives (need (leb 23 (length out.old)) 100 (excess_at book.now t x.now)) result out.old out.new }
 {
-    if out.len() < 23 {
-        return 100;
-    }
-    outcome::number_in(excess_at(book, t, x, out))
+    let Some(front) = out.first_chunk_mut() else {
+        return 100; // Kept: for C, and no refusal's number.
+    };
+    outcome::number_in(excess_at(book, t, x, front))
 }
 
 // 1 liquid, 2 vapor, 3 both with `out` filled, or 100 + the refusal's number; 0 where a slice is too short.
@@ -255,6 +249,7 @@ pub extern "C" fn zektonk_rachford_rice_negative(
 
 // 100 + n for an accepted book, else its number.
 #[unsafe(no_mangle)]
+#[tactic(auto, unfolding(crate::specs::Slices::book_number))]
 pub extern "C" fn zektonk_open_book(book: &[u8]) -> u64
     ensures { result ≡ book_number (book_of book.now) }
 {
@@ -276,6 +271,7 @@ fn repeat(table: &[f64; 512], s: Tabled, x: &[f64; 8], count: u64) -> u64
     count
 }
 
+// Kept: parameters, then tables, as in `excess_in`: two lines, and a function of its own would repeat the contract of `tables`.
 fn repeat_from(book: &[u8], n: usize, t: Temperature, x: &[f64; 8], count: u64) -> u64
     ensures { result ≡ count }
 {

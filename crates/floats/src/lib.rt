@@ -1,7 +1,7 @@
 // The small functions on f64, each equal to its definition in specs/Small.antt.
 #![tactic(auto)]
 
-ghost use Rattle.std.specs.Prelude.{◌≡◌, if◌then◌else◌};
+ghost use Rattle.std.specs.Prelude.{◌≡◌, ◌≤◌, if◌then◌else◌};
 ghost use Rattle.floats.specs.Small.{is_finite, positive, max_of, min_of, abs_of, bits_of, float_of};
 ghost use Rattle.floats.specs.Vector.{places};
 
@@ -66,4 +66,20 @@ pub fn places(n: usize) -> usize
     ensures { result ≡ places n }
 {
     n.min(8)
+}
+
+// How many solvents count: at most the eight that there is room for.
+#[derive(Clone, Copy)]
+pub struct Count {
+    pub n: usize,
+    ghost few: { n ≤ 8 },
+}
+
+impl Count {
+    // A count past eight is read as eight.
+    pub fn of(n: usize) -> Count
+        ensures { result.n ≡ places n }
+    {
+        Count { n: places(n) }
+    }
 }

@@ -17,6 +17,7 @@ pub struct Jet {
 
 impl Jet {
     // A number that doesn't depend on the temperature.
+    #[tactic(auto, unfolding(crate::specs::Jets::const_j, crate::specs::Jets::two_j))]
     pub fn constant(v: f64) -> Self
         ensures { result ≡ const_j v }
     {
@@ -24,16 +25,18 @@ impl Jet {
     }
 
     // Value and first derivative alone.
+    #[tactic(auto, unfolding(crate::specs::Jets::two_j))]
     pub fn two(v: f64, slope: f64) -> Self
         ensures { result ≡ two_j v slope }
     {
         Self {
-            v: v,
+            v,
             d: slope,
             dd: 0.0,
         }
     }
 
+    #[tactic(auto, unfolding(crate::specs::Jets::add_j))]
     pub fn add(self, o: Jet) -> Jet
         ensures { result ≡ add_j self o }
     {
@@ -44,6 +47,7 @@ impl Jet {
         }
     }
 
+    #[tactic(auto, unfolding(crate::specs::Jets::sub_j))]
     pub fn sub(self, o: Jet) -> Jet
         ensures { result ≡ sub_j self o }
     {
@@ -54,6 +58,7 @@ impl Jet {
         }
     }
 
+    #[tactic(auto, unfolding(crate::specs::Jets::neg_j))]
     pub fn neg(self) -> Jet
         ensures { result ≡ neg_j self }
     {
@@ -64,6 +69,7 @@ impl Jet {
         }
     }
 
+    #[tactic(auto, unfolding(crate::specs::Jets::mul_j))]
     pub fn mul(self, o: Jet) -> Jet
         ensures { result ≡ mul_j self o }
     {
@@ -74,6 +80,7 @@ impl Jet {
         }
     }
 
+    #[tactic(auto, unfolding(crate::specs::Jets::scale_j))]
     pub fn scale(self, x: f64) -> Jet
         ensures { result ≡ scale_j self x }
     {
@@ -84,16 +91,18 @@ impl Jet {
         }
     }
 
+    #[tactic(auto, unfolding(crate::specs::Jets::div_j))]
     pub fn div(self, o: Jet) -> Jet
         ensures { result ≡ div_j self o }
     {
         let q = self.v / o.v;
         let d = (self.d - q * o.d) / o.v;
         let dd = (self.dd - 2.0 * d * o.d - q * o.dd) / o.v;
-        Jet { v: q, d: d, dd: dd }
+        Jet { v: q, d, dd }
     }
 
     // exp of self, where e is exp of its value.
+    #[tactic(auto, unfolding(crate::specs::Jets::exp_with))]
     pub fn exp_with(self, e: f64) -> Jet
         ensures { result ≡ exp_with e self }
     {
@@ -111,6 +120,7 @@ impl Jet {
     }
 
     // ln of self, where l is ln of its value.
+    #[tactic(auto, unfolding(crate::specs::Jets::ln_with))]
     pub fn ln_with(self, l: f64) -> Jet
         ensures { result ≡ ln_with l self }
     {

@@ -2,14 +2,15 @@
 // p = p_r exp((T_r/T) Σ n_k θ^t_k), θ = 1 − T/T_r.
 #![tactic(auto)]
 
-ghost use Rattle.std.specs.Prelude.{◌≡◌, ◌≤◌, ◌*◌, not, ◌&&◌};
+ghost use Rattle.std.specs.Prelude.{◌≡◌, ◌*◌, ◌/◌, not, ◌&&◌};
 ghost use Rattle.std.specs.Float.Ieee.{neg, le};
 ghost use Rattle.floats.specs.Arithmetic.{◌⊕◌, ◌⊖◌, ◌⊗◌, ◌⊘◌, 0f, 1f};
 ghost use Rattle.floats.specs.Small.{is_finite};
 ghost use Rattle.numerics.specs.Numerics.{ln_of};
-ghost use Rattle.liquid.specs.Vapor.{in_range, term, slope_term, curvature_term, sums_of, vapor_of, vapor_from, vapor_pressure_of};
+ghost use Rattle.liquid.specs.Vapor.{in_range, sums_of, vapor_of, vapor_from, vapor_pressure_of};
 ghost use Rattle.outcome.specs.Refused.{outcome_of};
 
+use floats::Count;
 use outcome::Refusal;
 use records::Ancillary;
 use thermo_types::Temperature;
@@ -24,6 +25,7 @@ pub struct VaporPressure {
 }
 
 // ln p, p in Pa, with its derivatives by T in 1/K and 1/K².
+// Kept: this and Sums have a Jet's three fields, but are public types, and the definitions in specs/ name their own.
 #[derive(Clone, Copy)]
 pub struct Logarithm {
     pub value: f64,
@@ -39,7 +41,7 @@ pub struct Sums {
     pub d2s: f64,
 }
 
-// T in a closed range, K.
+// In a closed range.
 pub fn in_range(low: f64, high: f64, t: f64) -> bool
     ensures { result ≡ in_range low high t }
 {
@@ -57,17 +59,18 @@ fn add_term(z: Sums, t_r: f64, n: f64, e: f64, p: f64, q: f64, r: f64) -> Sums
     }
 }
 
-// Two terms to a step, so that their powers are worked out side by side.
-fn sum_pairs(n: &[f64; 8], e: &[f64; 8], t_r: f64, theta: f64, l: f64, pairs: usize) -> Sums
-    requires { (pairs ≤ 4) × (l ≡ ln_of theta) }
-    ensures { result ≡ sums_of n.now e.now t_r theta (2 * pairs) }
+// Two terms to a step, so that their powers are worked out side by side; of an odd count not the last.
+// Kept: (n, e, t_r, theta, m) go through two functions alone, so a struct of them saves nothing.
+fn sum_pairs(n: &[f64; 8], e: &[f64; 8], t_r: f64, theta: f64, l: f64, m: Count) -> Sums
+    requires { l ≡ ln_of theta }
+    ensures { result ≡ sums_of n.now e.now t_r theta (2 * (m.n / 2)) }
 {
     let mut z = Sums {
         s: 0.0,
         ds: 0.0,
         d2s: 0.0,
     };
-    for i in 0..pairs {
+    for i in 0..m.n / 2 {
         let a = e[2 * i];
         let b = e[2 * i + 1];
         let p = numerics::exp_two(a * l, b * l);
@@ -80,19 +83,18 @@ fn sum_pairs(n: &[f64; 8], e: &[f64; 8], t_r: f64, theta: f64, l: f64, pairs: us
 }
 
 // ln θ once, since θ^e is exp(e ln θ).
-fn sum_terms(n: &[f64; 8], e: &[f64; 8], t_r: f64, theta: f64, count: usize) -> Sums
-    requires { count ≤ 8 }
-    ensures { result ≡ sums_of n.now e.now t_r theta count }
+fn sum_terms(n: &[f64; 8], e: &[f64; 8], t_r: f64, theta: f64, m: Count) -> Sums
+    ensures { result ≡ sums_of n.now e.now t_r theta m.n }
 {
     let l = numerics::ln(theta);
-    let z = sum_pairs(n, e, t_r, theta, l, count / 2);
-    if count % 2 == 0 {
+    let z = sum_pairs(n, e, t_r, theta, l, m);
+    if m.n % 2 == 0 {
         return z;
     }
-    let a = e[count - 1];
+    let a = e[m.n - 1];
     let p = numerics::exp_two(a * l, (a - 1.0) * l);
     let r = numerics::exp((a - 2.0) * l);
-    add_term(z, t_r, n[count - 1], a, p.0, p.1, r)
+    add_term(z, t_r, n[m.n - 1], a, p.0, p.1, r)
 }
 
 // All four finite and the pressure positive.
@@ -107,18 +109,18 @@ pub fn is_representable(pressure: f64, ln_p: f64, d1: f64, d2: f64) -> bool
 }
 
 // ln p from S, and its two derivatives by T.
+#[tactic(auto, unfolding(crate::specs::Vapor::vapor_from))]
 fn from_sums(t_r: f64, reducing_value: f64, t: f64, sums: Sums) -> Logarithm
     ensures { (result.value ≡ (vapor_from t_r reducing_value t sums).ln_pressure) × (result.slope ≡ (vapor_from t_r reducing_value t sums).d_ln_pressure_dt) × (result.curvature ≡ (vapor_from t_r reducing_value t sums).d2_ln_pressure_dt2) }
 {
-    let s = sums.s;
-    let ds = sums.ds;
+    let Sums { s, ds, d2s } = sums;
     let q = t_r / t;
     let dq = -t_r / (t * t);
     let d2q = 2.0 * t_r / (t * t * t);
     Logarithm {
         value: numerics::ln(reducing_value) + q * s,
         slope: dq * s + q * ds,
-        curvature: d2q * s + 2.0 * dq * ds + q * sums.d2s,
+        curvature: d2q * s + 2.0 * dq * ds + q * d2s,
     }
 }
 
@@ -126,14 +128,13 @@ fn from_sums(t_r: f64, reducing_value: f64, t: f64, sums: Sums) -> Logarithm
 pub fn ln_pressure(a: Ancillary, t: f64) -> Logarithm
     ensures { (result.value ≡ (vapor_of a t).ln_pressure) × (result.slope ≡ (vapor_of a t).d_ln_pressure_dt) × (result.curvature ≡ (vapor_of a t).d2_ln_pressure_dt2) }
 {
-    let t_r = a.t_r;
-    let n = a.n;
-    let e = a.t;
-    let s = sum_terms(&n, &e, t_r, 1.0 - t / t_r, floats::places(a.count));
-    from_sums(t_r, a.reducing_value, t, s)
+    let theta = 1.0 - t / a.t_r;
+    let sums = sum_terms(&a.n, &a.t, a.t_r, theta, Count::of(a.count));
+    from_sums(a.t_r, a.reducing_value, t, sums)
 }
 
 // Outside the correlation's range: 22; not representable: 25.
+#[tactic(auto, unfolding(crate::specs::Vapor::vapor_pressure_of, floats::specs::Outcome::need))]
 pub fn vapor_pressure(a: Ancillary, t: Temperature) -> Result<VaporPressure, Refusal>
     ensures { outcome_of result ≡ vapor_pressure_of a t.0 }
 {

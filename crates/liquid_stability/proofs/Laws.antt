@@ -1,31 +1,33 @@
 -- Turns of the loops, the ways out of a turn of a trial, out of a trial and out of the trials. Assumes nothing.
 use Prim.Native.Nat.{ℕ, zero, suc, ◌+◌, ◌-◌, ◌<◌, ◌≤◌}
 use mathlib.Core.Path.{◌≡◌, refl, ◌∙◌, ap, sym}
-use mathlib.Core.Bool.{Bool, true, false, not, cond, ◌&&◌}
+use mathlib.Core.Bool.{Bool, true, false, cond, ◌&&◌}
 use mathlib.Core.List.{List}
 use native.Mathlib.Nat.{zero-add, suc-add}
 use native.Mathlib.Numerals.{add-one}
 use native.Mathlib.Omega.{arith}
 use lib.Dec.{T, ltb, le→leb}
 use lib.IntN.{pos}
-use lib.ListN.{set}
 use lib.Ieee.{Float, nan, binary64, lt, le, of_int, in_float}
-use Rattle.std.specs.Prelude.{Option, Some, None, Result, Ok, Err}
-use Rattle.floats.specs.Arithmetic.{◌⊕◌, ◌⊖◌, ◌⊗◌, ◌⊘◌, 0f, 1f}
+use Rattle.std.specs.Prelude.{Result, Ok, Err}
+use Rattle.std.specs.declared.ops.ControlFlow.{ControlFlow}
+use Rattle.std.specs.declared.ops.ControlFlow.TheVariants.{Break, Continue}
+use Rattle.floats.specs.Arithmetic.{◌⊕◌, ◌⊘◌, 0f}
+use Rattle.floats.specs.Small.{is_finite}
 use Rattle.floats.specs.Fold.{fold_to, active}
 use Rattle.floats.specs.Vector.{at, vec, zeros8}
-use Rattle.floats.specs.Outcome.{Out, ok, no, bind, choose}
+use Rattle.floats.specs.Outcome.{Out, ok, no, bind, need, choose}
 use Rattle.floats.proofs.Folds.{fold_cong}
 use Rattle.floats.proofs.Fills.{fill-at, fill_cong}
 use Rattle.numerics.specs.Numerics.{exp_of}
 use Rattle.outcome.specs.Refused.{number, outcome_of}
 use Rattle.outcome.specs.declared.Refusal.{Refusal}
+use Rattle.outcome.specs.declared.Refusal.TheVariants.{ResultNotFinite}
 use Rattle.thermo_types.specs.declared.ActivityOptions.{ActivityOptions}
 use Rattle.thermo_models.specs.Model.{Activity}
 use Rattle.liquid_stability.specs.declared.LiquidStabilityTrial.{LiquidStabilityTrial}
-use Rattle.liquid_stability.specs.declared.Turned.{Turned}
-use Rattle.liquid_stability.specs.Stability.{trivial_distance, present_count, start_from, others_in, total_of, trial_composition, distance_of, next_of, change_of, apart_of, unstable, trial_with, tangent, Trials, no_trials, with_trial, judge, trial_from, trials_to, stability_of}
-use Rattle.liquid_stability.specs.Steps.{amounts_of, after, Judges, TrialTurn}
+use Rattle.liquid_stability.specs.Stability.{trivial_distance, ln_w_tolerance, present_count, start_of, others_in, total_of, trial_composition, distance_of, next_of, change_of, apart_of, unstable, trial_with, tangent, Trials, no_trials, with_trial, judge, trial_from, trials_to, stability_of}
+use Rattle.liquid_stability.specs.Steps.{amounts_of, after, TrialTurn}
 
 -- ---- the solvents present
 at-present : {A : Type 0} (b : Bool) {u v : A} (w : A) → (b ≡ true → u ≡ v) → cond b u w ≡ cond b v w
@@ -75,36 +77,65 @@ unfolding bind
 by_ln_gamma (ok a) k = refl
 by_ln_gamma (no r) k = refl
 
+-- a trial with tm below the threshold is not trivial
+not-trivial : (threshold tm : Float) (trivial : Bool) → true ≡ unstable threshold tm trivial → false ≡ trivial
+unfolding unstable
+not-trivial threshold tm false e = refl
+not-trivial threshold tm true e = by_cases (lt tm threshold) e
+  where
+    by_cases : (a : Bool) → true ≡ (a && false) → false ≡ true
+    by_cases true e = sym e
+    by_cases false e = sym e
+
 -- ---- a whole turn: o is the outcome of ln γ at w
-module _ (E : List Float → Out Activity) (threshold : Float) (n : ℕ) (h : n ≤ 8) (x d lnW : List Float) {big w : List Float} {s : Float}
+module _ (E : List Float → Out Activity) (threshold : Float) (n : ℕ) (h : n ≤ 8) (x d lnW : List Float) (j iteration : ℕ) {big w : List Float} {s : Float}
     (pb : big ≡ amounts_of x lnW n) (ps : s ≡ fold_to (active (at x) (λ i a. a ⊕ at big i)) 0f n)
     (pw : w ≡ vec (λ i. cond (lt 0f (at x i)) (at big i ⊘ s) 0f) n) where
-  rest : (j left done : ℕ) → List Float → Out LiquidStabilityTrial
-  rest j left done lg = judge threshold (distance_of x lnW lg d n) (change_of x lnW lg d n) (le (apart_of x w n) trivial_distance)
+  rest : (left done : ℕ) → List Float → Out LiquidStabilityTrial
+  rest left done lg = judge threshold (distance_of x lnW lg d n) (change_of x lnW lg d n) (le (apart_of x w n) trivial_distance)
       (trial_with j (distance_of x lnW lg d n) w (suc done)) (trial_from E threshold n x d j left (suc done) (next_of d lg n))
 
   -- the definition goes on from ln γ
-  goes_on : {o : Out (List Float)} → o ≡ bind (E w) (λ a. ok a.ln_gamma) → (j left done : ℕ)
-      → trial_from E threshold n x d j (suc left) done lnW ≡ bind o (rest j left done)
+  goes_on : {o : Out (List Float)} → o ≡ bind (E w) (λ a. ok a.ln_gamma) → (left done : ℕ)
+      → trial_from E threshold n x d j (suc left) done lnW ≡ bind o (rest left done)
   unfolding trial_from judge rest
-  goes_on e j left done = rw (← composition-is x lnW n h pb ps pw, e) (by_ln_gamma (E w) (rest j left done))
+  goes_on e left done = rw (← composition-is x lnW n h pb ps pw, e) (by_ln_gamma (E w) (rest left done))
 
-  pub turn-refused : (e : Refusal) {r : Result Turned Refusal} → no (number e) ≡ bind (E w) (λ a. ok a.ln_gamma) → outcome_of r ≡ no (number e)
-      → TrialTurn E threshold n x d lnW r
+  pub turn-refused : (e : Refusal) {r : Result (ControlFlow LiquidStabilityTrial (List Float)) Refusal} → no (number e) ≡ bind (E w) (λ a. ok a.ln_gamma) → outcome_of r ≡ no (number e)
+      → TrialTurn E threshold n x d j iteration lnW r
   unfolding bind
-  turn-refused e p q = record { goes = λ j left done. rw q (goes_on p j left done) }
+  turn-refused e p q = record { goes = λ left done i. rw q (goes_on p left done) }
 
   module _ {lg : List Float} (p : ok lg ≡ bind (E w) (λ a. ok a.ln_gamma)) {tm change apart : Float}
       (pd : tm ≡ distance_of x lnW lg d n) (pc : change ≡ change_of x lnW lg d n) (pa : apart ≡ apart_of x w n) where
-    pub turn-unjudged : (e : Refusal) {r : Result Turned Refusal} → Judges threshold tm change (le apart trivial_distance) (Err e) → outcome_of r ≡ no (number e)
-        → TrialTurn E threshold n x d lnW r
-    unfolding bind rest
-    turn-unjudged e pj q = record { goes = λ j left done. rw (q, goes_on p j left done, ← pd, ← pc, ← pa) (sym (pj.goes _ _)) }
+    pub turn-infinite : false ≡ is_finite tm → TrialTurn E threshold n x d j iteration lnW (Err ResultNotFinite)
+    unfolding bind rest judge need
+    turn-infinite f = record { goes = λ left done i. rw (goes_on p left done, ← pd, ← f) }
 
-    pub turn_judged : {found : Option Bool} {nx : List Float} → Judges threshold tm change (le apart trivial_distance) (Ok found) → nx ≡ next_of d lg n
-        → TrialTurn E threshold n x d lnW (Ok (record { distance = tm; composition = w; next = nx; found = found }))
-    unfolding bind after rest
-    turn_judged pj pn = record { goes = λ j left done. rw (goes_on p j left done, ← pd, ← pc, ← pa, ← pn) (sym (pj.goes _ _)) }
+    abbrev trivial : Bool
+    trivial = le apart trivial_distance
+
+    abbrev found : Bool → LiquidStabilityTrial
+    found b = trial_with j tm w iteration b
+
+    module _ (f : true ≡ is_finite tm) where
+      turned : (left done : ℕ) → iteration ≡ suc done → trial_from E threshold n x d j (suc left) done lnW
+          ≡ choose (unstable threshold tm trivial) (ok (found false)) (choose (le change ln_w_tolerance) (ok (found trivial)) (trial_from E threshold n x d j left (suc done) (next_of d lg n)))
+      unfolding bind rest judge need
+      turned left done i = rw (goes_on p left done, ← pd, ← pc, ← pa, ← f, i)
+
+      pub turn-unstable : true ≡ unstable threshold tm trivial → TrialTurn E threshold n x d j iteration lnW (Ok (Break (found trivial)))
+      unfolding bind after choose
+      turn-unstable u = let t = not-trivial threshold tm trivial u in record { goes = λ left done i. rw (turned left done i, ← u, ← t) }
+
+      module _ (u : false ≡ unstable threshold tm trivial) where
+        pub turn-converged : le change ln_w_tolerance ≡ true → TrialTurn E threshold n x d j iteration lnW (Ok (Break (found trivial)))
+        unfolding bind after choose
+        turn-converged c = record { goes = λ left done i. rw (turned left done i, ← u, c) }
+
+        pub turn-on : le change ln_w_tolerance ≡ false → {nx : List Float} → nx ≡ next_of d lg n → TrialTurn E threshold n x d j iteration lnW (Ok (Continue nx))
+        unfolding bind after choose
+        turn-on c pn = record { goes = λ left done i. rw (turned left done i, ← u, c, ← pn) }
 
 -- ---- a trial
 module _ (E : List Float → Out Activity) (threshold : Float) (n : ℕ) (x d : List Float) (j : ℕ) where
@@ -119,24 +150,11 @@ module _ (E : List Float → Out Activity) (threshold : Float) (n : ℕ) (x d : 
         let z : limit - done ≡ 0 = omega arith in
         rw z at whole
 
-    turned : done < limit → {r : Result Turned Refusal} → TrialTurn E threshold n x d lnW r
-        → bind (outcome_of r) (λ s. after s.found (trial_with j s.distance s.composition (done + 1)) (run (limit - (done + 1)) (done + 1) s.next)) ≡ W
-    turned l ps =
+    pub trial_on : done < limit → {r : Result (ControlFlow LiquidStabilityTrial (List Float)) Refusal} → TrialTurn E threshold n x d j (done + 1) lnW r
+        → bind (outcome_of r) (after (run (limit - (done + 1)) (done + 1))) ≡ W
+    trial_on l ps =
         let z : limit - done ≡ suc (limit - suc done) = omega arith in
-        rw (add-one done) (sym (ps.goes j (limit - suc done) done) ∙ rw z at whole)
-
-    pub trial-refused : done < limit → {e : Refusal} → TrialTurn E threshold n x d lnW (Err e) → no (number e) ≡ W
-    unfolding bind
-    trial-refused l ps = turned l ps
-
-    pub trial-found : done < limit → {t : Turned} {b : Bool} → TrialTurn E threshold n x d lnW (Ok t) → t.found ≡ Some b
-        → ok (trial_with j t.distance t.composition (done + 1) b) ≡ W
-    unfolding bind after
-    trial-found l ps f = rw f at (turned l ps)
-
-    pub trial-more : done < limit → {t : Turned} → TrialTurn E threshold n x d lnW (Ok t) → t.found ≡ None → run (limit - (done + 1)) (done + 1) t.next ≡ W
-    unfolding bind after
-    trial-more l ps f = rw f at (turned l ps)
+        rw (add-one done) (sym (ps.goes (limit - suc done) done (add-one done)) ∙ rw z at whole)
 
   pub trial-start : (limit : ℕ) (lnW : List Float) {l : List Float} → l ≡ lnW
       → trial_from E threshold n x d j (limit - 0) 0 l ≡ trial_from E threshold n x d j limit 0 lnW
@@ -149,8 +167,8 @@ module _ (E : List Float → Out Activity) (n : ℕ) (o : ActivityOptions) (x d 
   abbrev runs : ℕ → Out Trials
   runs k = trials_to E n o x d k
 
-  abbrev tried : Float → ℕ → Out LiquidStabilityTrial
-  tried others k = trial_from E o.tm_threshold n x d k o.max_iterations 0 (start_from others n k)
+  abbrev tried : ℕ → Out LiquidStabilityTrial
+  tried k = trial_from E o.tm_threshold n x d k o.max_iterations 0 (start_of x n k)
 
   stays : (k r : ℕ) → runs k ≡ no r → runs (suc k) ≡ no r
   unfolding trials_to bind
@@ -165,17 +183,17 @@ module _ (E : List Float → Out Activity) (n : ℕ) (o : ActivityOptions) (x d 
     unfolding trials_to bind choose
     trials_skip t = rw (add-one, h, t)
 
-    module _ (t : lt 0f (at x k) ≡ true) {others : Float} (po : others ≡ others_in x n) where
-      pub trials-refused : {r : ℕ} → k < n → no r ≡ tried others k → trials_to E n o x d n ≡ no r
+    module _ (t : lt 0f (at x k) ≡ true) where
+      pub trials-refused : {r : ℕ} → k < n → no r ≡ tried k → trials_to E n o x d n ≡ no r
       unfolding trials_to bind choose
       trials-refused {r} l q =
-          let p : runs (suc k) ≡ no r = rw (h, t, ← po, ← q) in
+          let p : runs (suc k) ≡ no r = rw (h, t, ← q) in
           let z : n ≡ (n - suc k) + suc k = omega arith in
           ap runs z ∙ stays_to (suc k) (n - suc k) r p
 
-      pub trials-more : {a : LiquidStabilityTrial} → ok a ≡ tried others k → trials_to E n o x d (k + 1) ≡ ok (with_trial o.tm_threshold s a)
+      pub trials-more : {a : LiquidStabilityTrial} → ok a ≡ tried k → trials_to E n o x d (k + 1) ≡ ok (with_trial o.tm_threshold s a)
       unfolding trials_to bind choose
-      trials-more q = rw (add-one, h, t, ← po, ← q)
+      trials-more q = rw (add-one, h, t, ← q)
 
 -- ---- the number of the other solvents present
 module _ (x : List Float) (n : ℕ) {c : ℕ} (e : c ≡ present_count x n) where

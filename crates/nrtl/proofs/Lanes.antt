@@ -1,4 +1,4 @@
--- Jets side by side: what stands where, two and four lanes more, and an odd count. Assumes nothing.
+-- Jets side by side: what stands where, more lanes, and an odd count. Assumes nothing.
 use Prim.Native.Nat.{ℕ, zero, suc, ◌+◌, ◌*◌, ◌%◌, ◌<◌, ◌≤◌}
 use mathlib.Core.Path.{◌≡◌, refl, sym, ◌∙◌, ap}
 use mathlib.Core.Logic.{⊎_elim}
@@ -11,19 +11,16 @@ use lib.Ieee.{Float, nan}
 use Rattle.floats.specs.Arithmetic.{0f}
 use Rattle.floats.specs.Fold.{fold_to}
 use Rattle.floats.specs.Vector.{at, fill, zeros8}
-use Rattle.floats.proofs.Fills.{fill-turn}
+use Rattle.floats.proofs.Folds.{fold_turn}
 use Rattle.jet.specs.declared.Jet.{Jet}
-use Rattle.jet.specs.Jets.{div_j}
 use Rattle.jet.specs.Planes.{first_two}
 use Rattle.jet.proofs.Planes.{two_is, jet_is}
 use Rattle.excess.specs.Steps.{GammasTo}
-use Rattle.nrtl.specs.declared.Pair.{Pair}
-use Rattle.nrtl.specs.declared.Quad.{Quad}
-use Rattle.nrtl.specs.Lanes.{parts_of, lane, lanes, jet_in, two_in, pair_of, quad_of, div_pair, lane_pair, pair_in, quad_in, set_two, set_four, evened, Cleared}
+use Rattle.nrtl.specs.Lanes.{parts_of, lane, lanes, lanes_from, jet_in, two_in, evened, Cleared}
 
 -- ---- one lane
 
--- the code's stores: value and slope, a Jet, and of a pair
+-- the code's stores: value and slope, and a Jet
 pub two-kept : (j : Jet) (i : ℕ) (l : List Float) → set (set l i j.v) (8 + i) j.d ≡ lane j i 2 l
 unfolding fold_to parts_of
 two-kept j i l = let z : 0 + i ≡ i = omega arith in rw z
@@ -31,54 +28,6 @@ two-kept j i l = let z : 0 + i ≡ i = omega arith in rw z
 pub jet_kept : (j : Jet) (i : ℕ) (l : List Float) → set (set (set l i j.v) (8 + i) j.d) (16 + i) j.dd ≡ lane j i 3 l
 unfolding fold_to parts_of
 jet_kept j i l = let z : 0 + i ≡ i = omega arith in rw z
-
-pub pair-kept : (p : Pair) (i m : ℕ) (l : List Float) {l₁ l₂ : List Float} → l₁ ≡ lane p.a i m l → l₂ ≡ lane p.b (i + 1) m l₁ → l₂ ≡ lane_pair p i m l
-pair-kept p i m l e f = rw (f, e)
-
-pub ratio-kept : (c s : Pair) (i : ℕ) (l : List Float) {a b : Jet} {l₁ l₂ : List Float} → a ≡ div_j c.a s.a → l₁ ≡ lane a i 3 l → b ≡ div_j c.b s.b
-    → l₂ ≡ lane b (i + 1) 3 l₁ → l₂ ≡ lane_pair (div_pair c s) i 3 l
-unfolding div_pair
-ratio-kept c s i l p e q f = rw (f, e, p, q)
-
--- ---- two and four of F
-pub pair_is : (F : ℕ → Jet) (i : ℕ) {a b : Jet} → a ≡ F i → b ≡ F (i + 1) → ◌≡◌ {A = Pair} (record { a = a; b = b }) (pair_of F i)
-unfolding pair_of
-pair_is F i p q = rw (p, q)
-
-pub quad_is : (F : ℕ → Jet) (i : ℕ) {a b c d : Jet} → a ≡ F i → b ≡ F (i + 1) → c ≡ F (i + 2) → d ≡ F (i + 2 + 1)
-    → ◌≡◌ {A = Quad} (record { a = record { a = a; b = b }; b = record { a = c; b = d } }) (quad_of F i)
-unfolding pair_of quad_of
-quad_is F i p q r s = rw (p, q, r, s)
-
-pub sums-pair : (F : ℕ → Jet) (m i : ℕ) (l : List Float) {s : Pair} {l' : List Float} → s ≡ pair_of F i → l' ≡ lane_pair s i m l → l' ≡ pair_in F m i l
-sums-pair F m i l p e = rw (e, p)
-
-pub sums_quad : (F : ℕ → Jet) (m i : ℕ) (l : List Float) {s : Quad} {l₁ l₂ : List Float} → s ≡ quad_of F i → l₁ ≡ lane_pair s.a i m l
-    → l₂ ≡ lane_pair s.b (i + 2) m l₁ → l₂ ≡ quad_in F m i l
-unfolding quad_of
-sums_quad F m i l p e f = rw (f, e, p)
-
-pub ratios-pair : (C S : ℕ → Jet) (i : ℕ) (l : List Float) {c s : Pair} {l' : List Float} → c ≡ pair_of C i → s ≡ pair_of S i → l' ≡ lane_pair (div_pair c s) i 3 l
-    → l' ≡ pair_in (λ k. div_j (C k) (S k)) 3 i l
-unfolding div_pair pair_of
-ratios-pair C S i l p q e = rw (e, p, q)
-
-pub ratios_quad : (C S : ℕ → Jet) (i : ℕ) (l : List Float) {c s : Quad} {l₁ l₂ : List Float} → c ≡ quad_of C i → s ≡ quad_of S i
-    → l₁ ≡ lane_pair (div_pair c.a s.a) i 3 l → l₂ ≡ lane_pair (div_pair c.b s.b) (i + 2) 3 l₁ → l₂ ≡ quad_in (λ k. div_j (C k) (S k)) 3 i l
-unfolding div_pair pair_of quad_of
-ratios_quad C S i l p q e f = rw (f, e, p, q)
-
--- a part of two and of four ln γ
-pub lns_pair : (part : Jet → Float) (L : ℕ → Jet) (i : ℕ) (o : List Float) {l : Pair} {o' : List Float} → l ≡ pair_of L i
-    → o' ≡ set (set o i (part l.a)) (i + 1) (part l.b) → o' ≡ set_two (λ k. part (L k)) i o
-unfolding pair_of
-lns_pair part L i o p e = rw (e, p)
-
-pub lns_quad : (part : Jet → Float) (L : ℕ → Jet) (i : ℕ) (o : List Float) {l : Quad} {o₁ o₂ : List Float} → l ≡ quad_of L i
-    → o₁ ≡ set (set o i (part l.a.a)) (i + 1) (part l.a.b) → o₂ ≡ set (set o₁ (i + 2) (part l.b.a)) (i + 2 + 1) (part l.b.b)
-    → o₂ ≡ set_four (λ k. part (L k)) i o
-unfolding pair_of quad_of
-lns_quad part L i o p e f = rw (f, e, p)
 
 -- ---- what stands where
 lane_length : (j : Jet) (i m : ℕ) (l : List Float) → length (lane j i m l) ≡ length l
@@ -132,34 +81,23 @@ module _ (F : ℕ → Jet) (m n : ℕ) (m3 : m ≤ 3) (n8 : n ≤ 8) {l : List F
   unfolding jet_in parts_of
   jet_in_lem i q r = jet_is (F i) (first_in i (omega arith) r) (part_in 1 i (omega arith) r) (part_in 2 i q r)
 
--- ---- two and four more
-module _ (F : ℕ → Jet) (m i : ℕ) (old : List Float) {l l' : List Float} where
-  pub pair_turn : l' ≡ pair_in F m i l → l ≡ lanes F m i old → l' ≡ lanes F m (i + 2) old
-  unfolding fold_to pair_of
-  pair_turn p q =
-      let e : i + 2 ≡ suc (suc i) = omega arith in
-      let f : i + 1 ≡ suc i = omega arith in
-      rw (e, p, f, q)
+-- ---- more lanes
+pub lane_turn : (F : ℕ → Jet) (m i w : ℕ) (old : List Float) {j : Jet} {l l' : List Float} → j ≡ F (i + w) → l' ≡ lane j (i + w) m l → l ≡ lanes_from F m i w old
+    → l' ≡ lanes_from F m i (w + 1) old
+lane_turn F m i w old e p q = fold_turn (λ v (l : List Float). lane (F (i + v)) (i + v) m l) old w (rw e at p) q
 
-pub quad_turn : (F : ℕ → Jet) (m i : ℕ) (old : List Float) {l l' : List Float} → l' ≡ quad_in F m i l → l ≡ lanes F m i old → l' ≡ lanes F m (i + 4) old
-quad_turn F m i old {l} p q =
-    let e : i + 2 + 2 ≡ i + 4 = omega arith in
-    let h : pair_in F m i l ≡ lanes F m (i + 2) old = pair_turn F m i old refl q in
-    pair_turn F m (i + 2) old p h ∙ ap (λ w. lanes F m w old) e
+lanes_more : (F : ℕ → Jet) (m i w : ℕ) (old : List Float) → lanes_from F m i w (lanes F m i old) ≡ lanes F m (i + w) old
+unfolding fold_to
+lanes_more F m i zero old = let z : i + 0 ≡ i = omega arith in rw z
+lanes_more F m i (suc w) old =
+    let z : i + suc w ≡ suc (i + w) = omega arith in
+    rw (z, lanes_more F m i w old)
+
+pub lanes_turn : (F : ℕ → Jet) (m i w : ℕ) (old : List Float) {l l' : List Float} → l' ≡ lanes_from F m i w l → l ≡ lanes F m i old → l' ≡ lanes F m (i + w) old
+lanes_turn F m i w old p q = p ∙ ap (lanes_from F m i w) q ∙ lanes_more F m i w old
 
 pub lanes_done : (F : ℕ → Jet) (m k n : ℕ) (old : List Float) {l : List Float} → k ≡ n → l ≡ lanes F m k old → l ≡ lanes F m n old
 lanes_done F m k n old e p = p ∙ ap (λ w. lanes F m w old) e
-
-pub two-turn : (f : ℕ → Float) (i : ℕ) (old : List Float) {l l' : List Float} → l' ≡ set_two f i l → l ≡ fill f i old → l' ≡ fill f (i + 2) old
-two-turn f i old {l} p q =
-    let e : i + 1 + 1 ≡ i + 2 = omega arith in
-    p ∙ fill-turn f (i + 1) old refl (fill-turn f i old refl q) ∙ ap (λ w. fill f w old) e
-
-pub four-turn : (f : ℕ → Float) (i : ℕ) (old : List Float) {l l' : List Float} → l' ≡ set_four f i l → l ≡ fill f i old → l' ≡ fill f (i + 4) old
-four-turn f i old {l} p q =
-    let e : i + 2 + 2 ≡ i + 4 = omega arith in
-    let h : set_two f i l ≡ fill f (i + 2) old = two-turn f i old refl q in
-    two-turn f (i + 2) old p h ∙ ap (λ w. fill f w old) e
 
 -- ---- an odd count
 fill-past : (f : ℕ → Float) (n k : ℕ) (l : List Float) → n ≤ k → at (fill f n l) k ≡ at l k

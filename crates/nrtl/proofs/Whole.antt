@@ -9,21 +9,20 @@ use Rattle.floats.specs.Arithmetic.{0f}
 use Rattle.floats.specs.Vector.{zeros8}
 use Rattle.jet.specs.declared.Jet.{Jet}
 use Rattle.jet.specs.Jets.{scale_j}
-use Rattle.jet.specs.Planes.{twos, first_two}
+use Rattle.jet.specs.Planes.{first_two}
 use Rattle.jet.proofs.Sums.{sum_jet_cong}
 use Rattle.excess.specs.State.{state_from, finite_state}
 use Rattle.excess.specs.Steps.{GammasTo}
 use Rattle.excess.proofs.Ways.{state-filled}
-use Rattle.nrtl_tables.specs.Table.{g_plane, tau_plane}
 use Rattle.nrtl.specs.Columns.{ln_from, gibbs_from}
 use Rattle.nrtl.specs.Lanes.{lanes, jet_in, two_in, evened, Cleared}
-use Rattle.nrtl.specs.On.{s_on, r_on, ln_gamma_on, reduced_on}
+use Rattle.nrtl.specs.On.{s_on, r_on, ln_in, ln_gamma_on, reduced_on}
 use Rattle.nrtl.proofs.Lanes.{two_in_lem, jet_in_lem, gammas_cleared}
 
 module _ (m : List Float) (x : ℕ → Float) (n : ℕ) (t : Float) (n8 : n ≤ 8) {sums ratios : List Float} {ge : Jet} {lg sl lg' sl' : List Float}
     (ps : sums ≡ lanes (s_on m x n) 2 (evened n) (replicate 24 0f)) (pr : ratios ≡ lanes (r_on m x n) 3 (evened n) (replicate 24 0f))
     (pg : ge ≡ gibbs_from (jet_in ratios) x n)
-    (pl : GammasTo (ln_from (twos m tau_plane) (twos m g_plane) (two_in sums) (two_in ratios) x n) (evened n) zeros8 zeros8 lg sl)
+    (pl : GammasTo (ln_in m sums ratios x n) (evened n) zeros8 zeros8 lg sl)
     (pv : Cleared n lg lg') (pd : Cleared n sl sl') where
   s-is : (j : ℕ) → j < n → two_in sums j ≡ first_two (s_on m x n j)
   s-is j l = two_in_lem (s_on m x n) 2 n (omega arith) n8 ps j (omega arith) l
@@ -31,7 +30,7 @@ module _ (m : List Float) (x : ℕ → Float) (n : ℕ) (t : Float) (n8 : n ≤ 
   r-is : (j : ℕ) → j < n → two_in ratios j ≡ first_two (r_on m x n j)
   r-is j l = two_in_lem (r_on m x n) 3 n (omega arith) n8 pr j (omega arith) l
 
-  L-is : (i : ℕ) → i < n → ln_from (twos m tau_plane) (twos m g_plane) (two_in sums) (two_in ratios) x n i ≡ ln_gamma_on m x n i
+  L-is : (i : ℕ) → i < n → ln_in m sums ratios x n i ≡ ln_gamma_on m x n i
   unfolding ln_from
   L-is i l = sum_jet_cong n (r-is i l) (λ j h. rw (s-is j h, r-is j h))
 

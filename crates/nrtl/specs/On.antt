@@ -9,6 +9,7 @@ use Rattle.jet.specs.Planes.{jets, twos, first_two}
 use Rattle.excess.specs.State.{Excess, state_from, with_state}
 use Rattle.nrtl_tables.specs.Table.{g_plane, h_plane, tau_plane}
 use Rattle.nrtl.specs.Columns.{col_s, ln_from, gibbs_from}
+use Rattle.nrtl.specs.Lanes.{two_in}
 
 -- S and C / S, with H = τ G from the table
 abbrev pub s_on : List Float → (ℕ → Float) → ℕ → ℕ → Jet
@@ -16,6 +17,10 @@ s_on m x n i = col_s (jets m g_plane) x n i
 
 abbrev pub r_on : List Float → (ℕ → Float) → ℕ → ℕ → Jet
 r_on m x n i = div_j (col_s (jets m h_plane) x n i) (s_on m x n i)
+
+-- ln γ_i from arrays that hold S and R
+abbrev pub ln_in : List Float → List Float → List Float → (ℕ → Float) → ℕ → ℕ → Jet
+ln_in m s r x n = ln_from (twos m tau_plane) (twos m g_plane) (two_in s) (two_in r) x n
 
 -- ln γ_i without its second derivative
 abbrev pub ln_gamma_on : List Float → (ℕ → Float) → ℕ → ℕ → Jet

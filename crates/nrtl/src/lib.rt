@@ -5,20 +5,21 @@
 // Where n is odd the lane past it is worked out too, and not read.
 #![tactic(auto)]
 
-ghost use Rattle.std.specs.Prelude.{◌≡◌, ◌≤◌, ◌<◌, ◌+◌, ◌*◌, set};
-ghost use Rattle.floats.specs.Vector.{at, places, zeros8};
+ghost use Rattle.std.specs.Prelude.{◌≡◌, ◌≤◌, ◌<◌, ◌+◌, ◌*◌};
+ghost use Rattle.floats.specs.Vector.{at, fill_from, places, zeros8};
 ghost use Rattle.excess.specs.State.{state_from};
 ghost use Rattle.excess.specs.Answers.{Gives};
-ghost use Rattle.excess.specs.Steps.{GammasTo};
-ghost use Rattle.jet.specs.Jets.{add_j, scale_j};
+ghost use Rattle.excess.specs.Steps.{jet_of, Side, GammasTo};
+ghost use Rattle.jet.specs.Jets.{scale_j};
 ghost use Rattle.jet.specs.declared.Jet.{Jet};
 ghost use Rattle.jet.specs.Planes.{jet_at, two_at, jets, twos};
 ghost use Rattle.nrtl_tables.specs.Table.{g_plane, tau_plane};
-ghost use Rattle.nrtl.specs.Columns.{col_s, term_j, ln_from, gibbs_from};
-ghost use Rattle.nrtl.specs.Lanes.{lane, lanes, two_in, jet_in, pair_of, quad_of, div_pair, lane_pair, pair_in, quad_in, set_two, set_four, evened, Cleared};
-ghost use Rattle.nrtl.specs.On.{s_on, r_on, ln_gamma_on, reduced_on, nrtl_on};
+ghost use Rattle.nrtl.specs.Columns.{col_s, term_j, gibbs_from};
+ghost use Rattle.nrtl.specs.Lanes.{lane, lanes, lanes_from, two_in, jet_in, evened, Cleared};
+ghost use Rattle.nrtl.specs.On.{s_on, r_on, ln_in, ln_gamma_on, reduced_on, nrtl_on};
 
 use excess::Energies;
+use floats::Count;
 use jet::Jet;
 use nrtl_tables::{G_PLANE, H_PLANE, TAU_PLANE};
 use outcome::Refusal;
@@ -26,19 +27,8 @@ use thermo_types::Temperature;
 
 // ---- lanes: Jets of the solvents side by side, entry i of plane k at k * 8 + i
 
-#[derive(Clone, Copy)]
-struct Pair {
-    a: Jet,
-    b: Jet,
-}
-
-#[derive(Clone, Copy)]
-struct Quad {
-    a: Pair,
-    b: Pair,
-}
-
 // Value and slope of the solvent i.
+// Kept: i < 8 and the like are facts of a loop's own index; a type for an index would have to be made at each turn.
 fn keep_two(j: Jet, i: usize, l: &mut [f64; 24])
     requires { i < 8 }
     ensures { l.new ≡ lane j i 2 l.old }
@@ -63,6 +53,7 @@ fn two_in(l: &[f64; 24], i: usize) -> Jet
     Jet::two(l[i], l[8 + i])
 }
 
+#[tactic(auto, unfolding(crate::specs::Lanes::jet_in))]
 fn jet_in(l: &[f64; 24], i: usize) -> Jet
     requires { i < 8 }
     ensures { result ≡ jet_in l.now i }
@@ -74,8 +65,10 @@ fn jet_in(l: &[f64; 24], i: usize) -> Jet
     }
 }
 
-// ---- the sums S and R = C / S
+// ---- the table and the composition
 
+// Kept: wilson has a jet_at, a two_at, a keep_lns and a Liquid too. One pub fn for both has no `requires`, and would mask each index of these loops; b is a plane's begin, a constant.
+#[tactic(auto, unfolding(jet::specs::Planes::jet_at))]
 fn jet_at(table: &[f64; 512], b: usize, e: usize) -> Jet
     requires { (b ≤ 320) × (e < 64) }
     ensures { result ≡ jet_at table.now b e }
@@ -94,312 +87,183 @@ fn two_at(table: &[f64; 512], b: usize, e: usize) -> Jet
     Jet::two(table[b + e], table[b + 64 + e])
 }
 
-// The next partial sum of the column i: entry (k, i) times x_k.
-fn next_sum(s: Jet, table: &[f64; 512], b: usize, x: &[f64; 8], k: usize, i: usize) -> Jet
-    requires { (b ≤ 320) × (k < 8) × (i < 8) }
-    ensures { result ≡ add_j s (scale_j (jets table.now b k i) (at x.now k)) }
-{
-    s.add(jet_at(table, b, k * 8 + i).scale(x[k]))
+// A table, and the mole fractions x of its solvents.
+#[derive(Clone, Copy)]
+struct Liquid<'a> {
+    table: &'a [f64; 512],
+    x: &'a [f64; 8],
+    m: Count,
 }
 
-fn pair_sums(table: &[f64; 512], b: usize, x: &[f64; 8], n: usize, i: usize) -> Pair
-    requires { (b ≤ 320) × (n ≤ 8) × (i < 7) }
-    ensures { result ≡ pair_of (col_s (jets table.now b) (at x.now) n) i }
-{
-    let mut p = Jet::constant(0.0);
-    let mut q = Jet::constant(0.0);
-    for k in 0..n {
-        p = next_sum(p, table, b, x, k, i);
-        q = next_sum(q, table, b, x, k, i + 1);
+impl Liquid<'_> {
+    // Entry (k, i) of the planes at b, times x_k.
+    fn part(self, b: usize, k: usize, i: usize) -> Jet
+        requires { (b ≤ 320) × (k < 8) × (i < 8) }
+        ensures { let q = self.entry in result ≡ scale_j (jets q.table.now b k i) (at q.x.now k) }
+    {
+        jet_at(self.table, b, k * 8 + i).scale(self.x[k])
     }
-    Pair { a: p, b: q }
-}
 
-fn quad_sums(table: &[f64; 512], b: usize, x: &[f64; 8], n: usize, i: usize) -> Quad
-    requires { (b ≤ 320) × (n ≤ 8) × (i < 5) }
-    ensures { result ≡ quad_of (col_s (jets table.now b) (at x.now) n) i }
-{
-    let mut p = Jet::constant(0.0);
-    let mut q = Jet::constant(0.0);
-    let mut r = Jet::constant(0.0);
-    let mut s = Jet::constant(0.0);
-    for k in 0..n {
-        p = next_sum(p, table, b, x, k, i);
-        q = next_sum(q, table, b, x, k, i + 1);
-        r = next_sum(r, table, b, x, k, i + 2);
-        s = next_sum(s, table, b, x, k, i + 2 + 1);
+    // The sums of W columns from i on.
+    fn columns<const W: usize>(self, b: usize, i: usize) -> [Jet; W]
+        requires { (b ≤ 320) × (i + W ≤ 8) }
+        ensures { let q = self.entry in Side (col_s (jets q.table.now b) (at q.x.now) q.m.n) i W result }
+    {
+        let mut s = [Jet::constant(0.0); W];
+        for k in 0..self.m.n {
+            for w in 0..W {
+                s[w] = s[w].add(self.part(b, k, i + w));
+            }
+        }
+        s
     }
-    Quad {
-        a: Pair { a: p, b: q },
-        b: Pair { a: r, b: s },
+
+    // S and R = C / S of W solvents from i on.
+    fn sums_from<const W: usize>(self, i: usize, sums: &mut [f64; 24], ratios: &mut [f64; 24])
+        requires { i + W ≤ 8 }
+        ensures s { let q = self.entry in sums.new ≡ lanes_from (s_on q.table.now (at q.x.now) q.m.n) 2 i W sums.old }
+        ensures r { let q = self.entry in ratios.new ≡ lanes_from (r_on q.table.now (at q.x.now) q.m.n) 3 i W ratios.old }
+    {
+        let s = self.columns::<W>(G_PLANE, i);
+        let c = self.columns::<W>(H_PLANE, i);
+        for w in 0..W {
+            keep_two(s[w], i + w, sums);
+            keep_jet(c[w].div(s[w]), i + w, ratios);
+        }
     }
-}
 
-// S and R = C / S of the pair i.
-fn keep_sums(c: Pair, s: Pair, i: usize, sums: &mut [f64; 24], ratios: &mut [f64; 24])
-    requires { i < 7 }
-    ensures sums { sums.new ≡ lane_pair s i 2 sums.old }
-    ensures ratios { ratios.new ≡ lane_pair (div_pair c s) i 3 ratios.old }
-{
-    keep_two(s.a, i, sums);
-    keep_two(s.b, i + 1, sums);
-    keep_jet(c.a.div(s.a), i, ratios);
-    keep_jet(c.b.div(s.b), i + 1, ratios);
-}
-
-fn sum_pair(
-    table: &[f64; 512],
-    x: &[f64; 8],
-    n: usize,
-    i: usize,
-    sums: &mut [f64; 24],
-    ratios: &mut [f64; 24],
-)
-    requires { (n ≤ 8) × (i < 7) }
-    ensures sums { sums.new ≡ pair_in (s_on table.now (at x.now) n) 2 i sums.old }
-    ensures ratios { ratios.new ≡ pair_in (r_on table.now (at x.now) n) 3 i ratios.old }
-{
-    let s = pair_sums(table, G_PLANE, x, n, i);
-    let c = pair_sums(table, H_PLANE, x, n, i);
-    keep_sums(c, s, i, sums, ratios);
-}
-
-fn sum_quad(
-    table: &[f64; 512],
-    x: &[f64; 8],
-    n: usize,
-    i: usize,
-    sums: &mut [f64; 24],
-    ratios: &mut [f64; 24],
-)
-    requires { (n ≤ 8) × (i < 5) }
-    ensures sums { sums.new ≡ quad_in (s_on table.now (at x.now) n) 2 i sums.old }
-    ensures ratios { ratios.new ≡ quad_in (r_on table.now (at x.now) n) 3 i ratios.old }
-{
-    let s = quad_sums(table, G_PLANE, x, n, i);
-    let c = quad_sums(table, H_PLANE, x, n, i);
-    keep_sums(c.a, s.a, i, sums, ratios);
-    keep_sums(c.b, s.b, i + 2, sums, ratios);
-}
-
-fn fill_sums(
-    table: &[f64; 512],
-    x: &[f64; 8],
-    n: usize,
-    sums: &mut [f64; 24],
-    ratios: &mut [f64; 24],
-)
-    requires { n ≤ 8 }
-    ensures sums { sums.new ≡ lanes (s_on table.now (at x.now) n) 2 (evened n) sums.old }
-    ensures ratios { ratios.new ≡ lanes (r_on table.now (at x.now) n) 3 (evened n) ratios.old }
-{
-    // Kept: a `for` over the fours takes an activity of four solvents a fifth longer.
-    let mut i = 0;
-    while i + 2 < n {
-        sum_quad(table, x, n, i, sums, ratios);
-        i += 4;
+    fn fill_sums(self, sums: &mut [f64; 24], ratios: &mut [f64; 24])
+        ensures s { let q = self.entry in sums.new ≡ lanes (s_on q.table.now (at q.x.now) q.m.n) 2 (evened q.m.n) sums.old }
+        ensures r { let q = self.entry in ratios.new ≡ lanes (r_on q.table.now (at q.x.now) q.m.n) 3 (evened q.m.n) ratios.old }
+    {
+        // Kept: as a `for` over the fours an activity of four solvents takes 1 to 3 % longer, and with the choice in its body one of two a fifth.
+        let mut i = 0;
+        while i + 2 < self.m.n {
+            self.sums_from::<4>(i, sums, ratios);
+            i += 4;
+        }
+        if i < self.m.n {
+            self.sums_from::<2>(i, sums, ratios);
+        }
     }
-    if i < n {
-        sum_pair(table, x, n, i, sums, ratios);
+
+    // ln γ, slopes and energies of the liquid, into arrays that hold 0.0 everywhere.
+    // Kept: ln_gamma and slopes go side by side, as excess's functions take them; a struct of two `&mut` would be taken apart for each.
+    fn state(
+        self,
+        t: Temperature,
+        ln_gamma: &mut [f64; 8],
+        slopes: &mut [f64; 8],
+    ) -> Result<Energies, Refusal>
+        requires { (ln_gamma.now ≡ zeros8) × (slopes.now ≡ zeros8) }
+        ensures { let q = self.entry in Gives (state_from (reduced_on q.table.now (at q.x.now) q.m.n) (ln_gamma_on q.table.now (at q.x.now) q.m.n) q.m.n t.0) result ln_gamma.new slopes.new }
+    {
+        let mut sums = [0.0; 24];
+        let mut ratios = [0.0; 24];
+        self.fill_sums(&mut sums, &mut ratios);
+        let summed = Summed {
+            of: self,
+            sums: &sums,
+            ratios: &ratios,
+        };
+        summed.fill_lns(ln_gamma, slopes);
+        clear_past(self.m, ln_gamma, slopes);
+        excess::finite_state(summed.reduced(), self.m.n, t, ln_gamma, slopes)
     }
 }
 
-// g^E/RT
-fn reduced(ratios: &[f64; 24], x: &[f64; 8], n: usize) -> Jet
-    requires { n ≤ 8 }
-    ensures { result ≡ gibbs_from (jet_in ratios.now) (at x.now) n }
-{
-    let mut e = Jet::constant(0.0);
-    for i in 0..n {
-        e = e.add(jet_in(ratios, i).scale(x[i]));
+// A liquid with its sums S, without their second derivatives, and its ratios R = C / S.
+// Kept: as one struct of two arrays they are cleared by a call of memset, and an activity of two solvents takes 4 % longer.
+#[derive(Clone, Copy)]
+struct Summed<'a> {
+    of: Liquid<'a>,
+    sums: &'a [f64; 24],
+    ratios: &'a [f64; 24],
+}
+
+impl Summed<'_> {
+    // g^E/RT
+    fn reduced(self) -> Jet
+        ensures { let q = self.entry in result ≡ gibbs_from (jet_in q.ratios.now) (at q.of.x.now) q.of.m.n }
+    {
+        let mut e = Jet::constant(0.0);
+        for i in 0..self.of.m.n {
+            e = e.add(jet_in(self.ratios, i).scale(self.of.x[i]));
+        }
+        e
     }
-    e
-}
 
-// ---- ln γ: value and slope; the second derivative isn't asked for
-
-fn term(tau: Jet, g: Jet, s: Jet, r: Jet, x: f64) -> Jet
-    ensures { result ≡ term_j tau g s r x }
-{
-    g.scale(x).div(s).mul(tau.sub(r))
-}
-
-// The next partial sum of ln γ_i: term j.
-fn next_ln(
-    l: Jet,
-    table: &[f64; 512],
-    sums: &[f64; 24],
-    ratios: &[f64; 24],
-    x: &[f64; 8],
-    i: usize,
-    j: usize,
-) -> Jet
-    requires { (i < 8) × (j < 8) }
-    ensures { result ≡ add_j l (term_j (twos table.now tau_plane i j) (twos table.now g_plane i j) (two_in sums.now j) (two_in ratios.now j) (at x.now j)) }
-{
-    let e = i * 8 + j;
-    l.add(term(
-        two_at(table, TAU_PLANE, e),
-        two_at(table, G_PLANE, e),
-        two_in(sums, j),
-        two_in(ratios, j),
-        x[j],
-    ))
-}
-
-fn pair_lns(
-    table: &[f64; 512],
-    sums: &[f64; 24],
-    ratios: &[f64; 24],
-    x: &[f64; 8],
-    n: usize,
-    i: usize,
-) -> Pair
-    requires { (n ≤ 8) × (i < 7) }
-    ensures { result ≡ pair_of (ln_from (twos table.now tau_plane) (twos table.now g_plane) (two_in sums.now) (two_in ratios.now) (at x.now) n) i }
-{
-    let mut p = two_in(ratios, i);
-    let mut q = two_in(ratios, i + 1);
-    for j in 0..n {
-        p = next_ln(p, table, sums, ratios, x, i, j);
-        q = next_ln(q, table, sums, ratios, x, i + 1, j);
+    // Term j of ln γ_i: value and slope. The second derivative isn't asked for.
+    #[tactic(auto, unfolding(crate::specs::Columns::term_j))]
+    fn term(self, i: usize, j: usize) -> Jet
+        requires { (i < 8) × (j < 8) }
+        ensures { let q = self.entry in result ≡ term_j (twos q.of.table.now tau_plane i j) (twos q.of.table.now g_plane i j) (two_in q.sums.now j) (two_in q.ratios.now j) (at q.of.x.now j) }
+    {
+        let e = i * 8 + j;
+        let tau = two_at(self.of.table, TAU_PLANE, e);
+        two_at(self.of.table, G_PLANE, e)
+            .scale(self.of.x[j])
+            .div(two_in(self.sums, j))
+            .mul(tau.sub(two_in(self.ratios, j)))
     }
-    Pair { a: p, b: q }
-}
 
-fn quad_lns(
-    table: &[f64; 512],
-    sums: &[f64; 24],
-    ratios: &[f64; 24],
-    x: &[f64; 8],
-    n: usize,
-    i: usize,
-) -> Quad
-    requires { (n ≤ 8) × (i < 5) }
-    ensures { result ≡ quad_of (ln_from (twos table.now tau_plane) (twos table.now g_plane) (two_in sums.now) (two_in ratios.now) (at x.now) n) i }
-{
-    let mut p = two_in(ratios, i);
-    let mut q = two_in(ratios, i + 1);
-    let mut r = two_in(ratios, i + 2);
-    let mut s = two_in(ratios, i + 2 + 1);
-    for j in 0..n {
-        p = next_ln(p, table, sums, ratios, x, i, j);
-        q = next_ln(q, table, sums, ratios, x, i + 1, j);
-        r = next_ln(r, table, sums, ratios, x, i + 2, j);
-        s = next_ln(s, table, sums, ratios, x, i + 2 + 1, j);
+    // ln γ of W solvents from i on.
+    fn lns_from<const W: usize>(self, i: usize) -> [Jet; W]
+        requires { i + W ≤ 8 }
+        ensures { let q = self.entry in Side (ln_in q.of.table.now q.sums.now q.ratios.now (at q.of.x.now) q.of.m.n) i W result }
+    {
+        let mut l = [Jet::constant(0.0); W];
+        for w in 0..W {
+            l[w] = two_in(self.ratios, i + w);
+        }
+        for j in 0..self.of.m.n {
+            for w in 0..W {
+                l[w] = l[w].add(self.term(i + w, j));
+            }
+        }
+        l
     }
-    Quad {
-        a: Pair { a: p, b: q },
-        b: Pair { a: r, b: s },
+
+    fn fill_lns(self, ln_gamma: &mut [f64; 8], slopes: &mut [f64; 8])
+        ensures { let q = self.entry in GammasTo (ln_in q.of.table.now q.sums.now q.ratios.now (at q.of.x.now) q.of.m.n) (evened q.of.m.n) ln_gamma.old slopes.old ln_gamma.new slopes.new }
+    {
+        // Kept: as in `fill_sums`.
+        let mut i = 0;
+        while i + 2 < self.of.m.n {
+            let l = self.lns_from::<4>(i);
+            keep_lns(l, i, ln_gamma, slopes);
+            i += 4;
+        }
+        if i < self.of.m.n {
+            let l = self.lns_from::<2>(i);
+            keep_lns(l, i, ln_gamma, slopes);
+        }
     }
 }
 
-// One array after the other: that way both entries of one are one store.
-fn keep_lns(l: Pair, i: usize, ln_gamma: &mut [f64; 8], slopes: &mut [f64; 8])
-    requires { i < 7 }
-    ensures values { ln_gamma.new ≡ set (set ln_gamma.old i l.a.v) (i + 1) l.b.v }
-    ensures slopes { slopes.new ≡ set (set slopes.old i l.a.d) (i + 1) l.b.d }
+// One array after the other: that way neighbors of one are one store.
+fn keep_lns<const W: usize>(l: [Jet; W], i: usize, ln_gamma: &mut [f64; 8], slopes: &mut [f64; 8])
+    requires { i + W ≤ 8 }
+    ensures values { ln_gamma.new ≡ fill_from (λ w. (jet_of l.entry w).v) i W ln_gamma.old }
+    ensures slopes { slopes.new ≡ fill_from (λ w. (jet_of l.entry w).d) i W slopes.old }
 {
-    let p = l.a;
-    let q = l.b;
-    ln_gamma[i] = p.v;
-    ln_gamma[i + 1] = q.v;
-    slopes[i] = p.d;
-    slopes[i + 1] = q.d;
-}
-
-fn ln_pair(
-    table: &[f64; 512],
-    sums: &[f64; 24],
-    ratios: &[f64; 24],
-    x: &[f64; 8],
-    n: usize,
-    i: usize,
-    ln_gamma: &mut [f64; 8],
-    slopes: &mut [f64; 8],
-)
-    requires { (n ≤ 8) × (i < 7) }
-    ensures values { ln_gamma.new ≡ set_two (λ k. (ln_from (twos table.now tau_plane) (twos table.now g_plane) (two_in sums.now) (two_in ratios.now) (at x.now) n k).v) i ln_gamma.old }
-    ensures slopes { slopes.new ≡ set_two (λ k. (ln_from (twos table.now tau_plane) (twos table.now g_plane) (two_in sums.now) (two_in ratios.now) (at x.now) n k).d) i slopes.old }
-{
-    let l = pair_lns(table, sums, ratios, x, n, i);
-    keep_lns(l, i, ln_gamma, slopes);
-}
-
-fn ln_quad(
-    table: &[f64; 512],
-    sums: &[f64; 24],
-    ratios: &[f64; 24],
-    x: &[f64; 8],
-    n: usize,
-    i: usize,
-    ln_gamma: &mut [f64; 8],
-    slopes: &mut [f64; 8],
-)
-    requires { (n ≤ 8) × (i < 5) }
-    ensures values { ln_gamma.new ≡ set_four (λ k. (ln_from (twos table.now tau_plane) (twos table.now g_plane) (two_in sums.now) (two_in ratios.now) (at x.now) n k).v) i ln_gamma.old }
-    ensures slopes { slopes.new ≡ set_four (λ k. (ln_from (twos table.now tau_plane) (twos table.now g_plane) (two_in sums.now) (two_in ratios.now) (at x.now) n k).d) i slopes.old }
-{
-    let l = quad_lns(table, sums, ratios, x, n, i);
-    keep_lns(l.a, i, ln_gamma, slopes);
-    keep_lns(l.b, i + 2, ln_gamma, slopes);
-}
-
-fn fill_lns(
-    table: &[f64; 512],
-    sums: &[f64; 24],
-    ratios: &[f64; 24],
-    x: &[f64; 8],
-    n: usize,
-    ln_gamma: &mut [f64; 8],
-    slopes: &mut [f64; 8],
-)
-    requires { n ≤ 8 }
-    ensures { GammasTo (ln_from (twos table.now tau_plane) (twos table.now g_plane) (two_in sums.now) (two_in ratios.now) (at x.now) n) (evened n) ln_gamma.old slopes.old ln_gamma.new slopes.new }
-{
-    // Kept: as in `fill_sums`.
-    let mut i = 0;
-    while i + 2 < n {
-        ln_quad(table, sums, ratios, x, n, i, ln_gamma, slopes);
-        i += 4;
+    for w in 0..W {
+        ln_gamma[i + w] = l[w].v;
     }
-    if i < n {
-        ln_pair(table, sums, ratios, x, n, i, ln_gamma, slopes);
+    for w in 0..W {
+        slopes[i + w] = l[w].d;
     }
 }
 
 // 0.0 where the last two went past n.
-fn clear_past(n: usize, ln_gamma: &mut [f64; 8], slopes: &mut [f64; 8])
-    requires { n ≤ 8 }
-    ensures values { Cleared n ln_gamma.old ln_gamma.new }
-    ensures slopes { Cleared n slopes.old slopes.new }
+fn clear_past(m: Count, ln_gamma: &mut [f64; 8], slopes: &mut [f64; 8])
+    ensures values { Cleared m.n ln_gamma.old ln_gamma.new }
+    ensures slopes { Cleared m.n slopes.old slopes.new }
 {
-    if n % 2 == 1 {
-        ln_gamma[n] = 0.0;
-        slopes[n] = 0.0;
+    if m.n % 2 == 1 {
+        ln_gamma[m.n] = 0.0;
+        slopes[m.n] = 0.0;
     }
-}
-
-// ---- the state
-
-// Of arrays that hold 0.0 everywhere.
-fn state(
-    table: &[f64; 512],
-    n: usize,
-    t: Temperature,
-    x: &[f64; 8],
-    ln_gamma: &mut [f64; 8],
-    slopes: &mut [f64; 8],
-) -> Result<Energies, Refusal>
-    requires { (n ≤ 8) × (ln_gamma.now ≡ zeros8) × (slopes.now ≡ zeros8) }
-    ensures { Gives (state_from (reduced_on table.now (at x.now) n) (ln_gamma_on table.now (at x.now) n) n t.0) result ln_gamma.new slopes.new }
-{
-    let mut sums = [0.0; 24];
-    let mut ratios = [0.0; 24];
-    fill_sums(table, x, n, &mut sums, &mut ratios);
-    fill_lns(table, &sums, &ratios, x, n, ln_gamma, slopes);
-    clear_past(n, ln_gamma, slopes);
-    excess::finite_state(reduced(&ratios, x, n), n, t, ln_gamma, slopes)
 }
 
 // ln γ and slopes (1/K), 0.0 past n, and the energies at t and the mole fractions x, from a table and what `tables` said
@@ -416,7 +280,7 @@ pub fn excess(
     ensures { Gives (nrtl_on table.now alphas (places n) t.0 (at x.now)) result ln_gamma.new slopes.new }
 {
     excess::clear(ln_gamma, slopes);
-    excess::with_state(t, x, n)?;
-    alphas?;
-    state(table, floats::places(n), t, x, ln_gamma, slopes)
+    excess::with_state(t, x, n).and(alphas)?;
+    let m = Count::of(n);
+    Liquid { table, x, m }.state(t, ln_gamma, slopes)
 }

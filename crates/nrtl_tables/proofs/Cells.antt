@@ -1,6 +1,6 @@
 -- A pair's cells from its six parameters are those of the definitions; the two ways out of `tables`. Assumes nothing.
 use Prim.Native.Nat.{ℕ, ◌+◌, ◌*◌, ◌%◌, ◌<◌}
-use mathlib.Core.Path.{◌≡◌, refl, sym, ◌∙◌}
+use mathlib.Core.Path.{◌≡◌, refl, ◌∙◌}
 use mathlib.Core.Bool.{Bool, true, false, not, cond}
 use mathlib.Core.List.{List}
 use native.Mathlib.Omega.{arith}
@@ -16,7 +16,7 @@ use Rattle.jet.specs.Planes.{six, cell_of, plane_rows}
 use Rattle.jet.proofs.Planes.{rows_cong}
 use Rattle.nrtl_tables.specs.declared.Basis.{Basis}
 use Rattle.nrtl_tables.specs.Pair.{basis_of, tau_j, alpha_j, exponent_j, tau_ij, g_ij, all_right}
-use Rattle.nrtl_tables.specs.Table.{kept_of, table_rows, table_of, table_verdict, Filled}
+use Rattle.nrtl_tables.specs.Table.{kept_of, table_of, table_verdict, Filled}
 
 T-true : {b : Bool} → b ≡ true → T b
 T-true e = rw e tt

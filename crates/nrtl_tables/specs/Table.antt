@@ -5,7 +5,7 @@ use Rattle.outcome.specs.declared.Refusal.{Refusal}
 use Rattle.outcome.specs.declared.Refusal.TheVariants.{AlphaNotPositive}
 use Rattle.jet.specs.declared.Jet.{Jet}
 use Rattle.jet.specs.Jets.{mul_j}
-use Rattle.jet.specs.Planes.{plane_pairs, plane_rows}
+use Rattle.jet.specs.Planes.{plane_rows}
 use Rattle.nrtl_tables.specs.Pair.{tau_at, g_at, alphas_right}
 
 -- where the planes of G, of H = τ G and of τ begin
@@ -25,10 +25,6 @@ kept_of t g k = at (g.v ∷ g.d ∷ g.dd ∷ (mul_j t g).v ∷ (mul_j t g).d ∷
 -- the first m rows of n entries each
 abbrev pub table_rows : (ℕ → ℕ → Jet) → (ℕ → ℕ → Jet) → ℕ → ℕ → List Float → List Float
 table_rows T G n m old = plane_rows (λ i j. kept_of (T i j) (G i j)) 8 n m old
-
--- the entries (i, j) and (j, i) for j below m
-abbrev pub table_pairs : (ℕ → ℕ → Jet) → (ℕ → ℕ → Jet) → ℕ → ℕ → List Float → List Float
-table_pairs T G i m old = plane_pairs (λ i j. kept_of (T i j) (G i j)) 8 i m old
 
 -- an array after the tables of t are made in it: as it was where an α is refused
 unfoldable pub table_of : List Float → ℕ → Float → List Float → List Float

@@ -4,7 +4,7 @@
 // entry (i, j) of plane k at k * 64 + i * 8 + j: G, τ G, each with two derivatives, then τ with one.
 #![tactic(auto)]
 
-ghost use Rattle.std.specs.Prelude.{◌≡◌, ℕ, ◌≤◌, ◌<◌};
+ghost use Rattle.std.specs.Prelude.{◌≡◌, ℕ, ◌<◌};
 ghost use Rattle.std.proofs.Math.Nat.{le_refl};
 ghost use Rattle.floats.specs.Arithmetic.{0f, 1f};
 ghost use Rattle.floats.specs.Fold.{all_to};
@@ -13,6 +13,7 @@ ghost use Rattle.jet.specs.Jets.{const_j, exp_j};
 ghost use Rattle.nrtl_tables.specs.Pair.{basis_of, tau_j, alpha_j, exponent_j, alpha_right, all_right};
 ghost use Rattle.nrtl_tables.specs.Table.{kept_of, Filled};
 
+use floats::Count;
 use jet::{Jet, Pairs};
 use outcome::Refusal;
 use thermo_types::Temperature;
@@ -32,6 +33,7 @@ struct Basis {
     tj: Jet,
 }
 
+#[tactic(auto, unfolding(crate::specs::Pair::basis_of, jet::specs::Jets::two_j))]
 fn basis_at(t: f64) -> Basis
     ensures { result ≡ basis_of t }
 {
@@ -46,16 +48,13 @@ fn basis_at(t: f64) -> Basis
             d: -1.0 / (t * t),
             dd: 2.0 / (t * t * t),
         },
-        tj: Jet {
-            v: t,
-            d: 1.0,
-            dd: 0.0,
-        },
+        tj: Jet::two(t, 1.0),
     }
 }
 
 // ---- of one ordered pair, from its six parameters
 
+#[tactic(auto, unfolding(crate::specs::Pair::tau_j))]
 fn tau_of(p: [f64; 6], b: Basis) -> Jet
     ensures { result ≡ tau_j p b 0 }
 {
@@ -65,6 +64,7 @@ fn tau_of(p: [f64; 6], b: Basis) -> Jet
         .add(b.tj.scale(p[3]))
 }
 
+#[tactic(auto, unfolding(crate::specs::Pair::alpha_j))]
 fn alpha_of(p: [f64; 6], b: Basis) -> Jet
     ensures { result ≡ alpha_j p b 0 }
 {
@@ -72,6 +72,7 @@ fn alpha_of(p: [f64; 6], b: Basis) -> Jet
 }
 
 // −α τ.
+#[tactic(auto, unfolding(crate::specs::Pair::exponent_j))]
 fn exponent(p: [f64; 6], b: Basis) -> Jet
     ensures { result ≡ exponent_j p b 0 }
 {
@@ -79,6 +80,7 @@ fn exponent(p: [f64; 6], b: Basis) -> Jet
 }
 
 // The eight planes' cells.
+#[tactic(auto, unfolding(crate::specs::Table::kept_of))]
 fn kept(tau: Jet, g: Jet) -> [f64; 8]
     ensures { (k : ℕ) → at result k ≡ kept_of tau g k }
 {
@@ -110,6 +112,8 @@ impl Pairs<8> for Basis {
 
 // ---- question 24
 
+// Kept: two of the three take (parameters, b, m), and a struct of them makes no contract shorter; i and j are a loop's own.
+#[tactic(auto, unfolding(crate::specs::Pair::alpha_right))]
 fn alpha_right(parameters: &[f64; 384], b: Basis, i: usize, j: usize) -> bool
     requires { (i < 8) × (j < 8) }
     ensures { result ≡ alpha_right parameters.now b i j }
@@ -117,18 +121,17 @@ fn alpha_right(parameters: &[f64; 384], b: Basis, i: usize, j: usize) -> bool
     i == j || 0.0 < alpha_of(jet::pair(parameters, i, j), b).v
 }
 
-fn row_right(parameters: &[f64; 384], b: Basis, n: usize, i: usize) -> bool
-    requires { (n ≤ 8) × (i < 8) }
-    ensures { result ≡ all_to (alpha_right parameters.now b i) n }
+fn row_right(parameters: &[f64; 384], b: Basis, m: Count, i: usize) -> bool
+    requires { i < 8 }
+    ensures { result ≡ all_to (alpha_right parameters.now b i) m.n }
 {
-    (0..n).all(|j| alpha_right(parameters, b, i, j))
+    (0..m.n).all(|j| alpha_right(parameters, b, i, j))
 }
 
-fn all_right(parameters: &[f64; 384], b: Basis, n: usize) -> bool
-    requires { n ≤ 8 }
-    ensures { result ≡ all_right parameters.now b n }
+fn all_right(parameters: &[f64; 384], b: Basis, m: Count) -> bool
+    ensures { result ≡ all_right parameters.now b m.n }
 {
-    (0..n).all(|i| row_right(parameters, b, n, i))
+    (0..m.n).all(|i| row_right(parameters, b, m, i))
 }
 
 // ---- the table
@@ -143,7 +146,7 @@ pub fn tables(
     ensures { Filled parameters.now (places n) t.0 result table.old table.new }
 {
     let b = basis_at(t.value());
-    if !all_right(parameters, b, floats::places(n)) {
+    if !all_right(parameters, b, Count::of(n)) {
         return Err(Refusal::AlphaNotPositive);
     }
     jet::fill_pairs::<8, Basis>(&b, parameters, n, table);

@@ -5,7 +5,6 @@ use mathlib.Core.Bool.{Bool, true, false, not}
 use mathlib.Core.List.{List}
 use mathlib.Core.Logic.{⊎_elim}
 use native.Mathlib.Nat.{le_trans, eq-or-lt_of_le}
-use native.Mathlib.Numerals.{add-one}
 use native.Mathlib.Omega.{arith}
 use borrow.Author.Tests.{leb-true}
 use lib.Dec.{T, ltb, leb, ltb→lt, nltb→le}
@@ -26,12 +25,10 @@ use Rattle.question.proofs.Laws.{outside}
 use Rattle.pool.specs.Pool.{total_to, pool_count, pool_total, total_right, amount, pool_feed}
 
 module _ (f : ℕ → ℕ) (p : ℕ) where
-  pub kept-turn : (k : ℕ) {s w r : ℕ} → s ≡ min (total_to f k) p → w ≡ f k → r ≡ min (s + w) p → r ≡ min (total_to f (k + 1)) p
+  pub kept-sum : (n : ℕ) → fold_to (λ k s. min (s + f k) p) 0 n ≡ min (total_to f n) p
   unfolding fold_to
-  kept-turn k a b c = rw add-one (omega arith)
-
-  pub kept_done : (k n : ℕ) {s : ℕ} → k ≡ n → s ≡ min (total_to f k) p → s ≡ min (total_to f n) p
-  kept_done k n e h = h ∙ ap (λ (i : ℕ). min (total_to f i) p) e
+  kept-sum zero = omega arith
+  kept-sum (suc n) = let e = kept-sum n in omega arith
 
   -- it doesn't matter that the numbers are kept at p too
   kept-total : (n : ℕ) → min (total_to (λ i. min (f i) p) n) p ≡ min (total_to f n) p

@@ -2,7 +2,7 @@
 #![tactic(auto)]
 
 ghost use Rattle.std.specs.Prelude.{◌≡◌, ℕ, ◌≤◌, ◌<◌, ◌+◌, ◌^◌, min, length, replicate};
-ghost use Rattle.floats.specs.Vector.{fill, vec, places};
+ghost use Rattle.floats.specs.Vector.{fill, vec};
 ghost use Rattle.outcome.specs.Refused.{outcome_of, number_in};
 ghost use Rattle.thermo_types.specs.Composition.{normalize_of};
 ghost use Rattle.blocks.specs.Bytes.{word_at};
@@ -11,6 +11,7 @@ ghost use Rattle.sheet.specs.Sheet.{Answers};
 ghost use Rattle.pool.specs.Pool.{total_to, pool_count, drums_right, amount, pooled_of};
 
 use blocks::word;
+use floats::Count;
 use outcome::Refusal;
 use question::{read_rest, read_task};
 use replies::ANSWER_ROOM;
@@ -25,6 +26,7 @@ fn added(a: u64, b: u64) -> u64
 }
 
 // 31
+// Kept: `batch::feeds_right` has this body for another question; one line each, and no plainer as a `pub fn` with edits.
 #[tactic(auto, unfolding(crate::specs::Pool::drums_right))]
 fn drums_right(drums: &[u8]) -> bool
     ensures { result ≡ drums_right drums.now }
@@ -33,61 +35,52 @@ fn drums_right(drums: &[u8]) -> bool
 }
 
 // The sum over the drums of their counts of solvent i.
+// Kept: `i < 8` is the index of a row of eight.
 fn pool_count(drums: &[u8], i: usize) -> u64
     requires { i < 8 }
     ensures { result ≡ min (pool_count drums.now i) (2 ^ 53 + 1) }
 {
-    let m = drums.len() / 64;
-    let mut sum: u64 = 0;
-    for d in 0..m {
-        sum = added(sum, word(drums, 8 * d + i));
-    }
-    sum
+    (0..drums.len() / 64).fold(0, |sum, d| added(sum, word(drums, 8 * d + i)))
 }
 
-// Of the first n solvents, 0 past them.
-fn pool_counts(drums: &[u8], n: usize) -> [u64; 8]
-    ensures { result ≡ fill (λ i. min (pool_count drums.now i) (2 ^ 53 + 1)) (places n) (replicate 8 0) }
+// Of the solvents that count, 0 past them.
+// Kept: a loop to n, here and in `amounts`: `from_fn` would go over all eight.
+fn pool_counts(drums: &[u8], m: Count) -> [u64; 8]
+    ensures { result ≡ fill (λ i. min (pool_count drums.now i) (2 ^ 53 + 1)) m.n (replicate 8 0) }
 {
-    let m = floats::places(n);
     let mut counts = [0; 8];
-    for i in 0..m {
+    for i in 0..m.n {
         counts[i] = pool_count(drums, i);
     }
     counts
 }
 
 // 32
-fn total_right(counts: &[u64; 8], n: usize) -> bool
-    ensures { result ≡ within 1 (2 ^ 53) (total_to (word_at counts.now) (places n)) }
+fn total_right(counts: &[u64; 8], m: Count) -> bool
+    ensures { result ≡ within 1 (2 ^ 53) (total_to (word_at counts.now) m.n) }
 {
-    let m = floats::places(n);
-    let mut sum: u64 = 0;
-    for i in 0..m {
-        sum = added(sum, counts[i]);
-    }
-    1 <= sum && sum <= MOST
+    let sum = (0..m.n).fold(0, |sum, i| added(sum, counts[i]));
+    (1..=MOST).contains(&sum)
 }
 
 // Counts as floats, each exact.
-fn amounts(counts: &[u64; 8], n: usize) -> [f64; 8]
-    requires { (i : ℕ) → i < places n → word_at counts.now i ≤ 2 ^ 53 }
-    ensures { result ≡ vec (λ i. amount (word_at counts.now i)) (places n) }
+fn amounts(counts: &[u64; 8], m: Count) -> [f64; 8]
+    requires { (i : ℕ) → i < m.n → word_at counts.now i ≤ 2 ^ 53 }
+    ensures { result ≡ vec (λ i. amount (word_at counts.now i)) m.n }
 {
-    let m = floats::places(n);
     let mut x = [0.0; 8];
-    for i in 0..m {
+    for i in 0..m.n {
         x[i] = counts[i] as f64;
     }
     x
 }
 
 // The mole fractions of a pool.
-fn pool_feed(counts: &[u64; 8], n: usize) -> Result<[f64; 8], Refusal>
-    requires { (i : ℕ) → i < places n → word_at counts.now i ≤ 2 ^ 53 }
-    ensures { outcome_of result ≡ normalize_of (λ i. amount (word_at counts.now i)) (places n) }
+fn pool_feed(counts: &[u64; 8], m: Count) -> Result<[f64; 8], Refusal>
+    requires { (i : ℕ) → i < m.n → word_at counts.now i ≤ 2 ^ 53 }
+    ensures { outcome_of result ≡ normalize_of (λ i. amount (word_at counts.now i)) m.n }
 {
-    thermo_types::normalize(&amounts(counts, n), n)
+    thermo_types::normalize(&amounts(counts, m), m.n)
 }
 
 // The answer's blocks at the front of the slice; or the question that was answered no, and the slice as it was. The
@@ -103,14 +96,15 @@ pub fn answer(book: &[u8], question: &[u8], drums: &[u8], out: &mut [u8]) -> Res
     if !drums_right(drums) {
         return Err(Refusal::DrumsLength);
     }
-    let counts = pool_counts(drums, n);
-    if !total_right(&counts, n) {
+    let m = Count::of(n);
+    let counts = pool_counts(drums, m);
+    if !total_right(&counts, m) {
         return Err(Refusal::DrumsTotal);
     }
     if word(question, 27) != 0 {
         return Err(Refusal::FeedKind);
     }
-    let x = pool_feed(&counts, n)?;
+    let x = pool_feed(&counts, m)?;
     let q = read_rest(question, book, n, &x)?;
     sheet::answer_asked(book, n, q, out)
 }

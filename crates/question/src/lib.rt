@@ -2,11 +2,11 @@
 // the rest (13 to 21), put to that feed; 34 where mass fractions can't be brought to moles.
 #![tactic(auto)]
 
-ghost use Rattle.std.specs.Prelude.{◌≡◌, ◌≤◌, ◌+◌};
+ghost use Rattle.std.specs.Prelude.{◌≡◌, ◌+◌};
 ghost use Rattle.floats.specs.Arithmetic.{◌⊘◌};
 ghost use Rattle.floats.specs.Small.{float};
 ghost use Rattle.floats.specs.Vector.{at, vec, places};
-ghost use Rattle.floats.specs.Outcome.{ok, bind, need};
+ghost use Rattle.floats.specs.Outcome.{ok, need};
 ghost use Rattle.outcome.specs.Refused.{outcome_of};
 ghost use Rattle.blocks.specs.Words.{word};
 ghost use Rattle.book.specs.Places.{words};
@@ -66,7 +66,7 @@ impl TryFrom<u64> for Task {
 // K, Pa; the first n fractions and K values, 0.0 past them.
 #[derive(Clone, Copy)]
 pub struct Question {
-    // Kept: a number, since a public call takes a question with any (no `requires` on a `pub fn`).
+    // Kept: a number: a narrower type would ask more of who calls `sheet::answer_asked`.
     pub task: u64,
     pub temperature: f64,
     pub pressure: f64,
@@ -78,6 +78,7 @@ pub struct Question {
 // Of the options' tolerances.
 const LARGEST_TOLERANCE: f64 = 1e-6;
 
+// Kept: by number, here and below, since a question's task is one; each test of a block reads word 1 as its definition does.
 pub fn needs_temperature(task: u64) -> bool
     ensures { result ≡ needs_temperature task }
 {
@@ -104,6 +105,7 @@ fn needs_ratios(task: u64) -> bool
     matches!(task, 8..=9)
 }
 
+// Kept: as in records; one line each; shared it is longer, and no plainer.
 fn float_at(q: &[u8], k: usize) -> f64
     ensures { result ≡ float (word q.now) k }
 {
@@ -111,6 +113,7 @@ fn float_at(q: &[u8], k: usize) -> f64
 }
 
 // The first n floats from word `from` on, 0.0 past them.
+// Kept: a loop to n, here and in `over_masses`: `from_fn` would go over all eight.
 pub fn floats_from(q: &[u8], from: usize, n: usize) -> [f64; 8]
     ensures { result ≡ vec (λ i. float (word q.now) (from + i)) (places n) }
 {
@@ -150,11 +153,11 @@ fn ratios_positive(q: &[u8], n: usize, k: &[f64; 8]) -> bool
     !needs_ratios(word(q, 1)) || thermo_types::all_positive(k, n)
 }
 
-#[tactic(auto, unfolding(crate::specs::Asked::tolerance_right))]
+#[tactic(auto, unfolding(crate::specs::Asked::tolerance_right, floats::specs::Small::positive))]
 fn tolerance_right(v: f64) -> bool
     ensures { result ≡ tolerance_right v }
 {
-    floats::is_finite(v) && 0.0 < v && v <= LARGEST_TOLERANCE
+    floats::positive(v) && v <= LARGEST_TOLERANCE
 }
 
 // `validate`: both tolerances, the threshold, the bracket (K).
@@ -202,6 +205,7 @@ fn limits_few(q: &[u8]) -> bool
     (!needs_options(task) || (most && limited(word(q, 14)))) && (!needs_ratios(task) || most)
 }
 
+// Six fields by their words.
 #[tactic(auto, unfolding(crate::specs::Asked::options_in))]
 fn options_in(q: &[u8]) -> ActivityOptions
     ensures { result ≡ options_in (word q.now) }
@@ -252,11 +256,13 @@ fn over_masses(book: &[u8], n: usize, x: &[f64; 8]) -> [f64; 8]
 }
 
 // The mole fractions of a feed by word 27.
+#[tactic(auto, unfolding(crate::specs::Asked::moles_of, floats::specs::Outcome::choose))]
 fn moles(q: &[u8], book: &[u8], n: usize, x: &[f64; 8]) -> Result<[f64; 8], Refusal>
     ensures { outcome_of result ≡ moles_of (word q.now) (molar_mass (words book.now)) (places n) x.now }
 {
     if word(q, 27) == 1 {
-        thermo_types::normalize(&over_masses(book, n, x), n)
+        let amounts = over_masses(book, n, x);
+        thermo_types::normalize(&amounts, n)
     } else {
         Ok(*x)
     }
@@ -280,6 +286,7 @@ fn check_limits(q: &[u8]) -> Result<(), Refusal>
 }
 
 // Questions 13 to 18 of the feed x and the K values k.
+// Kept: four parameters and no struct: `inputs_finite` alone reads them all.
 #[tactic(auto, unfolding(crate::specs::Asked::inputs_right, floats::specs::Outcome::need))]
 fn check_inputs(q: &[u8], n: usize, x: &[f64; 8], k: &[f64; 8]) -> Result<(), Refusal>
     ensures { outcome_of result ≡ inputs_right (word q.now) (places n) x.now k.now (ok tt) }
@@ -335,6 +342,7 @@ pub fn read_rest(q: &[u8], book: &[u8], n: usize, x: &[f64; 8]) -> Result<Questi
 }
 
 // The question for a book of that version and n solvents, or the first of questions 11 to 21 and 36 that is answered no.
+#[tactic(auto, unfolding(crate::specs::Asked::question_of, floats::specs::Outcome::bind, floats::specs::Outcome::need))]
 pub fn read_question(
     rule: Rule,
     q: &[u8],

@@ -1,7 +1,7 @@
 // Rachford-Rice phase split for prescribed equilibrium ratios (rachford_rice.rs). K values are inputs, not results.
 #![tactic(auto)]
 
-ghost use Rattle.std.specs.Prelude.{◌≡◌, cond, ◌&&◌, ◌≤◌, Float};
+ghost use Rattle.std.specs.Prelude.{◌≡◌, cond, ◌&&◌, Float};
 ghost use Rattle.std.specs.Float.Ieee.{lt};
 ghost use Rattle.floats.specs.Arithmetic.{◌⊕◌, ◌⊗◌, ◌⊘◌, ◌⊖◌, 0f, 1f, ½};
 ghost use Rattle.floats.specs.Small.{is_finite};
@@ -11,9 +11,10 @@ ghost use Rattle.floats.specs.Outcome.{ok, bind};
 ghost use Rattle.outcome.specs.Refused.{outcome_of};
 ghost use Rattle.rachford_rice.specs.Rachford.{middle, turn_of, residual_of, slope_of, k_max, k_min, validate, liquid_part, solution_at, iterate, between, negative, two_phase, one_phase, constrained};
 
+use floats::Count;
 use outcome::Refusal;
 
-// The constrained outcome: vapor fraction, residual |g(β)| and count of a split.
+// Constrained or negative: vapor fraction, residual |g(β)| and count of a split.
 #[derive(Clone, Copy)]
 pub enum RachfordRiceOutcome {
     LiquidOnly,
@@ -22,6 +23,7 @@ pub enum RachfordRiceOutcome {
 }
 
 // The outcome, with the compositions beside it: zeros where there is one phase.
+// Kept: arrays beside the enum, a rule of the project: docs/CHECKLIST.md, "Forms".
 #[derive(Clone, Copy)]
 pub struct RachfordRice {
     pub outcome: RachfordRiceOutcome,
@@ -30,6 +32,7 @@ pub struct RachfordRice {
 }
 
 // One turn: the bounds moved, the next β, and whether it is the last.
+// Kept: a flag and no ControlFlow, since `next` is read either way: as the root where it is the last turn, else as the next β.
 #[derive(Clone, Copy)]
 struct Turn {
     lo: f64,
@@ -43,80 +46,6 @@ struct Turn {
 struct Sums {
     residual: f64,
     slope: f64,
-}
-
-// ---- the sums over positive feed fractions
-
-// g(β)
-fn rachford_rice_residual(z: &[f64; 8], k: &[f64; 8], n: usize, beta: f64) -> f64
-    requires { n ≤ 8 }
-    ensures { result ≡ residual_of (at z.now) (at k.now) n beta }
-{
-    (0..n).fold(0.0, |s, i| {
-        if z[i] > 0.0 {
-            s + z[i] * (k[i] - 1.0) / (1.0 + beta * (k[i] - 1.0))
-        } else {
-            s
-        }
-    })
-}
-
-// g(β) and g'(β): the second negates its sum. 1 + β (K - 1) is worked out once for both.
-fn residual_and_slope(z: &[f64; 8], k: &[f64; 8], n: usize, beta: f64) -> Sums
-    requires { n ≤ 8 }
-    ensures residual_value { result.residual ≡ residual_of (at z.now) (at k.now) n beta }
-    ensures slope_value { result.slope ≡ slope_of (at z.now) (at k.now) n beta }
-{
-    let (residual, squares) = (0..n).fold((0.0, 0.0), |(residual, squares), i| {
-        if z[i] > 0.0 {
-            let over = 1.0 + beta * (k[i] - 1.0);
-            (
-                residual + z[i] * (k[i] - 1.0) / over,
-                squares + z[i] * ((k[i] - 1.0) * (k[i] - 1.0)) / (over * over),
-            )
-        } else {
-            (residual, squares)
-        }
-    });
-    Sums {
-        residual,
-        slope: -squares,
-    }
-}
-
-// What `choose` makes of the K at positive feed fractions, one after the other from `first` on.
-fn k_chosen<F: Fn(f64, f64) -> f64>(
-    choose: F,
-    first: f64,
-    z: &[f64; 8],
-    k: &[f64; 8],
-    n: usize,
-) -> f64
-    requires few { n ≤ 8 }
-    requires callable { F.IsAlwaysCallable choose }
-    ensures { (f : Float → Float → Float) → ((a b r : Float) → F.post choose a b r → r ≡ f a b) → result ≡ fold_to (active (at z.now) (λ i s. f s (at k.now i))) first n }
-{
-    let mut s = first;
-    for i in 0..n {
-        if z[i] > 0.0 {
-            s = choose(s, k[i]);
-        }
-    }
-    s
-}
-
-fn k_max(z: &[f64; 8], k: &[f64; 8], n: usize) -> f64
-    requires { n ≤ 8 }
-    ensures { result ≡ k_max (at z.now) (at k.now) n }
-{
-    k_chosen(floats::max, f64::NEG_INFINITY, z, k, n)
-}
-
-fn k_min(z: &[f64; 8], k: &[f64; 8], n: usize) -> f64
-    requires { n ≤ 8 }
-    ensures { result ≡ k_min (at z.now) (at k.now) n }
-{
-    k_chosen(floats::min, f64::INFINITY, z, k, n)
 }
 
 // ---- validate
@@ -154,53 +83,6 @@ fn one_phase(outcome: RachfordRiceOutcome) -> RachfordRice
     }
 }
 
-fn liquid_part(z: f64, k: f64, beta: f64) -> f64
-    ensures { result ≡ cond (lt 0f z) (z ⊘ (1f ⊕ beta ⊗ (k ⊖ 1f))) 0f }
-{
-    if z > 0.0 {
-        z / (1.0 + beta * (k - 1.0))
-    } else {
-        0.0
-    }
-}
-
-fn liquid_parts(z: &[f64; 8], k: &[f64; 8], n: usize, beta: f64) -> [f64; 8]
-    requires { n ≤ 8 }
-    ensures { result ≡ vec (liquid_part (at z.now) (at k.now) n beta) n }
-{
-    let mut x = [0.0; 8];
-    for i in 0..n {
-        x[i] = liquid_part(z[i], k[i], beta);
-    }
-    x
-}
-
-// From the liquid that is not yet divided by its sum.
-fn vapor_parts(x: &[f64; 8], k: &[f64; 8], n: usize) -> [f64; 8]
-    requires { n ≤ 8 }
-    ensures { result ≡ vec (λ i. at x.now i ⊗ at k.now i) n }
-{
-    let mut y = [0.0; 8];
-    for i in 0..n {
-        y[i] = x[i] * k[i];
-    }
-    y
-}
-
-fn solution(z: &[f64; 8], k: &[f64; 8], n: usize, beta: f64, iterations: u64) -> RachfordRice
-    requires { n ≤ 8 }
-    ensures { result ≡ two_phase (solution_at (at z.now) (at k.now) n beta iterations) }
-{
-    let x = liquid_parts(z, k, n, beta);
-    let y = vapor_parts(&x, k, n);
-    let residual = floats::abs(rachford_rice_residual(z, k, n, beta));
-    RachfordRice {
-        outcome: RachfordRiceOutcome::TwoPhase(beta, residual, iterations),
-        liquid: thermo_types::shares(&x, n),
-        vapor: thermo_types::shares(&y, n),
-    }
-}
-
 // ---- the iteration
 
 // Newton's value where it lies between the bounds, else their middle.
@@ -232,59 +114,167 @@ fn turn_from(g: f64, slope: f64, lo: f64, hi: f64, beta: f64) -> Turn
     }
 }
 
-// From β = 0.5 between the bounds; refused where g(β) isn't finite, and where no turn is left.
-fn iterate(
-    z: &[f64; 8],
-    k: &[f64; 8],
-    n: usize,
-    limit: u64,
-    mut lo: f64,
-    mut hi: f64,
-) -> Result<RachfordRice, Refusal>
-    requires { n ≤ 8 }
-    ensures { outcome_of result ≡ bind (iterate (at z.now) (at k.now) n limit 0 lo hi ½) (λ s. ok (two_phase s)) }
+// ---- a feed and its ratios
+
+fn liquid_part(z: f64, k: f64, beta: f64) -> f64
+    ensures { result ≡ cond (lt 0f z) (z ⊘ (1f ⊕ beta ⊗ (k ⊖ 1f))) 0f }
 {
-    let mut beta = 0.5;
-    for done in 0..limit {
-        let Sums { residual, slope } = residual_and_slope(z, k, n, beta);
-        if !floats::is_finite(residual) {
-            return Err(Refusal::ResultNotFinite);
-        }
-        let turn = turn_from(residual, slope, lo, hi, beta);
-        if turn.last {
-            let root = floats::pick(residual == 0.0, beta, turn.next);
-            return Ok(solution(z, k, n, root, done + 1));
-        }
-        (lo, hi, beta) = (turn.lo, turn.hi, turn.next);
+    if z > 0.0 {
+        z / (1.0 + beta * (k - 1.0))
+    } else {
+        0.0
     }
-    Err(Refusal::NotConverged)
 }
 
-// Between the poles 1 / (1 - Kmax) and 1 / (1 - Kmin); refused where K lies on one side of 1.
-#[tactic(auto, unfolding(crate::specs::Rachford::between, floats::specs::Outcome::need, floats::specs::Outcome::bind))]
-fn between(z: &[f64; 8], k: &[f64; 8], n: usize, limit: u64) -> Result<RachfordRice, Refusal>
-    requires { n ≤ 8 }
-    ensures { outcome_of result ≡ bind (between (at z.now) (at k.now) n limit) (λ s. ok (two_phase s)) }
-{
-    let largest = k_max(z, k, n);
-    if largest <= 1.0 {
-        return Err(Refusal::KOneSided);
+// Feed fractions z and ratios K of the solvents that count.
+#[derive(Clone, Copy)]
+struct Feed<'a> {
+    z: &'a [f64; 8],
+    k: &'a [f64; 8],
+    m: Count,
+}
+
+// Sums and choices are over positive feed fractions.
+impl<'a> Feed<'a> {
+    // g(β)
+    fn residual(self, beta: f64) -> f64
+        ensures { result ≡ residual_of (at self.entry.z.now) (at self.entry.k.now) self.entry.m.n beta }
+    {
+        (0..self.m.n).fold(0.0, |s, i| {
+            if self.z[i] > 0.0 {
+                s + self.z[i] * (self.k[i] - 1.0) / (1.0 + beta * (self.k[i] - 1.0))
+            } else {
+                s
+            }
+        })
     }
-    let smallest = k_min(z, k, n);
-    if smallest >= 1.0 {
-        return Err(Refusal::KOneSided);
+
+    // g(β) and g'(β): the second negates its sum. 1 + β (K - 1) is worked out once for both.
+    fn residual_and_slope(self, beta: f64) -> Sums
+        ensures residual_value { result.residual ≡ residual_of (at self.entry.z.now) (at self.entry.k.now) self.entry.m.n beta }
+        ensures slope_value { result.slope ≡ slope_of (at self.entry.z.now) (at self.entry.k.now) self.entry.m.n beta }
+    {
+        let (residual, squares) = (0..self.m.n).fold((0.0, 0.0), |(residual, squares), i| {
+            let z = self.z[i];
+            if z > 0.0 {
+                let k = self.k[i];
+                let over = 1.0 + beta * (k - 1.0);
+                (
+                    residual + z * (k - 1.0) / over,
+                    squares + z * ((k - 1.0) * (k - 1.0)) / (over * over),
+                )
+            } else {
+                (residual, squares)
+            }
+        });
+        Sums {
+            residual,
+            slope: -squares,
+        }
     }
-    iterate(
-        z,
-        k,
-        n,
-        limit,
-        1.0 / (1.0 - largest),
-        1.0 / (1.0 - smallest),
-    )
+
+    // What `choose` makes of the K, one after the other from `first` on.
+    fn k_chosen<F: Fn(f64, f64) -> f64>(self, choose: F, first: f64) -> f64
+        requires { F.IsAlwaysCallable choose }
+        ensures { (f : Float → Float → Float) → ((a b r : Float) → F.post choose a b r → r ≡ f a b) → result ≡ fold_to (active (at self.entry.z.now) (λ i s. f s (at self.entry.k.now i))) first self.entry.m.n }
+    {
+        (0..self.m.n).fold(first, |s, i| {
+            if self.z[i] > 0.0 {
+                choose(s, self.k[i])
+            } else {
+                s
+            }
+        })
+    }
+
+    fn k_max(self) -> f64
+        ensures { result ≡ k_max (at self.entry.z.now) (at self.entry.k.now) self.entry.m.n }
+    {
+        self.k_chosen(floats::max, f64::NEG_INFINITY)
+    }
+
+    fn k_min(self) -> f64
+        ensures { result ≡ k_min (at self.entry.z.now) (at self.entry.k.now) self.entry.m.n }
+    {
+        self.k_chosen(floats::min, f64::INFINITY)
+    }
+
+    // Kept: a loop to n, here and below: `from_fn` would go over all eight.
+    #[tactic(auto, unfolding(floats::specs::Vector::fill, crate::specs::Rachford::liquid_part))]
+    fn liquid_parts(self, beta: f64) -> [f64; 8]
+        ensures { result ≡ vec (liquid_part (at self.entry.z.now) (at self.entry.k.now) self.entry.m.n beta) self.entry.m.n }
+    {
+        let mut x = [0.0; 8];
+        for i in 0..self.m.n {
+            x[i] = liquid_part(self.z[i], self.k[i], beta);
+        }
+        x
+    }
+
+    // From the liquid that is not yet divided by its sum.
+    #[tactic(auto, unfolding(floats::specs::Vector::fill))]
+    fn vapor_parts(self, x: &[f64; 8]) -> [f64; 8]
+        ensures { result ≡ vec (λ i. at x.now i ⊗ at self.entry.k.now i) self.entry.m.n }
+    {
+        let mut y = [0.0; 8];
+        for i in 0..self.m.n {
+            y[i] = x[i] * self.k[i];
+        }
+        y
+    }
+
+    fn solution(self, beta: f64, iterations: u64) -> RachfordRice
+        ensures { result ≡ two_phase (solution_at (at self.entry.z.now) (at self.entry.k.now) self.entry.m.n beta iterations) }
+    {
+        let x = self.liquid_parts(beta);
+        let y = self.vapor_parts(&x);
+        let residual = floats::abs(self.residual(beta));
+        RachfordRice {
+            outcome: RachfordRiceOutcome::TwoPhase(beta, residual, iterations),
+            liquid: thermo_types::shares(&x, self.m.n),
+            vapor: thermo_types::shares(&y, self.m.n),
+        }
+    }
+
+    // From β = 0.5 between the bounds; refused where g(β) isn't finite, and where no turn is left.
+    fn iterate(self, limit: u64, mut lo: f64, mut hi: f64) -> Result<RachfordRice, Refusal>
+        ensures { outcome_of result ≡ bind (iterate (at self.entry.z.now) (at self.entry.k.now) self.entry.m.n limit 0 lo hi ½) (λ s. ok (two_phase s)) }
+    {
+        let mut beta = 0.5;
+        for done in 0..limit {
+            let Sums { residual, slope } = self.residual_and_slope(beta);
+            if !floats::is_finite(residual) {
+                return Err(Refusal::ResultNotFinite);
+            }
+            let turn = turn_from(residual, slope, lo, hi, beta);
+            if turn.last {
+                let root = floats::pick(residual == 0.0, beta, turn.next);
+                return Ok(self.solution(root, done + 1));
+            }
+            (lo, hi, beta) = (turn.lo, turn.hi, turn.next);
+        }
+        Err(Refusal::NotConverged)
+    }
+
+    // Between the poles 1 / (1 - Kmax) and 1 / (1 - Kmin); refused where K lies on one side of 1.
+    #[tactic(auto, unfolding(crate::specs::Rachford::between, floats::specs::Outcome::need, floats::specs::Outcome::bind))]
+    fn between(self, limit: u64) -> Result<RachfordRice, Refusal>
+        ensures { outcome_of result ≡ bind (between (at self.entry.z.now) (at self.entry.k.now) self.entry.m.n limit) (λ s. ok (two_phase s)) }
+    {
+        let largest = self.k_max();
+        if largest <= 1.0 {
+            return Err(Refusal::KOneSided);
+        }
+        let smallest = self.k_min();
+        if smallest >= 1.0 {
+            return Err(Refusal::KOneSided);
+        }
+        self.iterate(limit, 1.0 / (1.0 - largest), 1.0 / (1.0 - smallest))
+    }
 }
 
 // ---- what other crates call
+// Kept: `validate`, then the feed, twice: a constructor would say in its contract what the three fields are, and be longer.
 
 // g(β) = 0 between the poles, so that β may lie outside [0, 1].
 pub fn rachford_rice_negative(
@@ -296,7 +286,12 @@ pub fn rachford_rice_negative(
     ensures { outcome_of result ≡ bind (negative (at z.now) (at k.now) (places n) max_iterations) (λ s. ok (two_phase s)) }
 {
     validate(z, k, n)?;
-    between(z, k, floats::places(n), max_iterations)
+    let feed = Feed {
+        z,
+        k,
+        m: Count::of(n),
+    };
+    feed.between(max_iterations)
 }
 
 // Constrained to 0 ≤ β ≤ 1: the single phases from g(0) and g(1), otherwise two phases.
@@ -309,12 +304,16 @@ pub fn rachford_rice(
     ensures { outcome_of result ≡ constrained (at z.now) (at k.now) (places n) max_iterations }
 {
     validate(z, k, n)?;
-    let m = floats::places(n);
-    if rachford_rice_residual(z, k, m, 0.0) <= 0.0 {
+    let feed = Feed {
+        z,
+        k,
+        m: Count::of(n),
+    };
+    if feed.residual(0.0) <= 0.0 {
         return Ok(one_phase(RachfordRiceOutcome::LiquidOnly));
     }
-    if rachford_rice_residual(z, k, m, 1.0) >= 0.0 {
+    if feed.residual(1.0) >= 0.0 {
         return Ok(one_phase(RachfordRiceOutcome::VaporOnly));
     }
-    between(z, k, m, max_iterations)
+    feed.between(max_iterations)
 }

@@ -23,6 +23,7 @@ pub fn read_full<R: Read>(from: &mut R, buffer: &mut [u8]) -> usize
     ensures given { Consumes (R.remaining from.old) (R.remaining from.new) (take result buffer.new) }
 {
     let mut done = 0;
+    // Kept: it goes by what each read gave; a `for` would say no more.
     while done < buffer.len() {
         let n = read_some(from, &mut buffer[done..]);
         if n == 0 {

@@ -1,32 +1,27 @@
 -- The parameters: what is read for an ordered pair, how it is stored, and the turns of the loops. Assumes nothing.
 use mathlib.Core.Path.{◌≡◌, refl, sym, ap, ◌∙◌}
-use mathlib.Core.List.{List, [], ◌∷◌, ◌++◌}
-use Prim.Native.Nat.{ℕ, zero, suc, ◌+◌, ◌-◌, ◌*◌, ◌^◌, ◌≤◌, ◌<◌, min}
+use mathlib.Core.List.{List}
+use Prim.Native.Nat.{ℕ, zero, suc, ◌+◌, ◌*◌, ◌^◌, ◌≤◌, ◌<◌, min}
 use native.Mathlib.Nat.{add-zero}
 use native.Mathlib.Omega.{arith}
 use mathlib.Core.Bool.{Bool, true, false}
 use borrow.Author.Tests.{lt-ltb, le-ltb, ltb-true, ltb-false}
 use lib.Dec.{ltb}
 use lib.Ieee.{Float}
-use lib.ListN.{set, replicate, length, get_or, take, drop}
-use lib.Seq.{set_comm, sets-eq}
-use borrow.Rule.Slice.PartMut.{put_mid}
-use Rattle.std.proofs.Common.{append_assoc, drop-drop}
+use lib.ListN.{set, replicate, length, get_or}
+use lib.Seq.{set_comm}
 use Rattle.std.proofs.lemmas.List.{same_lists}
 use Rattle.floats.specs.Arithmetic.{0f}
 use Rattle.floats.specs.Fold.{fold_to}
 use Rattle.floats.specs.Vector.{fill_from, zeros8, vec}
 use Rattle.floats.proofs.Fills.{fill_length, fill-at}
 use Rattle.floats.proofs.Squares.{square-turn}
-use Rattle.floats.specs.Small.{float}
 use Rattle.book.specs.declared.Model.{Model}
-use Rattle.book.specs.declared.Model.TheVariants.{Nrtl, Wilson}
 use Rattle.blocks.specs.Words.{block}
 use Rattle.blocks.proofs.Laws.{block_none}
 use Rattle.book.specs.Places.{pair_place}
-use Rattle.records.specs.Offered.{pair_at}
 use Rattle.records.specs.declared.Terms.{Terms}
-use Rattle.records.specs.Parameters.{pair_term, lower_from, parameter, term_in, wilson_term, terms_of, both_of, parameter_both, parameter_border, parameter_row, parameter_rows}
+use Rattle.records.specs.Parameters.{pair_term, lower_from, parameter, terms_of, both_of, parameter_both, parameter_border, parameter_row, parameter_rows}
 
 -- an array of eight, known element by element
 pub vec_made : (w : ℕ → Float) (ys : List Float) → length ys ≡ 8 → ((k : ℕ) (d : Float) → k < 8 → get_or ys k d ≡ w k) → ys ≡ vec w 8
@@ -81,19 +76,6 @@ pub terms_stored : (f : ℕ → Float) (from : ℕ) (l : List Float) {t : Terms}
     → m ≡ fill_from f from 6 l
 unfolding terms_of fill_from
 terms_stored f from l e p = rw add-zero (rw e at p)
-
--- six floats copied into a table are stored one after the other
-pub six_stored : (l : List Float) (from : ℕ) (a b c d e f : Float) {x : List Float} → from + 6 ≤ length l → x ≡ a ∷ b ∷ c ∷ d ∷ e ∷ f ∷ []
-    → put_mid from (from + 6 - from) l x ≡ set (set (set (set (set (set l from a) (from + 1) b) (from + 2) c) (from + 3) d) (from + 4) e) (from + 5) f
-six_stored l from a b c d e f h q =
-    let n : from + 6 - from ≡ 6 = omega arith in
-    let e1 : from + 1 ≡ suc from = omega arith in
-    let e2 : from + 2 ≡ suc (suc from) = omega arith in
-    let e3 : from + 3 ≡ suc (suc (suc from)) = omega arith in
-    let e4 : from + 4 ≡ suc (suc (suc (suc from))) = omega arith in
-    let e5 : from + 5 ≡ suc (suc (suc (suc (suc from)))) = omega arith in
-    let six = a ∷ b ∷ c ∷ d ∷ e ∷ f ∷ [] in
-    rw (q, n, drop-drop, e1, e2, e3, e4, e5) (sym (sets-eq six l from h ∙ append_assoc (take from l) six (drop (from + 6) l)))
 
 -- both pairs of a block
 pub pair_stored : (m : Model) (w : ℕ → ℕ) (upper lower : ℕ) (l : List Float) {s t : Terms} {l₁ l₂ : List Float} → s ≡ terms_of (pair_term m w (lower_from m)) → t ≡ terms_of (pair_term m w 3)

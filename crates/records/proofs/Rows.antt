@@ -24,14 +24,6 @@ pub row-few : (n i : ℕ) → n ≤ 8 → i ≤ n → row_from n i ≤ 37
 unfolding all_to row_from
 row-few n i a b = leb-true (row_from n i) 37 (every (λ m k. leb (row_from m k) 37) n i a b refl)
 
-pub row_low : (n i : ℕ) → n ≤ 8 → i ≤ n → i ≤ i * (2 * n - i)
-unfolding all_to
-row_low n i a b = leb-true i (i * (2 * n - i)) (every (λ m k. leb k (k * (2 * m - k))) n i a b refl)
-
-pub row-high : (n i : ℕ) → n ≤ 8 → i ≤ n → i * (2 * n - i) ≤ 64
-unfolding all_to
-row-high n i a b = leb-true (i * (2 * n - i)) 64 (every (λ m k. leb (k * (2 * m - k)) 64) n i a b refl)
-
 -- the rows past the last are empty
 row-past : (n i : ℕ) → n ≤ i → row_from n n ≡ row_from n i
 unfolding row_from

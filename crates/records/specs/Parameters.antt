@@ -1,5 +1,6 @@
 -- The parameters of all ordered pairs in one flat table, six to a pair, w j k being word k of block j. Assumes nothing.
 use Rattle.std.specs.Prelude.{List, cond, ℕ, ◌+◌, ◌*◌, ltb, Float, replicate}
+use Rattle.blocks.specs.Words.{word}
 use Rattle.floats.specs.Arithmetic.{0f}
 use Rattle.floats.specs.Fold.{fold_to}
 use Rattle.floats.specs.Vector.{fill_from}
@@ -9,6 +10,7 @@ use Rattle.book.specs.declared.Model.TheVariants.{Nrtl, Wilson}
 use Rattle.book.specs.Places.{words, pair_place}
 use Rattle.book.specs.Book.{model_of}
 use Rattle.records.specs.declared.Terms.{Terms}
+use Rattle.records.specs.Offered.{pair_at}
 
 -- NRTL's parameter k in a pair's block: tau's t0 to t3 from word f on, then alpha's a0 and a1, words 11 and 12
 unfoldable pub term_in : (ℕ → ℕ) → ℕ → ℕ → Float
@@ -31,6 +33,10 @@ lower_from Wilson = 5
 -- of the ordered pair (i, j): in the block of i < j those of (i, j) start at word 3; NRTL has the one alpha, which question 9 found the same both ways
 unfoldable pub parameter : Model → (ℕ → ℕ → ℕ) → ℕ → ℕ → ℕ → ℕ → Float
 parameter m w n i j k = cond (ltb i j) (pair_term m (w (pair_place n i j)) 3 k) (cond (ltb j i) (pair_term m (w (pair_place n j i)) (lower_from m) k) 0f)
+
+-- where a block is offered for the pair at `place`
+abbrev pub offered_parameter : Model → List ℕ → List ℕ → ℕ → ℕ → ℕ → ℕ → ℕ → Float
+offered_parameter m book offered place n = parameter m (λ k. word (pair_at book offered place k)) n
 
 -- as the code has them
 unfoldable pub terms_of : (ℕ → Float) → Terms

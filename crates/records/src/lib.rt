@@ -5,19 +5,20 @@ ghost use Rattle.std.specs.Prelude.{◌≡◌, ◌≤◌, ◌<◌, ◌+◌, ◌*
 ghost use Rattle.blocks.specs.Words.{word, block};
 ghost use Rattle.floats.specs.Arithmetic.{0f};
 ghost use Rattle.floats.specs.Vector.{vec, places, fill_from};
-ghost use Rattle.book.specs.declared.Model.TheVariants.{Nrtl, Wilson};
 ghost use Rattle.book.specs.Places.{words, row_from, pair_place};
 ghost use Rattle.floats.specs.Small.{float};
 ghost use Rattle.book.specs.Book.{model_of};
 ghost use Rattle.records.specs.Records.{ancillary_of, range_of, regression_of, pair_of};
 ghost use Rattle.records.specs.Offered.{offered_place, pair_at, with_pair};
-ghost use Rattle.records.specs.Parameters.{terms_of, term_in, wilson_term, pair_term, lower_from, parameter, both_of, parameter_both, parameter_border, parameter_rows, parameters_of};
+ghost use Rattle.records.specs.Parameters.{terms_of, term_in, wilson_term, pair_term, lower_from, offered_parameter, parameter_both, parameter_border, parameter_rows, parameters_of};
 
 use blocks::word;
 use book::Model;
+use floats::Count;
 
 // A correlation of document 003: t_r, low and high in K, the reducing value in Pa; the first `count` of n and t are
 // its terms.
+// Kept: a count beside arrays of eight: all eight words are read, and the definition has them all.
 #[derive(Clone, Copy)]
 pub struct Ancillary {
     pub t_r: f64,
@@ -29,13 +30,14 @@ pub struct Ancillary {
     pub t: [f64; 8],
 }
 
-// The temperatures that a correlation holds between, in K.
+// The temperatures that a correlation holds between, in K, the lower first.
+// Kept: a public type, read as .0 and .1.
 #[derive(Clone, Copy)]
 pub struct Range(pub f64, pub f64);
 
 // The parameters of an ordered pair. NRTL: tau = t0 + t1 / T + t2 ln T + t3 T, alpha = a0 + a1 T. Wilson: t0 and t1 are
 // the a and b of Λ = exp(a + b / T), the others +0.
-#[derive(Clone, Copy)]
+#[derive(Clone, Copy, Default)]
 pub struct Terms {
     pub t0: f64,
     pub t1: f64,
@@ -44,15 +46,6 @@ pub struct Terms {
     pub a0: f64,
     pub a1: f64,
 }
-
-const NONE: Terms = Terms {
-    t0: 0.0,
-    t1: 0.0,
-    t2: 0.0,
-    t3: 0.0,
-    a0: 0.0,
-    a1: 0.0,
-};
 
 // The temperatures that a pair was regressed between, in K, and whether they were inferred.
 #[derive(Clone, Copy)]
@@ -70,6 +63,7 @@ pub struct Pair {
     pub regression: Option<Interval>,
 }
 
+// Kept: as in question; one line each; shared it is longer, and no plainer.
 fn float_at(s: &[u8], k: usize) -> f64
     ensures { result ≡ float (word s.now) k }
 {
@@ -90,18 +84,20 @@ fn solvent_block(book: &[u8], i: usize) -> &[u8]
     blocks::block(book, i.saturating_add(1))
 }
 
+// The correlation from word f on.
+// Kept: a word's place, with room for the record behind it; as an enum of two records it would be turned into 3 or 24 here.
 fn ancillary_at(s: &[u8], f: usize) -> Ancillary
     requires { f ≤ 24 }
     ensures { result ≡ ancillary_of (word s.now) f }
 {
     Ancillary {
+        count: floats::places(word(s, f + 4) as usize),
+        n: eight_floats(s, f + 5),
+        t: eight_floats(s, f + 13),
         t_r: float_at(s, f),
         reducing_value: float_at(s, f + 1),
         low: float_at(s, f + 2),
         high: float_at(s, f + 3),
-        count: floats::places(word(s, f + 4) as usize),
-        n: eight_floats(s, f + 5),
-        t: eight_floats(s, f + 13),
     }
 }
 
@@ -134,34 +130,36 @@ pub fn density_range(book: &[u8], i: usize) -> Range
 }
 
 // Row i's first block: 1 + n, and the n - 1, n - 2, .. pairs of the rows before it. The rows past the last are empty.
-fn row_from(n: usize, i: usize) -> usize
-    requires { n ≤ 8 }
-    ensures { (result ≡ row_from n i) × (result ≤ 37) }
+fn row_from(m: Count, i: usize) -> usize
+    ensures { (result ≡ row_from m.n i) × (result ≤ 37) }
 {
+    let n = m.n;
     let i = i.min(n);
     1 + n + (i * (2 * n - i) - i) / 2
 }
 
-fn pair_place(n: usize, i: usize, j: usize) -> usize
-    requires { (n ≤ 8) × (j ≤ 8) }
-    ensures { result ≡ pair_place n i j }
+fn pair_place(m: Count, i: usize, j: usize) -> usize
+    requires { j ≤ 8 }
+    ensures { result ≡ pair_place m.n i j }
 {
-    row_from(n, i) + j.saturating_sub(i).saturating_sub(1)
+    row_from(m, i) + j.saturating_sub(i).saturating_sub(1)
 }
 
 // ---- a pair offered in the place of the book's own
 
 // The block in whose place it stands; 0 where it is for no pair of the book's first n solvents.
+// Kept: no Option: block 0 is no pair's, so one test `k == place` serves both; for the same reason the empty slice is
+// "nothing offered" (a public caller's slice).
 pub fn offered_place(book: &[u8], offered: &[u8], n: usize) -> usize
     ensures { result ≡ offered_place (places n) book.now offered.now }
 {
     if offered.len() != 512 {
         return 0;
     }
-    let m = floats::places(n);
+    let m = Count::of(n);
     let i = word(offered, 1);
     let j = word(offered, 2);
-    if j <= i || m as u64 <= j {
+    if j <= i || m.n as u64 <= j {
         return 0;
     }
     let place = pair_place(m, i as usize, j as usize);
@@ -181,17 +179,19 @@ fn regression_at(s: &[u8]) -> Option<Interval>
     })
 }
 
-// Tau of the pair (i, j) from word 3 on, alpha from word 11 on.
+// Tau of the pair (i, j) from word 3 on, alpha from word 11 on. The last word first: past the test for it the others need none,
+// those of the caller neither.
+#[inline(always)]
 fn nrtl_terms(s: &[u8]) -> Terms
     ensures { result ≡ terms_of (term_in (word s.now) 3) }
 {
     Terms {
+        a1: float_at(s, 12),
+        a0: float_at(s, 11),
         t0: float_at(s, 3),
         t1: float_at(s, 4),
         t2: float_at(s, 5),
         t3: float_at(s, 6),
-        a0: float_at(s, 11),
-        a1: float_at(s, 12),
     }
 }
 
@@ -201,13 +201,15 @@ fn wilson_terms(s: &[u8], f: usize) -> Terms
     ensures { result ≡ terms_of (wilson_term (word s.now) f) }
 {
     Terms {
-        t0: float_at(s, f),
         t1: float_at(s, f + 1),
-        ..NONE
+        t0: float_at(s, f),
+        ..Terms::default()
     }
 }
 
 // Of the pair (i, j), i < j, and of (j, i), in their block. NRTL has one alpha for both.
+// Kept: a definition by cases; `Model` is `book`'s, and as its method this would want a trait for one call.
+#[inline(always)]
 fn both_terms(model: Model, s: &[u8]) -> (Terms, Terms)
     ensures upper { result.0 ≡ terms_of (pair_term model (word s.now) 3) }
     ensures lower { result.1 ≡ terms_of (pair_term model (word s.now) (lower_from model)) }
@@ -239,14 +241,80 @@ fn pair_in(model: Model, s: &[u8]) -> Pair
     }
 }
 
-// Block k, where a block is offered for the pair at `place`.
-fn pair_at<'a>(book: &'a [u8], offered: &'a [u8], place: usize, k: usize) -> &'a [u8]
-    ensures { result.now ≡ pair_at book.now offered.now place k }
+fn set_terms(plane: &mut [f64; 384], from: usize, t: Terms)
+    requires { from + 6 ≤ 384 }
+    ensures { plane.new ≡ set (set (set (set (set (set plane.old from t.t0) (from + 1) t.t1) (from + 2) t.t2) (from + 3) t.t3) (from + 4) t.a0) (from + 5) t.a1 }
 {
-    if k == place {
-        offered
-    } else {
-        blocks::block(book, k)
+    // Kept: `copy_from_slice` tests at each call whether the two overlap, which takes longer than the copy.
+    plane[from] = t.t0;
+    plane[from + 1] = t.t1;
+    plane[from + 2] = t.t2;
+    plane[from + 3] = t.t3;
+    plane[from + 4] = t.a0;
+    plane[from + 5] = t.a1;
+}
+
+// Kept: `i < 8` is the index of a row of eight, here and in the three below.
+fn diagonal(i: usize, plane: &mut [f64; 384])
+    requires { i < 8 }
+    ensures { plane.new ≡ fill_from (λ _. 0f) ((i * 8 + i) * 6) 6 plane.old }
+{
+    set_terms(plane, (i * 8 + i) * 6, Terms::default());
+}
+
+// The pair blocks of a book, where a block is offered for the pair at `place`.
+// Kept: `thermo_models::Present` has four of these fields and looks at a drum; shared it would be public, and its methods here.
+#[derive(Clone, Copy)]
+struct PairBlocks<'a> {
+    model: Model,
+    book: &'a [u8],
+    offered: &'a [u8],
+    place: usize,
+    m: Count,
+}
+
+impl<'a> PairBlocks<'a> {
+    // That of the pair (i, j), i < j.
+    fn block(self, i: usize, j: usize) -> &'a [u8]
+        requires { j ≤ 8 }
+        ensures { result.now ≡ pair_at self.entry.book.now self.entry.offered.now self.entry.place (pair_place self.entry.m.n i j) }
+    {
+        let k = pair_place(self.m, i, j);
+        if k == self.place {
+            self.offered
+        } else {
+            blocks::block(self.book, k)
+        }
+    }
+
+    // The ordered pairs (i, j) and (j, i), j < i: the offered block's, or the book's.
+    fn fill_both(self, i: usize, j: usize, plane: &mut [f64; 384])
+        requires { (i < 8) × (j < i) }
+        ensures { plane.new ≡ parameter_both (offered_parameter self.entry.model self.entry.book.now self.entry.offered.now self.entry.place self.entry.m.n) i j plane.old }
+    {
+        let (upper, lower) = both_terms(self.model, self.block(j, i));
+        set_terms(plane, (i * 8 + j) * 6, lower);
+        set_terms(plane, (j * 8 + i) * 6, upper);
+    }
+
+    // Row i up to the diagonal, and column i.
+    fn fill_border(self, i: usize, plane: &mut [f64; 384])
+        requires { i < 8 }
+        ensures { plane.new ≡ parameter_border (offered_parameter self.entry.model self.entry.book.now self.entry.offered.now self.entry.place self.entry.m.n) i i plane.old }
+    {
+        for j in 0..i {
+            self.fill_both(i, j, plane);
+        }
+    }
+
+    fn fill(self, plane: &mut [f64; 384])
+        ensures { plane.new ≡ parameter_rows (offered_parameter self.entry.model self.entry.book.now self.entry.offered.now self.entry.place self.entry.m.n) self.entry.m.n self.entry.m.n }
+    {
+        *plane = [0.0; 384];
+        for i in 0..self.m.n {
+            self.fill_border(i, plane);
+            diagonal(i, plane);
+        }
     }
 }
 
@@ -255,71 +323,15 @@ pub fn pair_record(book: &[u8], offered: &[u8], place: usize, n: usize, i: usize
     ensures { result ≡ pair_of (model_of book.now) (word (pair_at book.now offered.now place (pair_place (places n) (places i) (places j)))) }
 {
     let model = book::model_of(book);
-    let k = pair_place(floats::places(n), floats::places(i), floats::places(j));
-    pair_in(model, pair_at(book, offered, place, k))
-}
-
-fn set_terms(plane: &mut [f64; 384], from: usize, t: Terms)
-    requires { from + 6 ≤ 384 }
-    ensures { plane.new ≡ set (set (set (set (set (set plane.old from t.t0) (from + 1) t.t1) (from + 2) t.t2) (from + 3) t.t3) (from + 4) t.a0) (from + 5) t.a1 }
-{
-    plane[from..from + 6].copy_from_slice(&[t.t0, t.t1, t.t2, t.t3, t.a0, t.a1]);
-}
-
-// The ordered pairs (i, j) and (j, i), j < i: the offered block's, or the book's.
-fn fill_both(
-    model: Model,
-    book: &[u8],
-    offered: &[u8],
-    place: usize,
-    n: usize,
-    i: usize,
-    j: usize,
-    plane: &mut [f64; 384],
-)
-    requires { (n ≤ 8) × (i < 8) × (j < i) }
-    ensures { plane.new ≡ parameter_both (parameter model (λ k. word (pair_at book.now offered.now place k)) n) i j plane.old }
-{
-    let s = pair_at(book, offered, place, pair_place(n, j, i));
-    let (upper, lower) = both_terms(model, s);
-    set_terms(plane, (i * 8 + j) * 6, lower);
-    set_terms(plane, (j * 8 + i) * 6, upper);
-}
-
-// Row i up to the diagonal, and column i.
-fn fill_border(
-    model: Model,
-    book: &[u8],
-    offered: &[u8],
-    place: usize,
-    n: usize,
-    i: usize,
-    plane: &mut [f64; 384],
-)
-    requires { (n ≤ 8) × (i < 8) }
-    ensures { plane.new ≡ parameter_border (parameter model (λ k. word (pair_at book.now offered.now place k)) n) i i plane.old }
-{
-    for j in 0..i {
-        fill_both(model, book, offered, place, n, i, j, plane);
-    }
-}
-
-fn diagonal(i: usize, plane: &mut [f64; 384])
-    requires { i < 8 }
-    ensures { plane.new ≡ fill_from (λ _. 0f) ((i * 8 + i) * 6) 6 plane.old }
-{
-    set_terms(plane, (i * 8 + i) * 6, NONE);
-}
-
-fn fill(model: Model, book: &[u8], offered: &[u8], place: usize, n: usize, plane: &mut [f64; 384])
-    requires { n ≤ 8 }
-    ensures { plane.new ≡ parameter_rows (parameter model (λ k. word (pair_at book.now offered.now place k)) n) n n }
-{
-    *plane = [0.0; 384];
-    for i in 0..n {
-        fill_border(model, book, offered, place, n, i, plane);
-        diagonal(i, plane);
-    }
+    let m = Count::of(n);
+    let pairs = PairBlocks {
+        model,
+        book,
+        offered,
+        place,
+        m,
+    };
+    pair_in(model, pairs.block(floats::places(i), floats::places(j)))
 }
 
 // The parameters of all ordered pairs, from (i * 8 + j) * 6 on: NRTL, tau's t0 to t3, alpha's a0 and a1; Wilson, a and b,
@@ -328,13 +340,15 @@ fn fill(model: Model, book: &[u8], offered: &[u8], place: usize, n: usize, plane
 pub fn parameters(book: &[u8], offered: &[u8], n: usize, plane: &mut [f64; 384])
     ensures { plane.new ≡ parameters_of (with_pair (places n) book.now offered.now) (places n) }
 {
+    let model = book::model_of(book);
     let place = offered_place(book, offered, n);
-    fill(
-        book::model_of(book),
+    let m = Count::of(n);
+    let pairs = PairBlocks {
+        model,
         book,
         offered,
         place,
-        floats::places(n),
-        plane,
-    );
+        m,
+    };
+    pairs.fill(plane);
 }

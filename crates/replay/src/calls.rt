@@ -1,9 +1,7 @@
 // The core's functions on the words of a stored line.
 use outcome::{Refusal, number_in};
 use rachford_rice::{RachfordRice, RachfordRiceOutcome};
-
-// Of an answer, with its trials.
-const ANSWER_BYTES: usize = 4608;
+use replies::ANSWER_ROOM;
 
 // A stored call: the inputs that are not taken yet, the results that are not given yet, and whether one that was given differs.
 #[derive(Drop)]
@@ -70,6 +68,25 @@ impl<'a> Stored<'a> {
         }
     }
 
+    // A function of one float.
+    fn one<F: Fn(f64) -> f64>(&mut self, f: F) -> Option<()>
+        requires { F.IsAlwaysCallable f }
+    {
+        let v = self.take_float()?;
+        self.give_float(f(v));
+        Some(())
+    }
+
+    // A function of two.
+    fn two<F: Fn(f64, f64) -> f64>(&mut self, f: F) -> Option<()>
+        requires { F.IsAlwaysCallable f }
+    {
+        let a = self.take_float()?;
+        let b = self.take_float()?;
+        self.give_float(f(a, b));
+        Some(())
+    }
+
     // A part of the answer slice: its first block and as many trials as word 12 says.
     fn give_blocks(&mut self, part: &[u8]) {
         let trials = blocks::word(part, 12).min(8) as usize;
@@ -82,7 +99,7 @@ impl<'a> Stored<'a> {
     fn give_answer(&mut self, answered: Result<(), Refusal>, slice: &[u8], parts: usize) {
         self.give(number_in(answered));
         if answered.is_ok() {
-            for part in slice.chunks(ANSWER_BYTES).take(parts) {
+            for part in slice.chunks(ANSWER_ROOM).take(parts) {
                 self.give_blocks(part);
             }
         }
@@ -131,17 +148,17 @@ fn give_rice(stored: &mut Stored, found: Result<RachfordRice, Refusal>) {
     }
 }
 
-fn rice(negative: bool, stored: &mut Stored) -> Option<()> {
+fn rice<F: Fn(&[f64; 8], &[f64; 8], usize, u64) -> Result<RachfordRice, Refusal>>(
+    solver: F,
+    stored: &mut Stored,
+) -> Option<()>
+    requires { F.IsAlwaysCallable solver }
+{
     let n = stored.take_count()?;
     let limit = stored.take()?;
     let z = stored.take_eight()?;
     let k = stored.take_eight()?;
-    let found = if negative {
-        rachford_rice::rachford_rice_negative(&z, &k, n, limit)
-    } else {
-        rachford_rice::rachford_rice(&z, &k, n, limit)
-    };
-    give_rice(stored, found);
+    give_rice(stored, solver(&z, &k, n, limit));
     Some(())
 }
 
@@ -158,8 +175,13 @@ fn answer(stored: &mut Stored) -> Option<()> {
     Some(())
 }
 
-// With one slice more: drums, feeds or an offered pair.
-fn answer_with(name: &str, stored: &mut Stored) -> Option<()> {
+// With one slice more: drums, feeds or an offered pair. How many parts an answer has stands beside it.
+fn answer_with<F: Fn(&[u8], &[u8], &[u8], &mut [u8]) -> (Result<(), Refusal>, usize)>(
+    call: F,
+    stored: &mut Stored,
+) -> Option<()>
+    requires { F.IsAlwaysCallable call }
+{
     let mut book = [0; 24576];
     let mut question = [0; 4096];
     let mut lent = [0; 8192];
@@ -168,58 +190,25 @@ fn answer_with(name: &str, stored: &mut Stored) -> Option<()> {
     let question = stored.take_bytes(&mut question)?;
     let lent = stored.take_bytes(&mut lent)?;
     let out = out.get_mut(..stored.take_count()?)?;
-    match name {
-        "pooled" => {
-            let answered = pool::answer(book, question, lent, out);
-            stored.give_answer(answered, out, 1);
-        }
-        "feeds" => {
-            let answered = batch::answer(book, question, lent, out);
-            stored.give_answer(answered, out, lent.len() / 64);
-        }
-        _ => {
-            let answered = preview::answer(book, lent, question, out);
-            stored.give_answer(answered, out, 1);
-        }
-    }
+    let (answered, parts) = call(book, question, lent, out);
+    stored.give_answer(answered, out, parts);
     Some(())
 }
 
 // Takes the inputs of the function with that name, and gives its results; none where there are too few inputs or too long a slice.
 pub(crate) fn call(name: &str, stored: &mut Stored) -> Option<()> {
     match name {
-        "exp" => {
-            let v = numerics::exp(stored.take_float()?);
-            stored.give_float(v);
-        }
-        "ln" => {
-            let v = numerics::ln(stored.take_float()?);
-            stored.give_float(v);
-        }
-        "powf" => {
-            let v = numerics::powf(stored.take_float()?, stored.take_float()?);
-            stored.give_float(v);
-        }
-        "max" => {
-            let v = floats::max(stored.take_float()?, stored.take_float()?);
-            stored.give_float(plus_zero(v));
-        }
-        "min" => {
-            let v = floats::min(stored.take_float()?, stored.take_float()?);
-            stored.give_float(plus_zero(v));
-        }
-        "abs" => {
-            let v = floats::abs(stored.take_float()?);
-            stored.give_float(v);
-        }
+        "exp" => stored.one(numerics::exp)?,
+        "ln" => stored.one(numerics::ln)?,
+        "powf" => stored.two(numerics::powf)?,
+        "max" => stored.two(|a, b| plus_zero(floats::max(a, b)))?,
+        "min" => stored.two(|a, b| plus_zero(floats::min(a, b)))?,
+        "abs" => stored.one(floats::abs)?,
         "is_finite" => {
             let v = floats::is_finite(stored.take_float()?);
             stored.give(u64::from(v));
         }
-        "bits_of" | "float_of" => {
-            let v = stored.take_float()?;
-            stored.give_float(v);
-        }
+        "bits_of" | "float_of" => stored.one(|v| v)?,
         "fractions" => {
             let n = stored.take_count()?;
             let x = stored.take_eight()?;
@@ -227,10 +216,24 @@ pub(crate) fn call(name: &str, stored: &mut Stored) -> Option<()> {
         }
         "normalize" => normalize(stored)?,
         "open_book" => open_book(stored)?,
-        "rachford_rice" => rice(false, stored)?,
-        "rachford_rice_negative" => rice(true, stored)?,
+        "rachford_rice" => rice(rachford_rice::rachford_rice, stored)?,
+        "rachford_rice_negative" => rice(rachford_rice::rachford_rice_negative, stored)?,
         "answer" => answer(stored)?,
-        _ => answer_with(name, stored)?,
+        "pooled" => answer_with(
+            |book, question, drums, out| (pool::answer(book, question, drums, out), 1),
+            stored,
+        )?,
+        "feeds" => answer_with(
+            |book, question, feeds, out| (
+                batch::answer(book, question, feeds, out),
+                feeds.len() / 64,
+            ),
+            stored,
+        )?,
+        _ => answer_with(
+            |book, question, offered, out| (preview::answer(book, offered, question, out), 1),
+            stored,
+        )?,
     }
     Some(())
 }

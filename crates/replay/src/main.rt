@@ -50,15 +50,15 @@ const NAMES: [&str; 18] = [
 
 // Of a function: how many lines were replayed, and how many of them differ.
 #[derive(Clone, Copy)]
-struct Count {
+struct Function {
+    name: &'static str,
     replayed: u64,
     differ: u64,
 }
 
-// By the functions' places among the names.
 #[derive(Clone, Copy)]
 struct Tally {
-    counts: [Count; 18],
+    functions: [Function; 18],
     unread: u64,
 }
 
@@ -68,19 +68,20 @@ impl Tally {
         self.unread = self.unread.saturating_add(1);
     }
 
+    // A line of the function at place k.
     fn count(&mut self, k: usize, differs: bool) {
-        if let Some(count) = self.counts.get_mut(k) {
-            count.replayed = count.replayed.saturating_add(1);
-            count.differ = count.differ.saturating_add(u64::from(differs));
+        if let Some(function) = self.functions.get_mut(k) {
+            function.replayed = function.replayed.saturating_add(1);
+            function.differ = function.differ.saturating_add(u64::from(differs));
         }
     }
 }
 
-// Which function a line calls, and whether its results differ; none where it could not be read.
-fn replay(line: &str) -> Option<(usize, bool)> {
+// The place of the function that a line calls, and whether its results differ; none where it could not be read.
+fn replay(line: &str, functions: &[Function; 18]) -> Option<(usize, bool)> {
     let (call, results) = line.split_once(" = ")?;
     let (name, inputs) = call.split_once(' ')?;
-    let k = NAMES.iter().position(|n| *n == name)?;
+    let k = functions.iter().position(|f| f.name == name)?;
     let mut taken = [0; 4096];
     let mut given = [0; 640];
     let mut stored = Stored {
@@ -100,7 +101,7 @@ fn replay_lines(text: &str, tally: &mut Tally) {
         if line.starts_with('#') {
             continue;
         }
-        match replay(line) {
+        match replay(line, &tally.functions) {
             Some((k, differs)) => tally.count(k, differs),
             None => tally.miss(),
         }
@@ -119,20 +120,18 @@ fn replay_file(rt: &impl Files, path: &str, buffer: &mut [u8; FILE_BYTES], tally
 fn main(rt: HostRuntime) -> io::Result<()> {
     let mut buffer = [0; FILE_BYTES];
     let mut tally = Tally {
-        counts: [Count {
+        functions: NAMES.map(|name| Function {
+            name,
             replayed: 0,
             differ: 0,
-        }; 18],
+        }),
         unread: 0,
     };
     for path in FILES {
         replay_file(&rt, path, &mut buffer, &mut tally);
     }
-    for (name, count) in NAMES.iter().zip(tally.counts.iter()) {
-        println!(rt;
-            "{name}: {} replayed, {} differ",
-            count.replayed, count.differ
-        )?;
+    for f in tally.functions.iter() {
+        println!(rt; "{}: {} replayed, {} differ", f.name, f.replayed, f.differ)?;
     }
     println!(rt; "unread: {}", tally.unread)
 }

@@ -48,6 +48,7 @@ pub struct ModelState {
     pub stable: bool,
 }
 
+// Kept: `outcome` is the block's word 3, whose numbers mean something else in each task.
 #[derive(Clone, Copy)]
 pub struct AnswerBlock {
     pub outcome: u64,
@@ -60,6 +61,7 @@ pub struct AnswerBlock {
 // ---- the words of a block
 
 // 0 unassessed, 1 within, 2 extrapolated.
+// Kept: a function, as `phase_number`: `From` would have to stand in the type's own crate, where nothing else needs it.
 fn status_number(status: ValidityStatus) -> u64
     ensures { result ≡ status_number status }
 {
@@ -107,6 +109,7 @@ fn put_words(ws: &mut [u64; 64], from: usize, words: &[u64])
     ws[from..from + words.len()].copy_from_slice(words);
 }
 
+// Kept: a loop: `x.map(bits_of)` moves the eight into an iterator, and needs answers for its room, its calls and its items.
 #[tactic(auto, unfolding(floats::specs::Vector::fill_from))]
 fn put_floats(ws: &mut [u64; 64], from: usize, x: &[f64; 8])
     requires { from + 8 ≤ 64 }
@@ -161,6 +164,7 @@ pub fn answer_length(answer: &[u8]) -> usize
 // ---- a refusal's block
 
 // The numbers that are put before the task is known: their block has task 0.
+// Kept: a number, here and below: `write_refusal` is public, and takes 0 and 33 too.
 fn taskless(number: u64) -> bool
     ensures { result ≡ taskless number }
 {
@@ -201,6 +205,7 @@ pub fn write_refusal(rule: Rule, question: &[u8], number: u64, out: &mut [u8])
 // ---- the answer block of each task
 
 // Of a task that has none of the model's words but, in 6 and 7, whether the liquid is stable.
+// Kept: no derived Default of `ModelState`: it would ask for one of `ValidityStatus`, and this is its one place.
 fn plain_block(
     outcome: u64,
     state: State,
@@ -229,6 +234,7 @@ fn plain_block(
 }
 
 // Task 1.
+// Kept: the energies' five fields one by one: `ModelState` is public, and has them flat as the block has.
 pub fn excess_block(
     t: f64,
     e: Energies,

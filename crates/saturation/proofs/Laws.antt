@@ -1,17 +1,17 @@
 -- Terms that are stored in an array, and the ways through the steps of the code. Assumes nothing.
 use Prim.Native.Nat.{ℕ, suc, ◌+◌, ◌-◌, ◌<◌, ◌≤◌}
 use mathlib.Core.Path.{◌≡◌, ◌∙◌, refl, ap, sym}
-use mathlib.Core.Bool.{Bool, true, false, not, ◌&&◌, ◌||◌}
+use mathlib.Core.Bool.{Bool, true, false, not, ◌||◌}
 use mathlib.Core.List.{List}
 use native.Mathlib.Omega.{arith}
-use lib.Ieee.{Float, nan, le}
+use lib.Ieee.{Float, le}
 use Rattle.floats.specs.Arithmetic.{◌⊘◌, 0f, 1f}
 use Rattle.floats.specs.Small.{is_finite}
 use Rattle.floats.specs.Fold.{sum_to}
 use Rattle.floats.specs.Vector.{at, vec, zeros8, places}
 use Rattle.floats.specs.Outcome.{Out, ok, no, bind, need, choose}
 use Rattle.floats.proofs.Folds.{sum_cong}
-use Rattle.floats.proofs.Fills.{fill-at, fill_cong}
+use Rattle.floats.proofs.Fills.{vec-at, fill_cong}
 use Rattle.floats.proofs.Outcomes.{refused}
 use Rattle.thermo_types.specs.declared.ActivityOptions.{ActivityOptions}
 use Rattle.thermo_types.specs.Composition.{normalize_of}
@@ -19,28 +19,21 @@ use Rattle.thermo_types.proofs.Normalizing.{normalize_cong}
 use Rattle.thermo_models.specs.Model.{Activity}
 use Rattle.saturation.specs.Saturation.{Dew, partial_of, partial_sum, bubble_from, residual_with, dew_term, dew_pressure, dew_liquid, change_of, turned, incipient, dew_turn, dew_point, dew_loop, dew_at}
 use Rattle.saturation.specs.declared.DewTurn.{DewTurn}
-
-pub places_is : (n : ℕ) → n ≤ 8 → places n ≡ n
-places_is n h = omega arith
+use Rattle.saturation.proofs.Answers.{places_is}
 
 -- ---- terms stored in an array, summed and divided from there
 module _ (f : ℕ → Float) (n : ℕ) (h : n ≤ 8) {w : List Float} (e : w ≡ vec f n) where
   pub entry : (k : ℕ) → k < n → at w k ≡ f k
-  entry k l = ap (λ (m : List Float). at m k) e ∙ fill-at f n zeros8 nan k h l
+  entry k l = ap (λ (m : List Float). at m k) e ∙ vec-at f n k h l
 
-  pub stored-sum : {s : Float} → s ≡ sum_to (at w) (places n) → s ≡ sum_to f n
+  stored-sum : {s : Float} → s ≡ sum_to (at w) (places n) → s ≡ sum_to f n
   stored-sum q = q ∙ ap (sum_to (at w)) (places_is n h) ∙ sum_cong 0f n entry
 
-  pub stored-shares : (s : Float) {x : List Float} → x ≡ vec (λ i. at w i ⊘ s) (places n) → x ≡ vec (λ i. f i ⊘ s) n
+  stored-shares : (s : Float) {x : List Float} → x ≡ vec (λ i. at w i ⊘ s) (places n) → x ≡ vec (λ i. f i ⊘ s) n
   stored-shares s q = q ∙ rw (places_is n h) (fill_cong _ _ n zeros8 (λ k l. rw (entry k l)))
 
--- ---- outcomes: two tests with one number are one
+-- ---- outcomes: two tests with one number are one, the second denied
 module _ {A : Type 0} where
-  pub tests : (a b : Bool) (r : ℕ) (o : Out A) → need a r (need b r o) ≡ need (a && b) r o
-  unfolding need
-  tests true b r o = refl
-  tests false b r o = refl
-
   tests-not : (a b : Bool) (r : ℕ) (o : Out A) → need a r (need (not b) r o) ≡ need (not (not a || b)) r o
   unfolding need
   tests-not true b r o = refl

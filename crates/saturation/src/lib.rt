@@ -2,17 +2,17 @@
 // an ideal-gas vapor. Compositions and ln γ are arrays of eight, 0.0 past n; pressures in Pa, temperatures in K.
 #![tactic(auto)]
 
-ghost use Rattle.std.specs.Prelude.{◌≡◌, if◌then◌else◌, ◌≤◌};
-ghost use Rattle.std.specs.Float.Ieee.{lt};
-ghost use Rattle.floats.specs.Arithmetic.{◌⊕◌, ◌⊖◌, ◌⊗◌, ◌⊘◌, 0f};
+ghost use Rattle.std.specs.Prelude.{◌≡◌, ℕ, Float};
+ghost use Rattle.floats.specs.Arithmetic.{◌⊕◌, ◌⊖◌};
 ghost use Rattle.floats.specs.Small.{abs_of};
-ghost use Rattle.floats.specs.Vector.{vec, places};
+ghost use Rattle.floats.specs.Vector.{at, vec, places};
 ghost use Rattle.floats.specs.Outcome.{ok, bind};
 ghost use Rattle.outcome.specs.Refused.{outcome_of};
-ghost use Rattle.numerics.specs.Numerics.{ln_of};
+ghost use Rattle.numerics.specs.Numerics.{exp_of, ln_of};
 ghost use Rattle.thermo_models.specs.Activity.{activity_on};
-ghost use Rattle.saturation.specs.Saturation.{partial_of, bubble_from, gap_of, residual_with, dew_term, incipient, change_of, turned, dew_turn, dew_point, dew_at, bubble_task, dew_task};
+ghost use Rattle.saturation.specs.Saturation.{bubble_from, gap_of, residual_with, incipient, change_of, turned, dew_turn, dew_point, dew_at, bubble_task, dew_task};
 
+use floats::Count;
 use outcome::Refusal;
 use thermo_models::{ActivityCoefficients, Tabled};
 use thermo_types::ActivityOptions;
@@ -60,25 +60,59 @@ pub struct ActivitySaturation {
     pub iterations: u64,
 }
 
-// ---- bubble point: p = Σ x_i γ_i p_i^sat, y_i = x_i γ_i p_i^sat / p
+// ---- modified Raoult
 
-fn partial(x: f64, gamma: f64, ps: f64) -> f64
-    ensures { result ≡ (if lt 0f x then x ⊗ gamma ⊗ ps else 0f) }
+// |ln(y_i p) - ln(x_i γ_i p_i^sat)| of one solvent; lg is its ln γ, ln_p is ln p.
+pub fn gap(lg: f64, ps: f64, ln_p: f64, x: f64, y: f64) -> f64
+    ensures { result ≡ abs_of (ln_of y ⊕ ln_p ⊖ ln_of x ⊖ lg ⊖ ln_of ps) }
 {
-    if x > 0.0 { x * gamma * ps } else { 0.0 }
+    floats::abs(numerics::ln(y) + ln_p - numerics::ln(x) - lg - numerics::ln(ps))
 }
 
-fn partials(x: &[f64; 8], lg: &[f64; 8], ps: &[f64; 8], n: usize) -> [f64; 8]
-    requires { n ≤ 8 }
-    ensures { result ≡ vec (partial_of x.now lg.now ps.now) n }
-{
-    let gamma = numerics::exps(lg, n);
-    let mut w = [0.0; 8];
-    for i in 0..n {
-        w[i] = partial(x[i], gamma[i], ps[i]);
+// What modified Raoult has of a liquid: ln γ and the vapor pressures of its solvents.
+#[derive(Clone, Copy)]
+struct Raoult<'a> {
+    lg: &'a [f64; 8],
+    ps: &'a [f64; 8],
+    m: Count,
+}
+
+impl Raoult<'_> {
+    // f of each solvent's fraction, γ and vapor pressure; 0.0 past the solvents.
+    // Kept: a loop to the count, for `array::from_fn` works out all eight.
+    #[tactic(auto, unfolding(floats::specs::Vector::fill))]
+    fn terms<F: Fn(f64, f64, f64) -> f64>(self, z: &[f64; 8], f: F) -> [f64; 8]
+        requires { F.IsAlwaysCallable f }
+        ensures { (t : ℕ → Float)
+            → ((k : ℕ) (r : Float) → F.post f (at z.now k) (exp_of (at self.entry.lg.now k)) (at self.entry.ps.now k) r → r ≡ t k)
+            → result ≡ vec t self.entry.m.n }
+    {
+        let gamma = numerics::exps(self.lg, self.m.n);
+        let mut w = [0.0; 8];
+        for i in 0..self.m.n {
+            w[i] = f(z[i], gamma[i], self.ps[i]);
+        }
+        w
     }
-    w
+
+    // The largest gap of a solvent that is present in both phases.
+    // Kept: a loop, here and in largest_change: a fold's closure gives `r` back in an `else`, and is no plainer.
+    #[tactic(auto, unfolding(crate::specs::Saturation::gap_of, floats::specs::Fold::fold_to))]
+    fn largest_gap(self, p: f64, x: &[f64; 8], y: &[f64; 8]) -> f64
+        ensures { let l = self.entry in result ≡ gap_of l.lg.now l.ps.now p x.now y.now l.m.n }
+    {
+        let ln_p = numerics::ln(p);
+        let mut r = 0.0;
+        for i in 0..self.m.n {
+            if (x[i] > 0.0) & (y[i] > 0.0) {
+                r = floats::max(r, gap(self.lg[i], self.ps[i], ln_p, x[i], y[i]));
+            }
+        }
+        r
+    }
 }
+
+// ---- bubble point: p = Σ x_i γ_i p_i^sat, y_i = x_i γ_i p_i^sat / p
 
 // The bubble point of x from its ln γ: 25 where the pressure isn't finite and positive.
 pub fn bubble_from(
@@ -89,41 +123,21 @@ pub fn bubble_from(
 ) -> Result<BubblePoint, Refusal>
     ensures { outcome_of result ≡ bubble_from x.now lg.now ps.now (places n) }
 {
-    let m = floats::places(n);
-    let w = partials(x, lg, ps, m);
-    let p = thermo_types::sum(&w, m);
+    let m = Count::of(n);
+    let raoult = Raoult { lg, ps, m };
+    let w = raoult.terms(x, |x, gamma, ps| if x > 0.0 { x * gamma * ps } else { 0.0 });
+    let p = thermo_types::sum(&w, m.n);
     if !floats::is_finite(p) | (p <= 0.0) {
         return Err(Refusal::ResultNotFinite);
     }
-    let vapor = thermo_types::divided(&w, p, m);
+    let vapor = thermo_types::divided(&w, p, m.n);
     Ok(BubblePoint { pressure: p, vapor })
 }
 
 // ---- residual of ln fugacities
 
-// |ln(y_i p) - ln(x_i γ_i p_i^sat)| of one solvent; ln_p is ln p.
-fn gap(lg: f64, ps: f64, ln_p: f64, x: f64, y: f64) -> f64
-    ensures { result ≡ abs_of (ln_of y ⊕ ln_p ⊖ ln_of x ⊖ lg ⊖ ln_of ps) }
-{
-    floats::abs(numerics::ln(y) + ln_p - numerics::ln(x) - lg - numerics::ln(ps))
-}
-
-// The largest gap of a solvent that is present in both phases.
-fn largest_gap(lg: &[f64; 8], ps: &[f64; 8], p: f64, x: &[f64; 8], y: &[f64; 8], n: usize) -> f64
-    requires { n ≤ 8 }
-    ensures { result ≡ gap_of lg.now ps.now p x.now y.now n }
-{
-    let ln_p = numerics::ln(p);
-    let mut r = 0.0;
-    for i in 0..n {
-        if (x[i] > 0.0) & (y[i] > 0.0) {
-            r = floats::max(r, gap(lg[i], ps[i], ln_p, x[i], y[i]));
-        }
-    }
-    r
-}
-
 // max_i |ln(y_i p) - ln(x_i γ_i p_i^sat)| over solvents present in both phases: 25 where it isn't finite.
+#[tactic(auto, unfolding(crate::specs::Saturation::residual_with, floats::specs::Outcome::need))]
 pub fn residual_with(
     lg: &[f64; 8],
     ps: &[f64; 8],
@@ -134,7 +148,8 @@ pub fn residual_with(
 ) -> Result<f64, Refusal>
     ensures { outcome_of result ≡ residual_with lg.now ps.now p x.now y.now (places n) }
 {
-    let r = largest_gap(lg, ps, p, x, y, floats::places(n));
+    let m = Count::of(n);
+    let r = Raoult { lg, ps, m }.largest_gap(p, x, y);
     if !floats::is_finite(r) {
         return Err(Refusal::ResultNotFinite);
     }
@@ -143,122 +158,105 @@ pub fn residual_with(
 
 // ---- dew point: p = 1 / Σ y_i / (γ_i p_i^sat), by successive substitution on ln γ of the incipient liquid
 
-fn dew_term(y: f64, ps: f64, gamma: f64) -> f64
-    ensures { result ≡ (if lt 0f y then y ⊘ (gamma ⊗ ps) else 0f) }
-{
-    if y > 0.0 { y / (gamma * ps) } else { 0.0 }
+// A vapor y whose dew point is sought, with the tables and the vapor pressures of a temperature.
+#[derive(Clone, Copy)]
+struct Vapor<'a> {
+    table: &'a [f64; 512],
+    tabled: Tabled,
+    y: &'a [f64; 8],
+    ps: &'a [f64; 8],
+    m: Count,
 }
 
-fn dew_terms(y: &[f64; 8], ps: &[f64; 8], lg: &[f64; 8], n: usize) -> [f64; 8]
-    requires { n ≤ 8 }
-    ensures { result ≡ vec (dew_term y.now ps.now lg.now) n }
-{
-    let gamma = numerics::exps(lg, n);
-    let mut w = [0.0; 8];
-    for i in 0..n {
-        w[i] = dew_term(y[i], ps[i], gamma[i]);
+impl Vapor<'_> {
+    // What ln γ gives: 34, then what `activity` refuses at the incipient liquid.
+    // Kept: zeros that `activity` fills, for it is public and writes to its caller's arrays.
+    fn incipient(self, lg: &[f64; 8]) -> Result<IncipientLiquid, Refusal>
+        ensures { let v = self.entry in outcome_of result ≡ incipient (activity_on v.table.now v.tabled) v.ps.now v.m.n v.y.now lg.now }
+    {
+        let Vapor { y, ps, m, .. } = self;
+        let raoult = Raoult { lg, ps, m };
+        let w = raoult.terms(
+            y,
+            |y, gamma, ps| if y > 0.0 { y / (gamma * ps) } else { 0.0 },
+        );
+        let pressure = 1.0 / thermo_types::sum(&w, m.n);
+        let liquid = thermo_types::normalize(&w, m.n)?;
+        let mut activity = ActivityCoefficients {
+            ln_gamma: [0.0; 8],
+            slopes: [0.0; 8],
+        };
+        thermo_models::activity(
+            self.table,
+            self.tabled,
+            &liquid,
+            &mut activity.ln_gamma,
+            &mut activity.slopes,
+        )?;
+        Ok(IncipientLiquid {
+            pressure,
+            liquid,
+            activity,
+        })
     }
-    w
-}
 
-// What ln γ gives: 34, then what `activity` refuses at the incipient liquid.
-fn incipient(
-    table: &[f64; 512],
-    s: Tabled,
-    n: usize,
-    y: &[f64; 8],
-    ps: &[f64; 8],
-    lg: &[f64; 8],
-) -> Result<IncipientLiquid, Refusal>
-    requires { n ≤ 8 }
-    ensures { outcome_of result ≡ incipient (activity_on table.now s) ps.now n y.now lg.now }
-{
-    let w = dew_terms(y, ps, lg, n);
-    let pressure = 1.0 / thermo_types::sum(&w, n);
-    let liquid = thermo_types::normalize(&w, n)?;
-    let mut activity = ActivityCoefficients {
-        ln_gamma: [0.0; 8],
-        slopes: [0.0; 8],
-    };
-    thermo_models::activity(
-        table,
-        s,
-        &liquid,
-        &mut activity.ln_gamma,
-        &mut activity.slopes,
-    )?;
-    Ok(IncipientLiquid {
-        pressure,
-        liquid,
-        activity,
-    })
-}
-
-// The largest change of ln γ of a solvent that is present.
-fn largest_change(y: &[f64; 8], new: &[f64; 8], old: &[f64; 8], n: usize) -> f64
-    requires { n ≤ 8 }
-    ensures { result ≡ change_of y.now new.now old.now n }
-{
-    let mut r = 0.0;
-    for i in 0..n {
-        if y[i] > 0.0 {
-            r = floats::max(r, floats::abs(new[i] - old[i]));
+    // The largest change of ln γ of a solvent that is present.
+    #[tactic(auto, unfolding(crate::specs::Saturation::change_of, floats::specs::Fold::fold_to))]
+    fn largest_change(self, new: &[f64; 8], old: &[f64; 8]) -> f64
+        ensures { result ≡ change_of self.entry.y.now new.now old.now self.entry.m.n }
+    {
+        let mut r = 0.0;
+        for i in 0..self.m.n {
+            if self.y[i] > 0.0 {
+                r = floats::max(r, floats::abs(new[i] - old[i]));
+            }
         }
+        r
     }
-    r
-}
 
-// A turn from ln γ: 25 where change or pressure isn't finite.
-fn dew_turn(
-    table: &[f64; 512],
-    s: Tabled,
-    n: usize,
-    y: &[f64; 8],
-    ps: &[f64; 8],
-    lg: &[f64; 8],
-) -> Result<DewTurn, Refusal>
-    requires { n ≤ 8 }
-    ensures { outcome_of result ≡ bind (dew_turn (activity_on table.now s) ps.now n y.now lg.now) (λ a. ok (turned y.now lg.now n a)) }
-{
-    let IncipientLiquid {
-        pressure,
-        activity,
-        ..
-    } = incipient(table, s, n, y, ps, lg)?;
-    let ln_gamma = activity.ln_gamma;
-    let change = largest_change(y, &ln_gamma, lg, n);
-    if !(floats::is_finite(change) & floats::is_finite(pressure)) {
-        return Err(Refusal::ResultNotFinite);
+    // A turn from ln γ: 25 where change or pressure isn't finite.
+    fn turn(self, lg: &[f64; 8]) -> Result<DewTurn, Refusal>
+        ensures { let v = self.entry in
+            outcome_of result ≡ bind (dew_turn (activity_on v.table.now v.tabled) v.ps.now v.m.n v.y.now lg.now) (λ a. ok (turned v.y.now lg.now v.m.n a)) }
+    {
+        let IncipientLiquid {
+            pressure,
+            activity,
+            ..
+        } = self.incipient(lg)?;
+        let ln_gamma = activity.ln_gamma;
+        let change = self.largest_change(&ln_gamma, lg);
+        if !(floats::is_finite(change) & floats::is_finite(pressure)) {
+            return Err(Refusal::ResultNotFinite);
+        }
+        Ok(DewTurn { change, ln_gamma })
     }
-    Ok(DewTurn { change, ln_gamma })
-}
 
-// The dew point of converged ln γ.
-fn dew_point(
-    table: &[f64; 512],
-    s: Tabled,
-    n: usize,
-    y: &[f64; 8],
-    ps: &[f64; 8],
-    lg: &[f64; 8],
-    iterations: u64,
-) -> Result<DewPoint, Refusal>
-    requires { n ≤ 8 }
-    ensures { outcome_of result ≡ dew_point (activity_on table.now s) ps.now n y.now lg.now iterations }
-{
-    let IncipientLiquid {
-        pressure,
-        liquid,
-        activity,
-    } = incipient(table, s, n, y, ps, lg)?;
-    let residual = residual_with(&activity.ln_gamma, ps, pressure, &liquid, y, n)?;
-    Ok(DewPoint {
-        pressure,
-        liquid,
-        activity,
-        iterations,
-        residual,
-    })
+    // The dew point of converged ln γ.
+    fn point(self, lg: &[f64; 8], iterations: u64) -> Result<DewPoint, Refusal>
+        ensures { let v = self.entry in outcome_of result ≡ dew_point (activity_on v.table.now v.tabled) v.ps.now v.m.n v.y.now lg.now iterations }
+    {
+        let IncipientLiquid {
+            pressure,
+            liquid,
+            activity,
+        } = self.incipient(lg)?;
+        let residual = residual_with(
+            &activity.ln_gamma,
+            self.ps,
+            pressure,
+            &liquid,
+            self.y,
+            self.m.n,
+        )?;
+        Ok(DewPoint {
+            pressure,
+            liquid,
+            activity,
+            iterations,
+            residual,
+        })
+    }
 }
 
 // The dew point of y, by turns from ln γ = 0 until the change is within the tolerance: 34, what `activity` refuses, 25, and
@@ -272,13 +270,19 @@ pub fn dew_at(
 ) -> Result<DewPoint, Refusal>
     ensures { outcome_of result ≡ dew_at (activity_on table.now s) ps.now (places s.n) o y.now }
 {
-    let n = floats::places(s.n);
+    let vapor = Vapor {
+        table,
+        tabled: s,
+        y,
+        ps,
+        m: Count::of(s.n),
+    };
     let mut lg = [0.0; 8];
     for done in 0..o.max_iterations {
-        let turn = dew_turn(table, s, n, y, ps, &lg)?;
+        let turn = vapor.turn(&lg)?;
         lg = turn.ln_gamma;
         if turn.change <= o.tolerance {
-            return dew_point(table, s, n, y, ps, &lg, done + 1);
+            return vapor.point(&lg, done + 1);
         }
     }
     Err(Refusal::NotConverged)
@@ -315,6 +319,7 @@ pub fn activity_bubble_pressure(
 }
 
 // Dew pressure of the feed y, from the same: 34, what `activity` refuses at an incipient liquid, 25, 27, 23.
+#[tactic(auto, unfolding(crate::specs::Saturation::dew_task, floats::specs::Outcome::bind, floats::specs::Outcome::need))]
 pub fn activity_dew_pressure(
     table: &[f64; 512],
     s: Tabled,
@@ -324,22 +329,18 @@ pub fn activity_dew_pressure(
 ) -> Result<ActivitySaturation, Refusal>
     ensures { outcome_of result ≡ dew_task (activity_on table.now s) ps.now (places s.n) o s.t.0 y.now }
 {
-    let DewPoint {
-        pressure,
-        liquid,
-        iterations,
-        residual,
-        ..
-    } = dew_at(table, s, y, ps, o)?;
-    if !thermo_models::check_pressure(pressure) {
+    let d = dew_at(table, s, y, ps, o)?;
+    if !thermo_models::check_pressure(d.pressure) {
         return Err(Refusal::PressureOutside);
     }
+    // Kept: a variable, for the borrow checker doesn't cover an array field that is stored straight.
+    let liquid = d.liquid;
     Ok(ActivitySaturation {
         temperature: s.t.value(),
-        pressure,
+        pressure: d.pressure,
         liquid,
         vapor: *y,
-        residual,
-        iterations,
+        residual: d.residual,
+        iterations: d.iterations,
     })
 }

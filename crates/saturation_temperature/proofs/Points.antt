@@ -1,5 +1,5 @@
 -- f at a temperature, and the answer at the temperature found, put together. Assumes nothing.
-use Rattle.std.proofs.Common.{◌≡◌, ℕ, List, Ok, Err, replicate, sym, refl, ap, ◌∙◌}
+use Rattle.std.proofs.Common.{◌≡◌, ◌≤◌, ℕ, List, Ok, Err, replicate, sym, refl, ap, ◌∙◌}
 use lib.Ieee.{Float}
 use Rattle.floats.specs.Arithmetic.{0f}
 use Rattle.floats.specs.Vector.{places}
@@ -11,11 +11,12 @@ use Rattle.thermo_types.specs.declared.ActivityOptions.{ActivityOptions}
 use Rattle.thermo_types.specs.declared.Temperature.{Temperature}
 use Rattle.thermo_types.specs.Quantities.{positive_of, kelvin}
 use Rattle.thermo_models.specs.declared.Tabled.{Tabled}
-use Rattle.thermo_models.specs.Model.{Activities, Liquids, ActivityIs}
+use Rattle.thermo_models.specs.Model.{Activities, Liquids, ActivityIs, PuresAre}
 use Rattle.thermo_models.specs.Activity.{activity_on, activity_of, Stands}
-use Rattle.thermo_models.proofs.Answers.{activity-passed, activity-refused, stands_fresh}
+use Rattle.thermo_models.proofs.Answers.{activity-passed, activity-refused, pures_passed, pures_refused, stands_fresh}
+use Rattle.thermo_models.specs.Domain.{pure_liquids_of}
 use Rattle.saturation.specs.Saturation.{Dew, Saturation, dew_at}
-use Rattle.saturation.proofs.Answers.{stands-places}
+use Rattle.saturation.proofs.Answers.{places_is, stands-places}
 use Rattle.saturation_temperature.specs.Search.{Point, Root, solve_temperature}
 use Rattle.saturation_temperature.specs.Boiling.{bubble_point_from, dew_point_from, bubble_saturation, dew_saturation, bubble_point_at, bubble_point, bubble_found, dew_point_at, dew_point, dew_found}
 use Rattle.saturation_temperature.specs.Answers.{activity_from, pures_from, first_of, bubble_tried, dew_tried}
@@ -41,18 +42,26 @@ positive_is {t} {T} r e =
     sym (got (need_inv _ r _ (need_inv _ r _ e).1).1)
 
 -- ---- the activity and the dew point on the table w of the parameters P are those of the book; s is what the table stands for
-module _ (book : List ℕ) (P : List Float) (n : ℕ) (z : List Float) (T : Temperature) {s : Tabled} {w : List Float}
+module _ (book : List ℕ) (P : List Float) (n : ℕ) (few : n ≤ 8) (z : List Float) (T : Temperature) {s : Tabled} {w : List Float}
     (h : Stands book P (places n) T s (replicate 512 0f) w) where
   module _ {lg sl : List Float} where
-    pub feed-is : ActivityIs (activity_on w s z) (Ok tt) lg sl → activity_of book P (places n) T.0 z ≡ ok (activity_from lg sl)
-    feed-is a = activity-passed _ (rw (stands_fresh h) at a)
+    pub feed-is : ActivityIs (activity_on w s z) (Ok tt) lg sl → activity_of book P n T.0 z ≡ ok (activity_from lg sl)
+    feed-is a = activity-passed _ (rw (stands_fresh h, places_is n few) at a)
 
-    pub feed-no : {r : Refusal} → ActivityIs (activity_on w s z) (Err r) lg sl → activity_of book P (places n) T.0 z ≡ no (number r)
-    feed-no a = activity-refused _ (rw (stands_fresh h) at a)
+    pub feed-no : {r : Refusal} → ActivityIs (activity_on w s z) (Err r) lg sl → activity_of book P n T.0 z ≡ no (number r)
+    feed-no a = activity-refused _ (rw (stands_fresh h, places_is n few) at a)
 
   pub dew-is : (o : ActivityOptions) (ps : List Float) {d : Out Dew} → d ≡ dew_at (activity_on w s) ps (places s.n) o z
-      → dew_at (activity_of book P (places n) T.0) ps (places n) o z ≡ d
-  dew-is o ps e = sym (rw (stands_fresh h, stands-places n h) at e)
+      → dew_at (activity_of book P n T.0) ps n o z ≡ d
+  dew-is o ps e = sym (rw (stands_fresh h, stands-places n h, places_is n few) at e)
+
+-- ---- the pure liquids of the book
+module _ (book : List ℕ) (T : Temperature) (n : ℕ) (few : n ≤ 8) {ps dps : List Float} where
+  pub pures-is : PuresAre (pure_liquids_of book (places n) T.0) (Ok tt) ps dps → pure_liquids_of book n T.0 ≡ ok (pures_from ps dps)
+  pures-is a = pures_passed _ (rw (places_is n few) at a)
+
+  pub pures-no : {r : Refusal} → PuresAre (pure_liquids_of book (places n) T.0) (Err r) ps dps → pure_liquids_of book n T.0 ≡ no (number r)
+  pures-no a = pures_refused _ (rw (places_is n few) at a)
 
 -- ---- steps whose answer is a pair: the first part alone, and what was met on the way
 first-bind : {A B C : Type 0} (o : Out A) (k : A → Out (B × C)) → first_of (bind o k) ≡ bind o (λ x. first_of (k x))
@@ -80,7 +89,7 @@ module _ (E : Activities) (L : Liquids) (n : ℕ) (p : Float) (z : List Float) w
   dew-first o t e = rw e (simp first-bind)
 
   -- what was met on the way to f at t
-  pub bubble-met : {v : Point} {lg ps : List Float} (t : Float) → ok (v, (lg, ps)) ≡ bubble_tried E L n p z t
+  bubble-met : {v : Point} {lg ps : List Float} (t : Float) → ok (v, (lg, ps)) ≡ bubble_tried E L n p z t
       → (sl dps : List Float) × (positive_of t 13 ≡ ok t) × (E t z ≡ ok (activity_from lg sl)) × (L t ≡ ok (pures_from ps dps))
   unfolding bubble_tried
   bubble-met t e =
@@ -93,7 +102,7 @@ module _ (E : Activities) (L : Liquids) (n : ℕ) (p : Float) (z : List Float) w
         ap L (sym T) ∙ m.5 ∙ ap (λ (x : List Float × List Float). ok (pures_from x.1 m.2.slope)) m.6,
       )
 
-  pub dew-met : (o : ActivityOptions) {v : Point} {d : Dew} {ps : List Float} (t : Float) → ok (v, (d, ps)) ≡ dew_tried E L n o p z t
+  dew-met : (o : ActivityOptions) {v : Point} {d : Dew} {ps : List Float} (t : Float) → ok (v, (d, ps)) ≡ dew_tried E L n o p z t
       → (dps : List Float) × (positive_of t 13 ≡ ok t) × (L t ≡ ok (pures_from ps dps)) × (dew_at (E t) ps n o z ≡ ok d)
   unfolding dew_tried
   dew-met o {ps = ps} t e =

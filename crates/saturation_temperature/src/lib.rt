@@ -1,7 +1,7 @@
 // Bubble and dew temperatures at a pressure (activity.rs): ln p_sat(T) = ln p, by Newton steps kept inside a bracket.
 #![tactic(auto)]
 
-ghost use Rattle.std.specs.Prelude.{◌≡◌, ◌≤◌, List, Float, Ok, IfOk};
+ghost use Rattle.std.specs.Prelude.{◌≡◌, List, Float, Ok, IfOk};
 ghost use Rattle.floats.specs.Arithmetic.{◌⊕◌, ◌⊗◌, 0f};
 ghost use Rattle.floats.specs.Fold.{fold_to, active};
 ghost use Rattle.floats.specs.Vector.{at, places};
@@ -16,6 +16,7 @@ ghost use Rattle.saturation_temperature.specs.Search.{Point, middle, step_of, co
 ghost use Rattle.saturation_temperature.specs.Boiling.{bubble_saturation, dew_saturation, bubble_temperature, dew_temperature};
 ghost use Rattle.saturation_temperature.specs.Answers.{activity_from, Weighed, first_in, Evaluates, bubble_tried, dew_tried};
 
+use floats::Count;
 use outcome::Refusal;
 use saturation::{ActivitySaturation, BubblePoint, DewPoint};
 use thermo_types::{ActivityOptions, Pressure, Temperature};
@@ -44,6 +45,7 @@ struct Bracket {
 
 // ---- the search, for any f
 
+// Kept: `rachford_rice` has the same line; shared it would be a public function with contract and edits in their place.
 fn middle(lo: f64, hi: f64) -> f64
     ensures { result ≡ middle lo hi }
 {
@@ -51,6 +53,7 @@ fn middle(lo: f64, hi: f64) -> f64
 }
 
 // The Newton step where f rises and the step stays inside the bracket, else the middle.
+#[tactic(auto, unfolding(crate::specs::Search::step_of))]
 fn step(f: Point, b: Bracket) -> Bracket
     ensures { result ≡ step_of f b }
 {
@@ -68,6 +71,7 @@ fn step(f: Point, b: Bracket) -> Bracket
     Bracket { lo, hi, next }
 }
 
+#[tactic(auto, unfolding(crate::specs::Search::collapsed))]
 fn collapsed(b: Bracket, t: f64) -> bool
     ensures { result ≡ collapsed b t }
 {
@@ -134,86 +138,89 @@ fn solve_temperature<S: Copy, F: Fn(f64) -> Result<(Point, S), Refusal>>(
     Err(Refusal::NotConverged)
 }
 
+// ---- the feed
+
+// A feed z at a pressure p, Pa, with the book and the parameters of its solvents.
+#[derive(Clone, Copy)]
+struct Feed<'a> {
+    book: &'a [u8],
+    parameters: &'a [f64; 384],
+    m: Count,
+    p: f64,
+    z: &'a [f64; 8],
+}
+
 // ---- bubble temperature
 
-// Σ w_i, Pa, and Σ w_i (∂ ln γ_i/∂T + d ln p_i^sat/dT), Pa/K, where w = x γ p_sat of each solvent present.
-fn weigh(
-    x: &[f64; 8],
-    lg: &[f64; 8],
-    sl: &[f64; 8],
-    ps: &[f64; 8],
-    dps: &[f64; 8],
-    n: usize,
-) -> (f64, f64)
-    requires { n ≤ 8 }
-    ensures { Weighed x.now lg.now sl.now ps.now dps.now n result.0 result.1 }
-{
-    let gamma = numerics::exps(lg, n);
-    let mut sum = 0.0;
-    let mut slope = 0.0;
-    for i in 0..n {
-        if 0.0 < x[i] {
-            let w = x[i] * gamma[i] * ps[i];
-            sum += w;
-            slope += w * (sl[i] + dps[i]);
+impl Feed<'_> {
+    // Σ w_i, Pa, and Σ w_i (∂ ln γ_i/∂T + d ln p_i^sat/dT), Pa/K, where w = x γ p_sat of each solvent present.
+    // Kept: a loop, here and in dew_slope: a fold's closure gives the sums back in an `else`, and is no plainer.
+    #[tactic(auto, unfolding(crate::specs::Boiling::weight_sum, crate::specs::Boiling::weight_slope, floats::specs::Fold::fold_to))]
+    fn weigh(self, lg: &[f64; 8], sl: &[f64; 8], ps: &[f64; 8], dps: &[f64; 8]) -> (f64, f64)
+        ensures { Weighed self.entry.z.now lg.now sl.now ps.now dps.now self.entry.m.n result.0 result.1 }
+    {
+        let x = self.z;
+        let gamma = numerics::exps(lg, self.m.n);
+        let mut sum = 0.0;
+        let mut slope = 0.0;
+        for i in 0..self.m.n {
+            if 0.0 < x[i] {
+                let w = x[i] * gamma[i] * ps[i];
+                sum += w;
+                slope += w * (sl[i] + dps[i]);
+            }
         }
+        (sum, slope)
     }
-    (sum, slope)
-}
 
-// f(T) = ln Σ w_i - ln p, beside ln γ of the feed and the vapor pressures: 13, the activity of the feed (24, 25), then the
-// pure liquids (22, 25).
-fn try_bubble(
-    book: &[u8],
-    parameters: &[f64; 384],
-    n: usize,
-    p: f64,
-    x: &[f64; 8],
-    t: f64,
-) -> Result<(Point, ([f64; 8], [f64; 8])), Refusal>
-    ensures { outcome_of result ≡ bubble_tried (activity_of book.now parameters.now (places n)) (pure_liquids_of book.now (places n)) (places n) p x.now t }
-{
-    let kelvin = Temperature::new(t)?;
-    let mut table = [0.0; 512];
-    let s = thermo_models::tables(book, parameters, n, kelvin, &mut table);
-    let mut lg = [0.0; 8];
-    let mut sl = [0.0; 8];
-    thermo_models::activity(&table, s, x, &mut lg, &mut sl)?;
-    let mut ps = [0.0; 8];
-    let mut dps = [0.0; 8];
-    thermo_models::pure_liquids(book, n, kelvin, &mut ps, &mut dps)?;
-    let (sum, slope) = weigh(x, &lg, &sl, &ps, &dps, floats::places(n));
-    let point = Point {
-        value: numerics::ln(sum) - numerics::ln(p),
-        slope: slope / sum,
-    };
-    Ok((point, (lg, ps)))
-}
+    // f(T) = ln Σ w_i - ln p, beside ln γ of the feed and the vapor pressures: 13, the activity of the feed (24, 25), then the
+    // pure liquids (22, 25).
+    fn try_bubble(self, t: f64) -> Result<(Point, ([f64; 8], [f64; 8])), Refusal>
+        ensures { let f = self.entry in outcome_of result ≡ bubble_tried (activity_of f.book.now f.parameters.now f.m.n) (pure_liquids_of f.book.now f.m.n) f.m.n f.p f.z.now t }
+    {
+        let kelvin = Temperature::new(t)?;
+        let mut table = [0.0; 512];
+        let s = thermo_models::tables(self.book, self.parameters, self.m.n, kelvin, &mut table);
+        let mut lg = [0.0; 8];
+        let mut sl = [0.0; 8];
+        thermo_models::activity(&table, s, self.z, &mut lg, &mut sl)?;
+        let mut ps = [0.0; 8];
+        let mut dps = [0.0; 8];
+        thermo_models::pure_liquids(self.book, self.m.n, kelvin, &mut ps, &mut dps)?;
+        let (sum, slope) = self.weigh(&lg, &sl, &ps, &dps);
+        let point = Point {
+            value: numerics::ln(sum) - numerics::ln(self.p),
+            slope: slope / sum,
+        };
+        Ok((point, (lg, ps)))
+    }
 
-// The answer at a root, from ln γ of the feed and the vapor pressures there: the bubble point, and its residual at the given pressure.
-fn bubble_with(
-    x: &[f64; 8],
-    lg: &[f64; 8],
-    ps: &[f64; 8],
-    n: usize,
-    p: f64,
-    root: Root,
-) -> Result<ActivitySaturation, Refusal>
-    ensures { (E : List Float → Out Activity) (sl : List Float) → E x.now ≡ ok (activity_from lg.now sl) → outcome_of result ≡ bubble_saturation E ps.now (places n) p x.now root.iterations root.temperature }
-{
-    let BubblePoint { pressure, vapor } = saturation::bubble_from(x, lg, ps, n)?;
-    let gap = saturation::residual_with(lg, ps, p, x, &vapor, n)?;
-    Ok(ActivitySaturation {
-        temperature: root.temperature,
-        pressure: p,
-        liquid: *x,
-        vapor,
-        residual: floats::max(gap, floats::abs(numerics::ln(pressure / p))),
-        iterations: root.iterations,
-    })
+    // The answer at a root, from ln γ of the feed and the vapor pressures there: the bubble point, and its residual at the given pressure.
+    #[tactic(auto, unfolding(saturation::specs::Saturation::bubble_at, saturation::specs::Saturation::residual, crate::specs::Boiling::bubble_saturation, floats::specs::Outcome::bind))]
+    fn bubble_with(
+        self,
+        lg: &[f64; 8],
+        ps: &[f64; 8],
+        root: Root,
+    ) -> Result<ActivitySaturation, Refusal>
+        ensures { let f = self.entry in
+            (E : List Float → Out Activity) (sl : List Float) → E f.z.now ≡ ok (activity_from lg.now sl) → outcome_of result ≡ bubble_saturation E ps.now f.m.n f.p f.z.now root.iterations root.temperature }
+    {
+        let BubblePoint { pressure, vapor } = saturation::bubble_from(self.z, lg, ps, self.m.n)?;
+        let gap = saturation::residual_with(lg, ps, self.p, self.z, &vapor, self.m.n)?;
+        Ok(ActivitySaturation {
+            temperature: root.temperature,
+            pressure: self.p,
+            liquid: *self.z,
+            vapor,
+            residual: floats::max(gap, floats::abs(numerics::ln(pressure / self.p))),
+            iterations: root.iterations,
+        })
+    }
 }
 
 // Bubble temperature at p: ln Σ x_i γ_i p_i^sat = ln p on the bracket of the options. 23, then what the search refuses.
+#[tactic(auto, unfolding(crate::specs::Boiling::bubble_temperature, crate::specs::Boiling::saturation_temperature, floats::specs::Outcome::need))]
 pub fn activity_bubble_temperature(
     book: &[u8],
     parameters: &[f64; 384],
@@ -228,76 +235,75 @@ pub fn activity_bubble_temperature(
     if !thermo_models::check_pressure(p) {
         return Err(Refusal::PressureOutside);
     }
-    let (root, (lg, ps)) = solve_temperature(|t| try_bubble(book, parameters, n, p, x, t), o)?;
-    bubble_with(x, &lg, &ps, n, p, root)
+    let feed = Feed {
+        book,
+        parameters,
+        m: Count::of(n),
+        p,
+        z: x,
+    };
+    let (root, (lg, ps)) = solve_temperature(|t| feed.try_bubble(t), o)?;
+    feed.bubble_with(&lg, &ps, root)
 }
 
 // ---- dew temperature
 
-// Σ x_i (∂ ln γ_i/∂T + d ln p_i^sat/dT) over the incipient liquid of the solvents in the vapor, 1/K.
-fn dew_slope(y: &[f64; 8], liquid: &[f64; 8], sl: &[f64; 8], dps: &[f64; 8], n: usize) -> f64
-    requires { n ≤ 8 }
-    ensures { result ≡ fold_to (active (at y.now) (λ i s. s ⊕ at liquid.now i ⊗ (at sl.now i ⊕ at dps.now i))) 0f n }
-{
-    let mut s = 0.0;
-    for i in 0..n {
-        if 0.0 < y[i] {
-            s += liquid[i] * (sl[i] + dps[i]);
+impl Feed<'_> {
+    // Σ x_i (∂ ln γ_i/∂T + d ln p_i^sat/dT) over the incipient liquid of the solvents in the vapor, 1/K.
+    #[tactic(auto, unfolding(floats::specs::Fold::fold_to))]
+    fn dew_slope(self, liquid: &[f64; 8], sl: &[f64; 8], dps: &[f64; 8]) -> f64
+        ensures { result ≡ fold_to (active (at self.entry.z.now) (λ i s. s ⊕ at liquid.now i ⊗ (at sl.now i ⊕ at dps.now i))) 0f self.entry.m.n }
+    {
+        let y = self.z;
+        let mut s = 0.0;
+        for i in 0..self.m.n {
+            if 0.0 < y[i] {
+                s += liquid[i] * (sl[i] + dps[i]);
+            }
         }
+        s
     }
-    s
-}
 
-// f(T) = ln p_dew(T) - ln p, beside the dew point and the vapor pressures: 13, the pure liquids (22, 25), then the dew point.
-fn try_dew(
-    book: &[u8],
-    parameters: &[f64; 384],
-    n: usize,
-    p: f64,
-    y: &[f64; 8],
-    o: ActivityOptions,
-    t: f64,
-) -> Result<(Point, (DewPoint, [f64; 8])), Refusal>
-    ensures { outcome_of result ≡ dew_tried (activity_of book.now parameters.now (places n)) (pure_liquids_of book.now (places n)) (places n) o p y.now t }
-{
-    let kelvin = Temperature::new(t)?;
-    let mut ps = [0.0; 8];
-    let mut dps = [0.0; 8];
-    thermo_models::pure_liquids(book, n, kelvin, &mut ps, &mut dps)?;
-    let mut table = [0.0; 512];
-    let s = thermo_models::tables(book, parameters, n, kelvin, &mut table);
-    let d = saturation::dew_at(&table, s, y, &ps, o)?;
-    let point = Point {
-        value: numerics::ln(d.pressure) - numerics::ln(p),
-        slope: dew_slope(y, &d.liquid, &d.activity.slopes, &dps, floats::places(n)),
-    };
-    Ok((point, (d, ps)))
-}
+    // f(T) = ln p_dew(T) - ln p, beside the dew point and the vapor pressures: 13, the pure liquids (22, 25), then the dew point.
+    fn try_dew(self, o: ActivityOptions, t: f64) -> Result<(Point, (DewPoint, [f64; 8])), Refusal>
+        ensures { let f = self.entry in outcome_of result ≡ dew_tried (activity_of f.book.now f.parameters.now f.m.n) (pure_liquids_of f.book.now f.m.n) f.m.n o f.p f.z.now t }
+    {
+        let kelvin = Temperature::new(t)?;
+        let mut ps = [0.0; 8];
+        let mut dps = [0.0; 8];
+        thermo_models::pure_liquids(self.book, self.m.n, kelvin, &mut ps, &mut dps)?;
+        let mut table = [0.0; 512];
+        let s = thermo_models::tables(self.book, self.parameters, self.m.n, kelvin, &mut table);
+        let d = saturation::dew_at(&table, s, self.z, &ps, o)?;
+        let point = Point {
+            value: numerics::ln(d.pressure) - numerics::ln(self.p),
+            slope: self.dew_slope(&d.liquid, &d.activity.slopes, &dps),
+        };
+        Ok((point, (d, ps)))
+    }
 
-// The answer at a root, from the dew point there: its residual at the given pressure. The count wraps past 2^64, which no
-// limit of a question reaches.
-fn dew_with(
-    d: DewPoint,
-    ps: &[f64; 8],
-    n: usize,
-    p: f64,
-    y: &[f64; 8],
-    root: Root,
-) -> Result<ActivitySaturation, Refusal>
-    ensures { (E : List Float → Out Activity) (o : ActivityOptions) → dew_at E ps.now (places n) o y.now ≡ ok d → outcome_of result ≡ dew_saturation E ps.now (places n) o p y.now root.iterations root.temperature }
-{
-    let gap = saturation::residual_with(&d.activity.ln_gamma, ps, p, &d.liquid, y, n)?;
-    Ok(ActivitySaturation {
-        temperature: root.temperature,
-        pressure: p,
-        liquid: d.liquid,
-        vapor: *y,
-        residual: floats::max(gap, floats::abs(numerics::ln(d.pressure / p))),
-        iterations: root.iterations.wrapping_add(d.iterations),
-    })
+    // The answer at a root, from the dew point there: its residual at the given pressure. The count wraps past 2^64, which no
+    // limit of a question reaches.
+    #[tactic(auto, unfolding(crate::specs::Boiling::dew_saturation, floats::specs::Outcome::bind))]
+    fn dew_with(self, d: DewPoint, ps: &[f64; 8], root: Root) -> Result<ActivitySaturation, Refusal>
+        ensures { let f = self.entry in
+            (E : List Float → Out Activity) (o : ActivityOptions) → dew_at E ps.now f.m.n o f.z.now ≡ ok d → outcome_of result ≡ dew_saturation E ps.now f.m.n o f.p f.z.now root.iterations root.temperature }
+    {
+        let lg = &d.activity.ln_gamma;
+        let gap = saturation::residual_with(lg, ps, self.p, &d.liquid, self.z, self.m.n)?;
+        Ok(ActivitySaturation {
+            temperature: root.temperature,
+            pressure: self.p,
+            liquid: d.liquid,
+            vapor: *self.z,
+            residual: floats::max(gap, floats::abs(numerics::ln(d.pressure / self.p))),
+            iterations: root.iterations.wrapping_add(d.iterations),
+        })
+    }
 }
 
 // Dew temperature at p: ln p_dew(T) = ln p on the bracket of the options. 23, then what the search refuses.
+#[tactic(auto, unfolding(crate::specs::Boiling::dew_temperature, crate::specs::Boiling::saturation_temperature, floats::specs::Outcome::need))]
 pub fn activity_dew_temperature(
     book: &[u8],
     parameters: &[f64; 384],
@@ -312,6 +318,13 @@ pub fn activity_dew_temperature(
     if !thermo_models::check_pressure(p) {
         return Err(Refusal::PressureOutside);
     }
-    let (root, (d, ps)) = solve_temperature(|t| try_dew(book, parameters, n, p, y, o, t), o)?;
-    dew_with(d, &ps, n, p, y, root)
+    let feed = Feed {
+        book,
+        parameters,
+        m: Count::of(n),
+        p,
+        z: y,
+    };
+    let (root, (d, ps)) = solve_temperature(|t| feed.try_dew(o, t), o)?;
+    feed.dew_with(d, &ps, root)
 }

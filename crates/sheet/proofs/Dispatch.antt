@@ -2,15 +2,17 @@
 use mathlib.Core.Path.{◌≡◌, refl, sym, ap, ◌∙◌}
 use mathlib.Core.Logic.{◌⊎◌, inl, inr}
 use mathlib.Core.Bool.{Bool, true, false, true≢false, ◌||◌}
-use mathlib.Core.List.{List}
+use mathlib.Core.List.{List, ◌++◌}
 use Prim.Native.Nat.{ℕ, ◌≤◌, ◌<◌}
 use native.Mathlib.Nat.{min-eq_left}
 use native.Mathlib.Omega.{arith}
 use borrow.Author.Tests.{ne_eqb, le-leb, lt-leb}
 use lib.Dec.{eqb}
-use lib.ListN.{length}
+use lib.ListN.{length, drop}
+use lib.Seq.{length-take-le}
 use lib.Ieee.{Float}
 use Rattle.std.specs.Prelude.{Result, Ok, Err}
+use Rattle.std.specs.Array.{IsFirstChunk}
 use Rattle.std.specs.Result.{result_unwrap_or}
 use Rattle.std.proofs.lemmas.Bool.Decides.{nat_tests}
 use Rattle.floats.specs.Vector.{places, zeros8}
@@ -30,7 +32,7 @@ use Rattle.replies.specs.Blocks.{Answer, answer_room}
 use Rattle.sheet.specs.Tasks.{task1, task2, task3, task4, task5, task6, task7, task8, task9, task_at, task_under, task_split, task_of}
 use Rattle.sheet.specs.Ready.{pressures_in, flash_pressures, pressures_for}
 use Rattle.sheet.specs.Sheet.{Answers, roomy}
-use Rattle.sheet.proofs.Laws.{same_as, refuses}
+use Rattle.sheet.proofs.Laws.{same_as, refuses, in_front}
 
 -- ---- a number that was read as a task
 module _ (n : ℕ) where
@@ -64,7 +66,7 @@ module _ (m : Mixture) (q : Question) (t : Float) where
   module _ {u : Task} (r : Result Task Refusal) (d : u ≡ result_unwrap_or r task.Flash) (e : task_found r ≡ need (is_task q.task) 12 (ok q.task)) where
     at_named : task_at m q t ≡ named_at (task_number u)
     unfolding task_at
-    at_named = rw (d, same_test _ 1 refl refl r e, same_test _ 2 refl refl r e, same_test _ 3 refl refl r e, same_test _ 6 refl refl r e)
+    at_named = rw (d, same_test q.task 1 refl refl r e, same_test q.task 2 refl refl r e, same_test q.task 3 refl refl r e, same_test q.task 6 refl refl r e)
 
     pub at_1 : u ≡ task.Activity → task_at m q t ≡ task1 m q t
     unfolding choose
@@ -111,7 +113,7 @@ module _ (m : Mixture) (p t : Float) where
   module _ (n : ℕ) {u : Task} (r : Result Task Refusal) (d : u ≡ result_unwrap_or r task.Flash) (e : task_found r ≡ need (is_task n) 12 (ok n)) where
     for_named : pressures_for m n p t ≡ named_for (task_number u)
     unfolding pressures_for
-    for_named = rw (d, same_test _ 1 refl refl r e, same_test _ 2 refl refl r e, same_test _ 3 refl refl r e, same_test _ 6 refl refl r e)
+    for_named = rw (d, same_test n 1 refl refl r e, same_test n 2 refl refl r e, same_test n 3 refl refl r e, same_test n 6 refl refl r e)
 
     pub pressures-unread : (u ≡ task.Activity) ⊎ (u ≡ task.Stability) → pressures_for m n p t ≡ ok zeros8
     unfolding choose
@@ -142,14 +144,25 @@ module _ (m : Mixture) (p t : Float) where
   pressures-rest n {u} r d e a b c f = for_named n r d e ∙ other_for u a b c f
 
 -- ---- tasks at a pressure
-module _ (m : Mixture) (q : Question) (p : Float) where
-  pub under_4 : q.task ≡ 4 → task_under m q p ≡ task4 m q p
-  unfolding task_under choose
-  under_4 e = rw e
+number_4 : (u : Task) → task_number u ≡ 4 → u ≡ task.BubbleTemperature
+number_4 task.Activity e = absurd (omega arith)
+number_4 task.BubblePressure e = absurd (omega arith)
+number_4 task.DewPressure e = absurd (omega arith)
+number_4 task.BubbleTemperature e = refl
+number_4 task.DewTemperature e = absurd (omega arith)
+number_4 task.Stability e = absurd (omega arith)
+number_4 task.Flash e = absurd (omega arith)
+number_4 task.Split e = absurd (omega arith)
+number_4 task.NegativeSplit e = absurd (omega arith)
 
-  pub under_5 : (q.task ≡ 4 → ⊥) → task_under m q p ≡ task5 m q p
+module _ (m : Mixture) (q : Question) (p : Float) where
+  pub under_4 : (u : Task) → q.task ≡ task_number u → u ≡ task.BubbleTemperature → task_under m q p ≡ task4 m q p
   unfolding task_under choose
-  under_5 e = rw (ne_eqb q.task 4 e)
+  under_4 u e h = rw (e, h)
+
+  pub under_5 : (u : Task) → q.task ≡ task_number u → (u ≡ task.BubbleTemperature → ⊥) → task_under m q p ≡ task5 m q p
+  unfolding task_under choose
+  under_5 u e h = rw (ne_eqb q.task 4 (λ (d : q.task ≡ 4). h (number_4 u (sym e ∙ d))))
 
 -- ---- all tasks
 module _ (m : Mixture) (q : Question) where
@@ -201,6 +214,14 @@ short o {old} l = refuses (need-no 10 o (lt-leb answer_room (length old) l))
 pub roomed : {o : Out (List ℕ)} {r : ℕ} {old new : List ℕ} → answer_room ≤ length old → Answers o r old new → Answers (roomy (length old) o) r old new
 unfolding roomy
 roomed {o} {old = old} l h = same_as (need_yes 10 o (le-leb answer_room (length old) l)) h
+
+-- the room at the front of a slice
+pub room_long : {old mid : List ℕ} → IsFirstChunk old mid answer_room → length mid ≡ answer_room
+room_long {old} f = rw f.same (length-take-le answer_room old f.enough)
+
+pub fronted : {o : Out (List ℕ)} {r : ℕ} {old mid new : List ℕ} → IsFirstChunk old mid answer_room → length new ≡ answer_room → Answers o r mid new
+    → Answers (roomy (length old) o) r old (new ++ drop answer_room old)
+fronted f l h = roomed f.enough (in_front answer_room f.enough f.same l h)
 
 pub unroomed : {o : Out (List ℕ)} {r : ℕ} {old new : List ℕ} → answer_room ≤ length old → Answers (roomy (length old) o) r old new → Answers o r old new
 unfolding roomy

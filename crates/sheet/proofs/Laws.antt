@@ -1,11 +1,12 @@
 -- Laws of a call that is refused or answered, and of an answer that is written block by block. Assumes nothing.
 use mathlib.Core.Path.{◌≡◌, refl, sym, ap, ◌∙◌}
 use mathlib.Core.List.{List, [], ◌∷◌, ◌++◌, append_assoc, append-nil}
-use Prim.Native.Nat.{ℕ, zero, suc, ◌+◌, ◌*◌, ◌≤◌, ◌<◌}
+use Prim.Native.Nat.{ℕ, zero, suc, ◌+◌, ◌*◌, ◌-◌, ◌≤◌, ◌<◌}
 use native.Mathlib.Numerals.{add-one}
 use native.Mathlib.Omega.{arith}
-use lib.ListN.{length, get_or, take, drop, length-append, take-append-drop}
+use lib.ListN.{length, get_or, take, drop, length-append, length-drop, take-append-drop}
 use lib.Seq.{length-take-le, take_at, drop-append-add, drop-drop}
+use Rattle.std.proofs.lemmas.List.{drop-append-le}
 use Rattle.std.specs.Prelude.{Result, Ok, Err}
 use Rattle.std.specs.Result.{IsErrAnd}
 use Rattle.floats.specs.Outcome.{Out, ok, no}
@@ -34,6 +35,20 @@ refuses e = record { number = rw e; bytes = rw e }
 pub quits : {A : Type 0} {o : Out (List ℕ)} (e : Refusal) (r : Result A Refusal) {old : List ℕ} → IsErrAnd r (λ y. y ≡ e) → o ≡ no (number e) → Answers o (number_in r) old old
 quits e (Err y) h q = refuses (q ∙ ap (λ (x : Refusal). no (number x)) (sym h))
 quits e (Ok a) h q = absurd h
+
+-- ---- an answer in the front of a slice is one in the slice
+front : (o : Out (List ℕ)) (old new : List ℕ) (k : ℕ) → k ≤ length old → length new ≡ k → new ≡ written o (take k old) → new ++ drop k old ≡ written o old
+unfolding written
+front (no r) old new k h l e = rw e (take-append-drop k old)
+front (ok bs) old new k h l e =
+    let t : length (take k old) ≡ k = length-take-le k old h in
+    let m : length bs + (k - length bs) ≡ k = sym (simp (length-append, length-drop, t) at (ap length e)) ∙ l in
+    let f : length bs ≤ length (take k old) = omega arith in
+    let d : drop (length bs) (take k old) ++ drop k old ≡ drop (length bs) old = sym (drop-append-le (length bs) (take k old) (drop k old) f) ∙ ap (drop (length bs)) (take-append-drop k old) in
+    rw e (append_assoc bs (drop (length bs) (take k old)) (drop k old) ∙ ap (λ (l : List ℕ). bs ++ l) d)
+
+pub in_front : {o : Out (List ℕ)} {r : ℕ} {old mid new : List ℕ} (k : ℕ) → k ≤ length old → mid ≡ take k old → length new ≡ k → Answers o r mid new → Answers o r old (new ++ drop k old)
+in_front {o} {old = old} {new = new} k h e l a = record { number = a.number; bytes = front o old new k h l (rw e at a.bytes) }
 
 -- ---- the answer block
 module _ (rule : Rule) where

@@ -20,7 +20,6 @@ use Rattle.thermo_models.specs.Activity.{excess_on, activity_on}
 use Rattle.thermo_models.specs.Mixture.{Mixture}
 use Rattle.rachford_rice.specs.declared.RachfordRiceOutcome.{RachfordRiceOutcome}
 use Rattle.rachford_rice.specs.declared.RachfordRiceOutcome.TheVariants.{LiquidOnly, VaporOnly, TwoPhase}
-use Rattle.rachford_rice.specs.declared.RachfordRice.{RachfordRice}
 use Rattle.rachford_rice.specs.Rachford.{Solution, two_phase}
 use Rattle.saturation.specs.Saturation.{bubble_task, dew_task}
 use Rattle.liquid_stability.specs.Stability.{Trials, stability_of}
@@ -29,6 +28,7 @@ use Rattle.tp_flash.specs.Tp.{Flash, phases_of}
 use Rattle.tp_flash.proofs.Counts.{phases-few}
 use Rattle.question.specs.declared.Question.{Question}
 use Rattle.replies.specs.Answers.{excess_block, stability_block, flash_block, rice_block}
+use Rattle.sheet.specs.Asked.{split}
 use Rattle.sheet.specs.Tasks.{alone, excess_found, saturated, task1, task2, task3, task6, task7}
 use Rattle.sheet.specs.Ready.{pressures_in, flash_pressures, TableOf}
 use Rattle.sheet.proofs.Shared.{table-activity, bubble_from_lem, dew_from, flash_from}
@@ -89,24 +89,10 @@ module _ (q : Question) {m : Mixture} {s : Tabled} {table : List Float} (h : Tab
   flash-at p w = rw (flash_from m q.options s.t.0 q.fractions p w, table-activity h, h.count)
 
 -- ---- 9
-module _ (o : Out Solution) where
-  pub split_refused : {r : ℕ} → no r ≡ bind o (λ s. ok (two_phase s)) → o ≡ no r
-  unfolding bind
-  split_refused = pick o
-    where
-      pick : (p : Out Solution) {r : ℕ} → no r ≡ bind p (λ s. ok (two_phase s)) → p ≡ no r
-      pick (ok v) e = absurd (refused e)
-      pick (no m) e = cc
-
-  pub split_found : {s : RachfordRice} → ok s ≡ bind o (λ s. ok (two_phase s))
-      → bind o (λ s. ok (alone (rice_block (TwoPhase s.vapor_fraction s.residual s.iterations) s.liquid s.vapor))) ≡ ok (alone (rice_block s.outcome s.liquid s.vapor))
-  unfolding bind two_phase
-  split_found = pick o
-    where
-      pick : (p : Out Solution) {s : RachfordRice} → ok s ≡ bind p (λ s. ok (two_phase s))
-          → bind p (λ s. ok (alone (rice_block (TwoPhase s.vapor_fraction s.residual s.iterations) s.liquid s.vapor))) ≡ ok (alone (rice_block s.outcome s.liquid s.vapor))
-      pick (ok v) {s} e = let z : s ≡ two_phase v = cc in rw z
-      pick (no m) e = absurd (refused (sym e))
+pub split-same : (o : Out Solution) → bind o (λ s. ok (alone (rice_block (TwoPhase s.vapor_fraction s.residual s.iterations) s.liquid s.vapor))) ≡ split (bind o (λ s. ok (two_phase s)))
+unfolding split bind two_phase
+split-same (ok s) = refl
+split-same (no r) = refl
 
 -- ---- 8 and 9 have no trials, 6 and 7 at most eight
 pub rice-alone : (o : RachfordRiceOutcome) (x y : List Float) → (rice_block o x y).state.trials ≡ 0

@@ -3,3 +3,4 @@ pub mod Tasks
 pub mod Ready
 pub mod Sheet
 pub mod Unread
+pub mod Asked

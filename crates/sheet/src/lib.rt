@@ -6,268 +6,129 @@ ghost use Rattle.floats.specs.Vector.{places};
 ghost use Rattle.floats.specs.Outcome.{ok, bind};
 ghost use Rattle.outcome.specs.Refused.{outcome_of, number_in};
 ghost use Rattle.thermo_types.specs.Quantities.{positive_of};
-ghost use Rattle.blocks.specs.Bytes.{put, block_bytes, word_at};
 ghost use Rattle.records.specs.Offered.{with_pair};
 ghost use Rattle.thermo_models.specs.Domain.{pure_liquids_of};
-ghost use Rattle.thermo_models.specs.Mixture.{Mixture, mixture_with, mixture_of};
-ghost use Rattle.question.specs.Inputs.{needs_temperature};
-ghost use Rattle.replies.specs.Blocks.{answer_room, trial_words, answer_bytes};
-ghost use Rattle.sheet.specs.Tasks.{alone, task1, task6, task7, task_at, task_under, task_of};
+ghost use Rattle.thermo_models.specs.Mixture.{mixture_with, mixture_of};
+ghost use Rattle.question.specs.Inputs.{task_number, needs_temperature};
+ghost use Rattle.replies.specs.Blocks.{answer_room, answer_bytes};
+ghost use Rattle.sheet.specs.Tasks.{alone, saturated, task1, task6, task7, task_at, task_under, task_of};
 ghost use Rattle.sheet.specs.Ready.{pressures_in, flash_pressures, pressures_for, TableOf, Readied};
-ghost use Rattle.sheet.specs.Sheet.{replied, answer_to, roomy, sheet_from, sheet_of, Answers};
+ghost use Rattle.sheet.specs.Asked.{mixture_in, bytes_for, split};
+ghost use Rattle.sheet.specs.Sheet.{answer_to, roomy, sheet_from, sheet_of, Answers};
 
 use blocks::Rule;
 use book::Head;
 use liquid_stability::LiquidStabilityTrial;
 use outcome::Refusal;
 use question::{Question, Task, read_question};
+use rachford_rice::RachfordRice;
 use replies::{
     ANSWER_ROOM, AnswerBlock, answer_words, excess_block, flash_block, rice_block,
     saturation_block, stability_block, trial_words,
 };
+use saturation::{ActivitySaturation, activity_bubble_pressure, activity_dew_pressure};
+use saturation_temperature::{activity_bubble_temperature, activity_dew_temperature};
 use thermo_models::Tabled;
 use thermo_types::{Pressure, Temperature};
 
-// ---- the blocks of an answer
+// ---- what is asked, and what is made ready for it
 
-// Trial k stands in block k + 1.
-fn write_trial(rule: Rule, t: LiquidStabilityTrial, k: usize, out: &mut [u8])
-    requires { (k < 8) × (answer_room ≤ length out.old) }
-    ensures { out.new ≡ put out.old (512 * (k + 1)) (block_bytes rule (word_at (trial_words t))) }
-{
-    blocks::write_at(out, k + 1, rule, &trial_words(t));
-}
-
-// An answer and its trials, as many as word 12 says.
-fn write_answer(
-    rule: Rule,
-    task: u64,
-    b: AnswerBlock,
-    trials: &[LiquidStabilityTrial; 8],
-    out: &mut [u8],
-)
-    requires { (b.state.trials ≤ 8) × (answer_room ≤ length out.old) }
-    ensures { Answers (ok (answer_bytes rule task (record { block = b; trials = trials.now }))) 0 out.old out.new }
-{
-    blocks::write_block(out, rule, &answer_words(task, b));
-    for k in 0..b.state.trials as usize {
-        write_trial(rule, trials[k], k, out);
-    }
-}
-
-// An answer without trials.
-fn write_alone(rule: Rule, task: u64, b: AnswerBlock, out: &mut [u8])
-    requires { (b.state.trials ≡ 0) × (answer_room ≤ length out.old) }
-    ensures { Answers (ok (answer_bytes rule task (alone b))) 0 out.old out.new }
-{
-    blocks::write_block(out, rule, &answer_words(task, b));
-}
-
-// ---- the tasks from their temperature or pressure on
-
-// 25 where g^E / RT isn't finite.
-fn task_1(
-    rule: Rule,
-    book: &[u8],
-    offered: &[u8],
+// The book of n solvents that is read, with a pair offered in the place of its own: with nothing offered, its own.
+#[derive(Clone, Copy)]
+struct Source<'a> {
+    book: &'a [u8],
+    offered: &'a [u8],
     n: usize,
-    s: Tabled,
-    table: &[f64; 512],
-    q: Question,
-    out: &mut [u8],
-) -> Result<(), Refusal>
-    requires { answer_room ≤ length out.old }
-    ensures { TableOf (mixture_of (with_pair (places n) book.now offered.now) (places n)) s table.now → Answers (replied rule q.task (task1 (mixture_of (with_pair (places n) book.now offered.now) (places n)) q s.t.0)) (number_in result) out.old out.new }
-{
-    let mut ln_gamma = [0.0; 8];
-    let mut slopes = [0.0; 8];
-    let e = thermo_models::excess(table, s, &q.fractions, &mut ln_gamma, &mut slopes)?;
-    if !floats::is_finite(e.reduced) {
-        return Err(Refusal::ResultNotFinite);
-    }
-    let v = thermo_models::validity(book, offered, n, s.t, &q.fractions);
-    let b = excess_block(s.t.value(), e, v, ln_gamma, slopes);
-    write_alone(rule, q.task, b, out);
-    Ok(())
 }
 
-fn task_6(
-    rule: Rule,
-    s: Tabled,
-    table: &[f64; 512],
-    q: Question,
-    out: &mut [u8],
-) -> Result<(), Refusal>
-    requires { answer_room ≤ length out.old }
-    ensures { (m : Mixture) → TableOf m s table.now → Answers (replied rule q.task (task6 m q s.t.0)) (number_in result) out.old out.new }
-{
-    let found = liquid_stability::liquid_stability(table, s, q.options, &q.fractions)?;
-    let b = stability_block(found.stable, found.count);
-    write_answer(rule, q.task, b, &found.trials, out);
-    Ok(())
+// Tables, what they stand for, and the vapor pressures that the task reads.
+// Kept: no ghost field says that the tables stand for the mixture. `answer_ready` is asked with any, and only its ensures has that as a premise.
+#[derive(Clone, Copy)]
+struct Made<'a> {
+    table: &'a [f64; 512],
+    at: Tabled,
+    ps: &'a [f64; 8],
 }
 
-// From the vapor pressures that its T and p have.
-fn task_7(
+// A question that was read, and the rule of the blocks that answer it.
+#[derive(Clone, Copy)]
+struct Asked<'a> {
     rule: Rule,
-    s: Tabled,
-    table: &[f64; 512],
-    ps: &[f64; 8],
-    p: Pressure,
-    q: Question,
-    out: &mut [u8],
-) -> Result<(), Refusal>
-    requires { answer_room ≤ length out.old }
-    ensures { (m : Mixture) → TableOf m s table.now → flash_pressures m s.t.0 p.0 ≡ ok ps.now → Answers (replied rule q.task (task7 m q s.t.0 p.0)) (number_in result) out.old out.new }
-{
-    let f = tp_flash::activity_tp_flash(table, s, q.options, &q.fractions, p, ps)?;
-    let b = flash_block(s.t.value(), p.value(), f);
-    write_answer(rule, q.task, b, &f.trials.trials, out);
-    Ok(())
-}
-
-// ---- the tasks by their number
-
-// Tasks 1, 2, 3, 6 and 7; a number that is no task's goes by 7.
-fn task_at(
-    rule: Rule,
-    book: &[u8],
-    offered: &[u8],
-    n: usize,
-    s: Tabled,
-    table: &[f64; 512],
-    ps: &[f64; 8],
-    q: Question,
-    out: &mut [u8],
-) -> Result<(), Refusal>
-    requires { answer_room ≤ length out.old }
-    ensures { TableOf (mixture_of (with_pair (places n) book.now offered.now) (places n)) s table.now → pressures_for (mixture_of (with_pair (places n) book.now offered.now) (places n)) q.task q.pressure s.t.0 ≡ ok ps.now → Answers (replied rule q.task (task_at (mixture_of (with_pair (places n) book.now offered.now) (places n)) q s.t.0)) (number_in result) out.old out.new }
-{
-    match Task::try_from(q.task).unwrap_or(Task::Flash) {
-        Task::Activity => task_1(rule, book, offered, n, s, table, q, out),
-        Task::BubblePressure => {
-            let point = saturation::activity_bubble_pressure(table, s, &q.fractions, ps)?;
-            write_alone(rule, q.task, saturation_block(point), out);
-            Ok(())
-        }
-        Task::DewPressure => {
-            let point = saturation::activity_dew_pressure(table, s, &q.fractions, ps, q.options)?;
-            write_alone(rule, q.task, saturation_block(point), out);
-            Ok(())
-        }
-        Task::Stability => task_6(rule, s, table, q, out),
-        _ => {
-            let p = Pressure::new(q.pressure)?;
-            task_7(rule, s, table, ps, p, q, out)
-        }
-    }
-}
-
-// Tasks 4 and 5.
-fn task_under(
-    rule: Rule,
-    book: &[u8],
-    parameters: &[f64; 384],
-    n: usize,
-    p: Pressure,
-    q: Question,
-    out: &mut [u8],
-) -> Result<(), Refusal>
-    requires { answer_room ≤ length out.old }
-    ensures { (copy : List ℕ) → Answers (replied rule q.task (task_under (mixture_with book.now parameters.now copy (places n)) q p.0)) (number_in result) out.old out.new }
-{
-    let x = q.fractions;
-    let o = q.options;
-    let found = if q.task == Task::BubbleTemperature as u64 {
-        saturation_temperature::activity_bubble_temperature(book, parameters, n, p, &x, o)
-    } else {
-        saturation_temperature::activity_dew_temperature(book, parameters, n, p, &x, o)
-    };
-    write_alone(rule, q.task, saturation_block(found?), out);
-    Ok(())
+    source: Source<'a>,
+    q: &'a Question,
 }
 
 // ---- what the tasks at a temperature share, whatever the feed
 
-// Of the pure liquids: 22, 25.
-fn pure_pressures(book: &[u8], n: usize, t: Temperature) -> Result<[f64; 8], Refusal>
-    ensures { outcome_of result ≡ pressures_in (pure_liquids_of book.now (places n) t.0) }
-{
-    let mut ps = [0.0; 8];
-    let mut dps = [0.0; 8];
-    thermo_models::pure_liquids(book, n, t, &mut ps, &mut dps)?;
-    Ok(ps)
-}
-
-// A flash's: 22, 23, 25.
-#[tactic(auto, unfolding(crate::specs::Ready::flash_pressures, floats::specs::Outcome::need))]
-fn flash_pressures(book: &[u8], n: usize, t: Temperature, p: Pressure) -> Result<[f64; 8], Refusal>
-    ensures { (P : List Float) (copy : List ℕ) → outcome_of result ≡ flash_pressures (mixture_with book.now P copy (places n)) t.0 p.0 }
-{
-    if !thermo_models::check_temperature(book, n, t) {
-        return Err(Refusal::TemperatureOutside);
+impl<'a> Source<'a> {
+    // Of the pure liquids: 22, 25.
+    fn pure_pressures(self, t: Temperature) -> Result<[f64; 8], Refusal>
+        ensures { outcome_of result ≡ pressures_in (pure_liquids_of self.entry.book.now (places self.entry.n) t.0) }
+    {
+        let mut ps = [0.0; 8];
+        let mut dps = [0.0; 8];
+        thermo_models::pure_liquids(self.book, self.n, t, &mut ps, &mut dps)?;
+        Ok(ps)
     }
-    if !thermo_models::check_pressure(p.value()) {
-        return Err(Refusal::PressureOutside);
-    }
-    pure_pressures(book, n, t)
-}
 
-// Those that the task reads; a number that is no task's reads those of 7.
-fn pressures_for(
-    book: &[u8],
-    n: usize,
-    task: u64,
-    pressure: f64,
-    t: Temperature,
-) -> Result<[f64; 8], Refusal>
-    ensures { (P : List Float) (copy : List ℕ) → outcome_of result ≡ pressures_for (mixture_with book.now P copy (places n)) task pressure t.0 }
-{
-    match Task::try_from(task).unwrap_or(Task::Flash) {
-        Task::Activity | Task::Stability => Ok([0.0; 8]),
-        Task::BubblePressure | Task::DewPressure => pure_pressures(book, n, t),
-        _ => {
-            let p = Pressure::new(pressure)?;
-            flash_pressures(book, n, t, p)
+    // A flash's: 22, 23, 25.
+    #[tactic(auto, unfolding(crate::specs::Ready::flash_pressures, floats::specs::Outcome::need))]
+    fn flash_pressures(self, t: Temperature, p: Pressure) -> Result<[f64; 8], Refusal>
+        ensures { (P : List Float) (copy : List ℕ) → outcome_of result ≡ flash_pressures (mixture_with self.entry.book.now P copy (places self.entry.n)) t.0 p.0 }
+    {
+        if !thermo_models::check_temperature(self.book, self.n, t) {
+            return Err(Refusal::TemperatureOutside);
+        }
+        if !thermo_models::check_pressure(p.value()) {
+            return Err(Refusal::PressureOutside);
+        }
+        self.pure_pressures(t)
+    }
+
+    // Those that the task reads; a number that is no task's reads those of 7.
+    // Kept: a number, since `make_ready` is public and takes any; so in `ready` and `task_at`.
+    fn pressures_for(self, task: u64, pressure: f64, t: Temperature) -> Result<[f64; 8], Refusal>
+        ensures { (P : List Float) (copy : List ℕ) → outcome_of result ≡ pressures_for (mixture_with self.entry.book.now P copy (places self.entry.n)) task pressure t.0 }
+    {
+        match Task::try_from(task).unwrap_or(Task::Flash) {
+            Task::Activity | Task::Stability => Ok([0.0; 8]),
+            Task::BubblePressure | Task::DewPressure => self.pure_pressures(t),
+            _ => {
+                let p = Pressure::new(pressure)?;
+                self.flash_pressures(t, p)
+            }
         }
     }
+
+    // The tables of the parameters at t.
+    fn tables_at(self, t: Temperature, table: &mut [f64; 512]) -> Tabled
+        ensures { (result.t ≡ t) × TableOf (mixture_in self.entry) result table.new }
+    {
+        let mut parameters = [0.0; 384];
+        records::parameters(self.book, self.offered, self.n, &mut parameters);
+        thermo_models::tables(self.book, &parameters, self.n, t, table)
+    }
+
+    // Makes ready for a task at a temperature (K), 7 at a pressure (Pa) too: the vapor pressures that it reads, then the
+    // tables. What the tables stand for; or 13, 14, 22, 23, or 25 of a vapor pressure.
+    fn ready(
+        self,
+        task: u64,
+        temperature: f64,
+        pressure: f64,
+        table: &mut [f64; 512],
+        ps: &mut [f64; 8],
+    ) -> Result<Tabled, Refusal>
+        ensures { Readied (mixture_in self.entry) task temperature pressure result table.new ps.new }
+    {
+        let t = Temperature::new(temperature)?;
+        *ps = self.pressures_for(task, pressure, t)?;
+        Ok(self.tables_at(t, table))
+    }
 }
 
-// The tables of the book's parameters at t, with the pair offered in the place of its own.
-fn tables_at(
-    book: &[u8],
-    offered: &[u8],
-    n: usize,
-    t: Temperature,
-    table: &mut [f64; 512],
-) -> Tabled
-    ensures { length table.old ≡ 512 → (result.t ≡ t) × TableOf (mixture_of (with_pair (places n) book.now offered.now) (places n)) result table.new }
-{
-    let mut parameters = [0.0; 384];
-    records::parameters(book, offered, n, &mut parameters);
-    thermo_models::tables(book, &parameters, n, t, table)
-}
-
-// Makes ready for a task at a temperature (K), 7 at a pressure (Pa) too: the vapor pressures that it reads, then the tables,
-// with a pair offered in the place of the book's own. What the tables stand for; or 13, 14, 22, 23, or 25 of a vapor pressure.
-fn ready_offered(
-    book: &[u8],
-    offered: &[u8],
-    n: usize,
-    task: u64,
-    temperature: f64,
-    pressure: f64,
-    table: &mut [f64; 512],
-    ps: &mut [f64; 8],
-) -> Result<Tabled, Refusal>
-    ensures { length table.old ≡ 512 → Readied (mixture_of (with_pair (places n) book.now offered.now) (places n)) task temperature pressure result table.new ps.new }
-{
-    let t = Temperature::new(temperature)?;
-    *ps = pressures_for(book, n, task, pressure, t)?;
-    Ok(tables_at(book, offered, n, t, table))
-}
-
-// With nothing offered.
+// What the tasks at a temperature share for a book of n solvents, as `answer_ready` takes it: the tables and vapor pressures that
+// the task reads. What the tables stand for; or 13, 14, 22, 23, or 25 of a vapor pressure.
 pub fn make_ready(
     book: &[u8],
     n: usize,
@@ -279,79 +140,193 @@ pub fn make_ready(
 ) -> Result<Tabled, Refusal>
     ensures { length table.old ≡ 512 → Readied (mixture_of book.now (places n)) task temperature pressure result table.new ps.new }
 {
-    ready_offered(book, b"", n, task, temperature, pressure, table, ps)
+    let offered = b"";
+    Source { book, offered, n }.ready(task, temperature, pressure, table, ps)
 }
 
-fn at_temperature(
-    rule: Rule,
-    book: &[u8],
-    offered: &[u8],
-    n: usize,
-    q: Question,
-    out: &mut [u8],
-) -> Result<(), Refusal>
-    requires { answer_room ≤ length out.old }
-    ensures { Answers (replied rule q.task (bind (positive_of q.temperature 13) (task_at (mixture_of (with_pair (places n) book.now offered.now) (places n)) q))) (number_in result) out.old out.new }
-{
-    let mut table = [0.0; 512];
-    let mut ps = [0.0; 8];
-    let s = ready_offered(
-        book,
-        offered,
-        n,
-        q.task,
-        q.temperature,
-        q.pressure,
-        &mut table,
-        &mut ps,
-    )?;
-    task_at(rule, book, offered, n, s, &table, &ps, q, out)
-}
+// ---- the tasks, each with its blocks at the front of the room for an answer
 
-fn at_pressure(
-    rule: Rule,
-    book: &[u8],
-    offered: &[u8],
-    n: usize,
-    q: Question,
-    out: &mut [u8],
-) -> Result<(), Refusal>
-    requires { answer_room ≤ length out.old }
-    ensures { Answers (replied rule q.task (bind (positive_of q.pressure 14) (task_under (mixture_of (with_pair (places n) book.now offered.now) (places n)) q))) (number_in result) out.old out.new }
-{
-    let p = Pressure::new(q.pressure)?;
-    let mut parameters = [0.0; 384];
-    records::parameters(book, offered, n, &mut parameters);
-    task_under(rule, book, &parameters, n, p, q, out)
-}
+impl<'a> Asked<'a> {
+    // An answer, and its trials in the blocks behind it, as many as word 12 says.
+    fn write_answer(
+        self,
+        b: AnswerBlock,
+        trials: &[LiquidStabilityTrial; 8],
+        out: &mut [u8; ANSWER_ROOM],
+    )
+        requires { b.state.trials ≤ 8 }
+        ensures { Answers (ok (answer_bytes self.entry.rule self.entry.q.now.task (record { block = b; trials = trials.now }))) 0 out.old out.new }
+    {
+        blocks::write_block(out, self.rule, &answer_words(self.q.task, b));
+        for k in 0..b.state.trials as usize {
+            blocks::write_at(out, k + 1, self.rule, &trial_words(trials[k]));
+        }
+    }
 
-fn solve(
-    rule: Rule,
-    book: &[u8],
-    offered: &[u8],
-    n: usize,
-    q: Question,
-    out: &mut [u8],
-) -> Result<(), Refusal>
-    requires { answer_room ≤ length out.old }
-    ensures { Answers (replied rule q.task (task_of (mixture_of (with_pair (places n) book.now offered.now) (places n)) q)) (number_in result) out.old out.new }
-{
-    let limit = q.options.max_iterations;
-    match Task::try_from(q.task)? {
-        Task::BubbleTemperature | Task::DewTemperature => {
-            at_pressure(rule, book, offered, n, q, out)
+    // An answer without trials.
+    fn write_alone(self, b: AnswerBlock, out: &mut [u8; ANSWER_ROOM])
+        requires { b.state.trials ≡ 0 }
+        ensures { Answers (ok (answer_bytes self.entry.rule self.entry.q.now.task (alone b))) 0 out.old out.new }
+    {
+        blocks::write_block(out, self.rule, &answer_words(self.q.task, b));
+    }
+
+    // Task 1: 25 where g^E / RT isn't finite.
+    fn activity(self, made: Made, out: &mut [u8; ANSWER_ROOM]) -> Result<(), Refusal>
+        ensures { TableOf (mixture_in self.entry.source) made.entry.at made.entry.table.now → Answers (bytes_for self.entry (task1 (mixture_in self.entry.source) self.entry.q.now made.entry.at.t.0)) (number_in result) out.old out.new }
+    {
+        let Source { book, offered, n } = self.source;
+        let x = &self.q.fractions;
+        let mut ln_gamma = [0.0; 8];
+        let mut slopes = [0.0; 8];
+        let e = thermo_models::excess(made.table, made.at, x, &mut ln_gamma, &mut slopes)?;
+        if !floats::is_finite(e.reduced) {
+            return Err(Refusal::ResultNotFinite);
         }
-        Task::Split => {
-            let s = rachford_rice::rachford_rice(&q.fractions, &q.ratios, n, limit)?;
-            write_alone(rule, q.task, rice_block(s.outcome, s.liquid, s.vapor), out);
-            Ok(())
+        let v = thermo_models::validity(book, offered, n, made.at.t, x);
+        let b = excess_block(made.at.t.value(), e, v, ln_gamma, slopes);
+        self.write_alone(b, out);
+        Ok(())
+    }
+
+    // Tasks 2 to 5, from what their solver found.
+    fn saturated(
+        self,
+        found: Result<ActivitySaturation, Refusal>,
+        out: &mut [u8; ANSWER_ROOM],
+    ) -> Result<(), Refusal>
+        ensures { Answers (bytes_for self.entry (saturated (outcome_of found))) (number_in result) out.old out.new }
+    {
+        self.write_alone(saturation_block(found?), out);
+        Ok(())
+    }
+
+    // Task 6.
+    fn stability(self, made: Made, out: &mut [u8; ANSWER_ROOM]) -> Result<(), Refusal>
+        ensures { TableOf (mixture_in self.entry.source) made.entry.at made.entry.table.now → Answers (bytes_for self.entry (task6 (mixture_in self.entry.source) self.entry.q.now made.entry.at.t.0)) (number_in result) out.old out.new }
+    {
+        let q = self.q;
+        let found = liquid_stability::liquid_stability(
+            made.table,
+            made.at,
+            q.options,
+            &q.fractions,
+        )?;
+        let b = stability_block(found.stable, found.count);
+        self.write_answer(b, &found.trials, out);
+        Ok(())
+    }
+
+    // Task 7, from the vapor pressures that its T and p have.
+    fn flash(self, made: Made, p: Pressure, out: &mut [u8; ANSWER_ROOM]) -> Result<(), Refusal>
+        ensures { TableOf (mixture_in self.entry.source) made.entry.at made.entry.table.now → flash_pressures (mixture_in self.entry.source) made.entry.at.t.0 p.0 ≡ ok made.entry.ps.now → Answers (bytes_for self.entry (task7 (mixture_in self.entry.source) self.entry.q.now made.entry.at.t.0 p.0)) (number_in result) out.old out.new }
+    {
+        let Made { table, at, ps } = made;
+        let q = self.q;
+        let f = tp_flash::activity_tp_flash(table, at, q.options, &q.fractions, p, ps)?;
+        let b = flash_block(at.t.value(), p.value(), f);
+        self.write_answer(b, &f.trials.trials, out);
+        Ok(())
+    }
+
+    // Tasks 8 and 9, from what their solver found.
+    fn split(
+        self,
+        found: Result<RachfordRice, Refusal>,
+        out: &mut [u8; ANSWER_ROOM],
+    ) -> Result<(), Refusal>
+        ensures { Answers (bytes_for self.entry (split (outcome_of found))) (number_in result) out.old out.new }
+    {
+        let s = found?;
+        self.write_alone(rice_block(s.outcome, s.liquid, s.vapor), out);
+        Ok(())
+    }
+
+    // Tasks 1, 2, 3, 6 and 7; a number that is no task's goes by 7.
+    fn task_at(self, made: Made, out: &mut [u8; ANSWER_ROOM]) -> Result<(), Refusal>
+        ensures answers { TableOf (mixture_in self.entry.source) made.entry.at made.entry.table.now → pressures_for (mixture_in self.entry.source) self.entry.q.now.task self.entry.q.now.pressure made.entry.at.t.0 ≡ ok made.entry.ps.now → Answers (bytes_for self.entry (task_at (mixture_in self.entry.source) self.entry.q.now made.entry.at.t.0)) (number_in result) out.old out.new }
+        ensures long { length out.new ≡ answer_room }
+    {
+        let Made { table, at, ps } = made;
+        let q = self.q;
+        match Task::try_from(q.task).unwrap_or(Task::Flash) {
+            Task::Activity => self.activity(made, out),
+            Task::BubblePressure => {
+                self.saturated(activity_bubble_pressure(table, at, &q.fractions, ps), out)
+            }
+            Task::DewPressure => {
+                let found = activity_dew_pressure(table, at, &q.fractions, ps, q.options);
+                self.saturated(found, out)
+            }
+            Task::Stability => self.stability(made, out),
+            _ => {
+                let p = Pressure::new(q.pressure)?;
+                self.flash(made, p, out)
+            }
         }
-        Task::NegativeSplit => {
-            let s = rachford_rice::rachford_rice_negative(&q.fractions, &q.ratios, n, limit)?;
-            write_alone(rule, q.task, rice_block(s.outcome, s.liquid, s.vapor), out);
-            Ok(())
+    }
+
+    fn at_temperature(self, out: &mut [u8; ANSWER_ROOM]) -> Result<(), Refusal>
+        ensures { Answers (bytes_for self.entry (bind (positive_of self.entry.q.now.temperature 13) (task_at (mixture_in self.entry.source) self.entry.q.now))) (number_in result) out.old out.new }
+    {
+        let q = self.q;
+        let mut table = [0.0; 512];
+        let mut ps = [0.0; 8];
+        let at = self
+            .source
+            .ready(q.task, q.temperature, q.pressure, &mut table, &mut ps)?;
+        let made = Made {
+            table: &table,
+            at,
+            ps: &ps,
+        };
+        self.task_at(made, out)
+    }
+
+    // Tasks 4 and 5.
+    fn at_pressure(self, task: Task, out: &mut [u8; ANSWER_ROOM]) -> Result<(), Refusal>
+        ensures { self.entry.q.now.task ≡ task_number task → Answers (bytes_for self.entry (bind (positive_of self.entry.q.now.pressure 14) (task_under (mixture_in self.entry.source) self.entry.q.now))) (number_in result) out.old out.new }
+    {
+        let Source { book, offered, n } = self.source;
+        let q = self.q;
+        let p = Pressure::new(q.pressure)?;
+        let mut parameters = [0.0; 384];
+        records::parameters(book, offered, n, &mut parameters);
+        let (x, o) = (&q.fractions, q.options);
+        // Kept: a match, since the contract of a closure for it would have six arguments, for one line.
+        let found = match task {
+            Task::BubbleTemperature => activity_bubble_temperature(book, &parameters, n, p, x, o),
+            _ => activity_dew_temperature(book, &parameters, n, p, x, o),
+        };
+        self.saturated(found, out)
+    }
+
+    // Every task; a number that is no task's is refused with 12.
+    fn solve(self, out: &mut [u8; ANSWER_ROOM]) -> Result<(), Refusal>
+        ensures answers { Answers (bytes_for self.entry (task_of (mixture_in self.entry.source) self.entry.q.now)) (number_in result) out.old out.new }
+        ensures long { length out.new ≡ answer_room }
+    {
+        let q = self.q;
+        let n = self.source.n;
+        let limit = q.options.max_iterations;
+        let task = Task::try_from(q.task)?;
+        match task {
+            Task::BubbleTemperature | Task::DewTemperature => self.at_pressure(task, out),
+            Task::Split => {
+                let found = rachford_rice::rachford_rice(&q.fractions, &q.ratios, n, limit);
+                self.split(found, out)
+            }
+            Task::NegativeSplit => {
+                let found = rachford_rice::rachford_rice_negative(
+                    &q.fractions,
+                    &q.ratios,
+                    n,
+                    limit,
+                );
+                self.split(found, out)
+            }
+            _ => self.at_temperature(out),
         }
-        _ => at_temperature(rule, book, offered, n, q, out),
     }
 }
 
@@ -368,13 +343,18 @@ pub fn answer_offered(
 ) -> Result<(), Refusal>
     ensures { Answers (roomy (length out.old) (answer_to (with_pair (places n) book.now offered.now) (places n) q)) (number_in result) out.old out.new }
 {
-    if out.len() < ANSWER_ROOM {
+    let Some(room) = out.first_chunk_mut::<ANSWER_ROOM>() else {
         return Err(Refusal::AnswerShort);
-    }
-    solve(book::rule_of(book), book, offered, n, q, out)
+    };
+    let asked = Asked {
+        rule: book::rule_of(book),
+        source: Source { book, offered, n },
+        q: &q,
+    };
+    asked.solve(room)
 }
 
-// With nothing offered.
+// The answer to a question that was read, for a book of n solvents with its own pairs: 10, then the task's own numbers.
 pub fn answer_asked(book: &[u8], n: usize, q: Question, out: &mut [u8]) -> Result<(), Refusal>
     ensures { Answers (roomy (length out.old) (answer_to book.now (places n) q)) (number_in result) out.old out.new }
 {
@@ -393,10 +373,17 @@ pub fn answer_ready(
 ) -> Result<(), Refusal>
     ensures { needs_temperature q.task ≡ true → Readied (mixture_of book.now (places n)) q.task q.temperature q.pressure made table.now ps.now → Answers (roomy (length out.old) (answer_to book.now (places n) q)) (number_in result) out.old out.new }
 {
-    if out.len() < ANSWER_ROOM {
+    let Some(room) = out.first_chunk_mut::<ANSWER_ROOM>() else {
         return Err(Refusal::AnswerShort);
-    }
-    task_at(book::rule_of(book), book, b"", n, made?, table, ps, q, out)
+    };
+    let at = made?;
+    let offered = b"";
+    let asked = Asked {
+        rule: book::rule_of(book),
+        source: Source { book, offered, n },
+        q: &q,
+    };
+    asked.task_at(Made { table, at, ps }, room)
 }
 
 // The answer to a question, for a book that was opened: 10, then 11 to 21, then the task's own.

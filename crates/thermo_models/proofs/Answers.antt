@@ -1,6 +1,6 @@
 -- What a caller of `activity` and `pure_liquids` learns from the result, and what the owner of a table learns from `tables`. Assumes nothing.
 use Prim.Native.Nat.{ℕ}
-use mathlib.Core.Path.{◌≡◌, refl, sym, ap, fun_ext}
+use mathlib.Core.Path.{◌≡◌, sym, ap, fun_ext}
 use mathlib.Core.List.{List}
 use lib.ListN.{length, replicate, length-replicate}
 use lib.Ieee.{Float}

@@ -14,9 +14,9 @@ use Rattle.floats.proofs.Fills.{fill-turn, fill_cong, vec-at}
 use Rattle.floats.proofs.Folds.{all_cong}
 use Rattle.floats.specs.Arithmetic.{0f}
 use Rattle.floats.specs.Small.{is_finite}
-use Rattle.floats.proofs.Outcomes.{need_yes, need-no}
+use Rattle.floats.proofs.Outcomes.{need_yes}
 use Rattle.outcome.specs.declared.Refusal.{Refusal}
-use Rattle.outcome.specs.Refused.{number, outcome_of}
+use Rattle.outcome.specs.Refused.{number}
 use Rattle.records.specs.declared.Ancillary.{Ancillary}
 use Rattle.numerics.specs.Numerics.{exp_of}
 use Rattle.thermo_types.specs.Quantities.{lowest_kelvin, highest_kelvin}
@@ -24,7 +24,7 @@ use Rattle.records.specs.Records.{ancillary_of, range_of}
 use Rattle.liquid.specs.Vapor.{Vapor, vapor_from, vapor_of, representable, vapor_pressure_of, in_range}
 use Rattle.liquid.proofs.Ways.{sound_of, sound_is}
 use Rattle.thermo_models.specs.Model.{Pures, PuresAre, pressures_of, pressure_slopes_of}
-use Rattle.thermo_models.specs.Domain.{vapor_record, vapor_range, density_range, solvent_covers, temperature_in_domain, pures_to, pure_liquids_of}
+use Rattle.thermo_models.specs.Domain.{vapor_record, vapor_range, density_range, solvent_covers, temperature_in_domain, pures_to}
 
 -- ---- what the loops keep
 pub logarithm_of : {a b : Ancillary} (t : Float) {l d c : Float} → a ≡ b → (l ≡ (vapor_of a t).ln_pressure) × (d ≡ (vapor_of a t).d_ln_pressure_dt) × (c ≡ (vapor_of a t).d2_ln_pressure_dt2)

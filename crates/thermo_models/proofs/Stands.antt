@@ -18,10 +18,8 @@ use Rattle.excess.specs.declared.Energies.{Energies}
 use Rattle.excess.specs.State.{Excess}
 use Rattle.excess.specs.Answers.{energies_of, excess_ln_gammas, excess_slopes, Gives}
 use Rattle.nrtl_tables.specs.Table.{Filled}
-use Rattle.nrtl.specs.On.{nrtl_on}
 use Rattle.nrtl.proofs.Tabled.{nrtl_filled}
 use Rattle.wilson_tables.specs.Table.{lambdas_of}
-use Rattle.wilson.specs.On.{wilson_on}
 use Rattle.wilson.proofs.Tabled.{wilson_filled}
 use Rattle.thermo_models.specs.declared.Tabled.{Tabled}
 use Rattle.thermo_models.specs.Model.{ActivityIs, ln_gamma_of, slopes_of}

@@ -2,7 +2,7 @@
 // temperature, and validity (models/activity.rs, nrtl.rs).
 #![tactic(auto)]
 
-ghost use Rattle.std.specs.Prelude.{◌≡◌, ◌≤◌, ◌<◌, true, not, ◌&&◌};
+ghost use Rattle.std.specs.Prelude.{◌≡◌, ◌<◌, true, not, ◌&&◌};
 ghost use Rattle.std.specs.Float.Ieee.{le};
 ghost use Rattle.floats.specs.Arithmetic.{0f};
 ghost use Rattle.floats.specs.Small.{is_finite};
@@ -19,6 +19,7 @@ ghost use Rattle.thermo_models.specs.Validity.{noted, visited, row_seen, all_see
 
 use book::Model;
 use excess::Energies;
+use floats::Count;
 use outcome::Refusal;
 use records::Interval;
 use thermo_types::{HIGHEST_KELVIN, LOWEST_KELVIN, Temperature};
@@ -34,10 +35,20 @@ fn solvent_covers(book: &[u8], t: f64, i: usize) -> bool
     liquid::in_range(a.0, a.1, t) & liquid::in_range(b.0, b.1, t)
 }
 
-fn all_cover(book: &[u8], t: f64, n: usize) -> bool
-    ensures { result ≡ all_to (solvent_covers book.now t) n }
-{
-    (0..n).all(|i| solvent_covers(book, t, i))
+// The solvents of a book, at a temperature in K.
+#[derive(Clone, Copy)]
+struct Solvents<'a> {
+    book: &'a [u8],
+    m: Count,
+    t: f64,
+}
+
+impl Solvents<'_> {
+    fn all_cover(self) -> bool
+        ensures { let s = self.entry in result ≡ all_to (solvent_covers s.book.now s.t) s.m.n }
+    {
+        (0..self.m.n).all(|i| solvent_covers(self.book, self.t, i))
+    }
 }
 
 // The model's temperatures and the two ranges of every solvent, absent ones too.
@@ -45,8 +56,8 @@ fn all_cover(book: &[u8], t: f64, n: usize) -> bool
 pub fn check_temperature(book: &[u8], n: usize, t: Temperature) -> bool
     ensures { result ≡ temperature_in_domain book.now (places n) t.0 }
 {
-    let v = t.value();
-    liquid::in_range(LOWEST_KELVIN, HIGHEST_KELVIN, v) & all_cover(book, v, floats::places(n))
+    let (m, t) = (Count::of(n), t.value());
+    liquid::in_range(LOWEST_KELVIN, HIGHEST_KELVIN, t) & Solvents { book, m, t }.all_cover()
 }
 
 // ACTIVITY_PRESSURE_RANGE_PA.
@@ -54,81 +65,71 @@ const LOWEST_PASCAL: f64 = 100.0;
 
 const HIGHEST_PASCAL: f64 = 500000.0;
 
-#[tactic(auto, unfolding(crate::specs::Model::pressure_in_domain))]
+#[tactic(auto, unfolding(crate::specs::Model::pressure_in_domain, liquid::specs::Vapor::in_range))]
 pub fn check_pressure(p: f64) -> bool
     ensures { result ≡ pressure_in_domain p }
 {
-    (LOWEST_PASCAL <= p) & (p <= HIGHEST_PASCAL)
+    liquid::in_range(LOWEST_PASCAL, HIGHEST_PASCAL, p)
 }
 
 // ---- the pure liquids at a temperature
 
-// ln p and its two derivatives of each solvent.
-fn fill_logarithms(
-    book: &[u8],
-    n: usize,
-    t: f64,
-    ls: &mut [f64; 8],
-    dps: &mut [f64; 8],
-    cs: &mut [f64; 8],
-)
-    requires { n ≤ 8 }
-    ensures ls_after { ls.new ≡ vec (λ i. (vapor_of (vapor_record book.now i) t).ln_pressure) n }
-    ensures dps_after { dps.new ≡ vec (λ i. (vapor_of (vapor_record book.now i) t).d_ln_pressure_dt) n }
-    ensures cs_after { cs.new ≡ vec (λ i. (vapor_of (vapor_record book.now i) t).d2_ln_pressure_dt2) n }
-{
-    *ls = [0.0; 8];
-    *dps = [0.0; 8];
-    *cs = [0.0; 8];
-    for i in 0..n {
-        let l = liquid::ln_pressure(records::vapor_pressure_record(book, i), t);
-        ls[i] = l.value;
-        dps[i] = l.slope;
-        cs[i] = l.curvature;
-    }
-}
-
 // p of ln p, two solvents to a step.
-fn fill_pressures(ls: &[f64; 8], n: usize, ps: &mut [f64; 8])
-    requires { n ≤ 8 }
-    ensures { ps.new ≡ vec (λ i. exp_of (at ls.now i)) n }
+// Kept: `numerics::exps` says nothing of the entries past n, so that a loop that clears them would follow it, and an odd n has one exp more.
+#[tactic(auto, unfolding(floats::specs::Vector::fill))]
+fn fill_pressures(ls: &[f64; 8], m: Count, ps: &mut [f64; 8])
+    ensures { ps.new ≡ vec (λ i. exp_of (at ls.now i)) m.n }
 {
     *ps = [0.0; 8];
-    for i in 0..n / 2 {
+    for i in 0..m.n / 2 {
         (ps[2 * i], ps[2 * i + 1]) = numerics::exp_two(ls[2 * i], ls[2 * i + 1]);
     }
-    if n % 2 == 1 {
-        ps[n - 1] = numerics::exp(ls[n - 1]);
+    if m.n % 2 == 1 {
+        ps[m.n - 1] = numerics::exp(ls[m.n - 1]);
     }
 }
 
-fn all_representable(ps: &[f64; 8], ls: &[f64; 8], dps: &[f64; 8], cs: &[f64; 8], n: usize) -> bool
-    requires { n ≤ 8 }
-    ensures { result ≡ all_to (λ i. is_finite (at ps.now i) && is_finite (at ls.now i) && is_finite (at dps.now i) && is_finite (at cs.now i) && not (le (at ps.now i) 0f)) n }
+fn all_representable(ps: &[f64; 8], ls: &[f64; 8], dps: &[f64; 8], cs: &[f64; 8], m: Count) -> bool
+    ensures { result ≡ all_to (λ i. is_finite (at ps.now i) && is_finite (at ls.now i) && is_finite (at dps.now i) && is_finite (at cs.now i) && not (le (at ps.now i) 0f)) m.n }
 {
-    (0..n).all(|i| liquid::is_representable(ps[i], ls[i], dps[i], cs[i]))
+    (0..m.n).all(|i| liquid::is_representable(ps[i], ls[i], dps[i], cs[i]))
 }
 
-// In the ranges of all solvents: refused where a vapor pressure isn't representable.
-fn fill_pures(
-    book: &[u8],
-    n: usize,
-    t: Temperature,
-    ps: &mut [f64; 8],
-    dps: &mut [f64; 8],
-) -> Result<(), Refusal>
-    requires { (n ≤ 8) × (all_to (solvent_covers book.now t.0) n ≡ true) }
-    ensures { PuresAre (pures_to book.now t.0 n) result ps.new dps.new }
-{
-    let mut ls = [0.0; 8];
-    let mut cs = [0.0; 8];
-    fill_logarithms(book, n, t.value(), &mut ls, dps, &mut cs);
-    fill_pressures(&ls, n, ps);
-    if !all_representable(ps, &ls, dps, &cs, n) {
-        excess::clear(ps, dps);
-        return Err(Refusal::ResultNotFinite);
+impl Solvents<'_> {
+    // ln p and its two derivatives of each.
+    // Kept: the slopes are the caller's own array; as [Logarithm; 8] they would be copied out of it in a loop more.
+    #[tactic(auto, unfolding(floats::specs::Vector::fill))]
+    fn fill_logarithms(self, ls: &mut [f64; 8], dps: &mut [f64; 8], cs: &mut [f64; 8])
+        ensures ls_after { let s = self.entry in ls.new ≡ vec (λ i. (vapor_of (vapor_record s.book.now i) s.t).ln_pressure) s.m.n }
+        ensures dps_after { let s = self.entry in dps.new ≡ vec (λ i. (vapor_of (vapor_record s.book.now i) s.t).d_ln_pressure_dt) s.m.n }
+        ensures cs_after { let s = self.entry in cs.new ≡ vec (λ i. (vapor_of (vapor_record s.book.now i) s.t).d2_ln_pressure_dt2) s.m.n }
+    {
+        *ls = [0.0; 8];
+        *dps = [0.0; 8];
+        *cs = [0.0; 8];
+        for i in 0..self.m.n {
+            let l = liquid::ln_pressure(records::vapor_pressure_record(self.book, i), self.t);
+            ls[i] = l.value;
+            dps[i] = l.slope;
+            cs[i] = l.curvature;
+        }
     }
-    Ok(())
+
+    // In the ranges of all: refused where a vapor pressure isn't representable.
+    fn fill_pures(self, ps: &mut [f64; 8], dps: &mut [f64; 8]) -> Result<(), Refusal>
+        requires { all_to (solvent_covers self.book.now self.t) self.m.n ≡ true }
+        ensures { let s = self.entry in PuresAre (pures_to s.book.now s.t s.m.n) result ps.new dps.new }
+    {
+        let mut ls = [0.0; 8];
+        let mut cs = [0.0; 8];
+        self.fill_logarithms(&mut ls, dps, &mut cs);
+        fill_pressures(&ls, self.m, ps);
+        if !all_representable(ps, &ls, dps, &cs, self.m) {
+            excess::clear(ps, dps);
+            return Err(Refusal::ResultNotFinite);
+        }
+        Ok(())
+    }
 }
 
 // p_sat (Pa) and its logarithmic slope (1/K) of each of the book's first n solvents at t; zeros with a refusal.
@@ -145,7 +146,8 @@ pub fn pure_liquids(
         excess::clear(ps, dps);
         return Err(Refusal::TemperatureOutside);
     }
-    fill_pures(book, floats::places(n), t, ps, dps)
+    let (m, t) = (Count::of(n), t.value());
+    Solvents { book, m, t }.fill_pures(ps, dps)
 }
 
 // ---- excess state and activity
@@ -193,6 +195,7 @@ pub fn tables(
 }
 
 // ln γ, slopes and energies of x, from a table and what it stands for.
+// Kept: table and Tabled, ln γ and slopes stand apart in public functions: the 512 cells are the caller's memory, and a Tabled is copied.
 #[tactic(auto, unfolding(crate::specs::Activity::excess_on, crate::specs::Activity::model_on))]
 pub fn excess(
     table: &[f64; 512],
@@ -267,57 +270,52 @@ fn note(interval: Option<Interval>, t: f64, s: Seen) -> Seen
     }
 }
 
-fn visit(
-    book: &[u8],
-    offered: &[u8],
+// The pairs of a book, at a temperature and a composition; one offered stands in the place of the book's own.
+// Kept: records has book, offered, place and m as a struct of its own, a private one, whose blocks it reads; here its public function does.
+#[derive(Clone, Copy)]
+struct Present<'a> {
+    book: &'a [u8],
+    offered: &'a [u8],
+    // Kept: 0 for no pair, as `records` has it: block 0 is no pair's, so one test of the place serves both.
     place: usize,
-    n: usize,
+    m: Count,
     t: f64,
-    x: &[f64; 8],
-    i: usize,
-    j: usize,
-    s: Seen,
-) -> Seen
-    requires { (n ≤ 8) × (i < j) × (j < n) × (place ≡ offered_place n book.now offered.now) }
-    ensures { result ≡ visited (with_pair n book.now offered.now) n t x.now i j s }
-{
-    if !(x[i] <= 0.0) & !(x[j] <= 0.0) {
-        let pair = records::pair_record(book, offered, place, n, i, j);
-        note(pair.regression, t, s)
-    } else {
+    x: &'a [f64; 8],
+    ghost placed: { place ≡ offered_place m.n book.now offered.now },
+}
+
+impl Present<'_> {
+    fn visit(self, i: usize, j: usize, s: Seen) -> Seen
+        requires { (i < j) × (j < self.m.n) }
+        ensures { let p = self.entry in result ≡ visited (with_pair p.m.n p.book.now p.offered.now) p.m.n p.t p.x.now i j s }
+    {
+        if !(self.x[i] <= 0.0) & !(self.x[j] <= 0.0) {
+            let pair = records::pair_record(self.book, self.offered, self.place, self.m.n, i, j);
+            note(pair.regression, self.t, s)
+        } else {
+            s
+        }
+    }
+
+    fn see_row(self, i: usize, mut s: Seen) -> Seen
+        requires { i < self.m.n }
+        ensures { let p = self.entry in result ≡ row_seen (with_pair p.m.n p.book.now p.offered.now) p.m.n p.t p.x.now i p.m.n s }
+    {
+        for j in i + 1..self.m.n {
+            s = self.visit(i, j, s);
+        }
         s
     }
-}
 
-fn see_row(
-    book: &[u8],
-    offered: &[u8],
-    place: usize,
-    n: usize,
-    t: f64,
-    x: &[f64; 8],
-    i: usize,
-    mut s: Seen,
-) -> Seen
-    requires { (n ≤ 8) × (i < n) × (place ≡ offered_place n book.now offered.now) }
-    ensures { result ≡ row_seen (with_pair n book.now offered.now) n t x.now i n s }
-{
-    for j in i + 1..n {
-        s = visit(book, offered, place, n, t, x, i, j, s);
+    fn see_all(self) -> Seen
+        ensures { let p = self.entry in result ≡ all_seen (with_pair p.m.n p.book.now p.offered.now) p.m.n p.t p.x.now }
+    {
+        let mut s = Seen::default();
+        for i in 0..self.m.n {
+            s = self.see_row(i, s);
+        }
+        s
     }
-    s
-}
-
-fn see_all(book: &[u8], offered: &[u8], n: usize, t: f64, x: &[f64; 8]) -> Seen
-    requires { n ≤ 8 }
-    ensures { result ≡ all_seen (with_pair n book.now offered.now) n t x.now }
-{
-    let place = records::offered_place(book, offered, n);
-    let mut s = Seen::default();
-    for i in 0..n {
-        s = see_row(book, offered, place, n, t, x, i, s);
-    }
-    s
 }
 
 #[tactic(auto, unfolding(crate::specs::Validity::status_of))]
@@ -338,7 +336,15 @@ fn status_of(s: Seen) -> ValidityStatus
 pub fn validity(book: &[u8], offered: &[u8], n: usize, t: Temperature, x: &[f64; 8]) -> Assessment
     ensures { result ≡ validity_of (with_pair (places n) book.now offered.now) (places n) t.0 x.now }
 {
-    let s = see_all(book, offered, floats::places(n), t.value(), x);
+    let pairs = Present {
+        book,
+        offered,
+        place: records::offered_place(book, offered, n),
+        m: Count::of(n),
+        t: t.value(),
+        x,
+    };
+    let s = pairs.see_all();
     Assessment {
         status: status_of(s),
         inferred: s.inferred,

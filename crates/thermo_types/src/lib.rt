@@ -109,6 +109,7 @@ pub fn sum(x: &[f64; 8], n: usize) -> f64
 }
 
 // |sum - 1| within the tolerance.
+#[tactic(auto, unfolding(crate::specs::Composition::sums_to_one))]
 pub fn sums_to_one(x: &[f64; 8], n: usize) -> bool
     ensures { result ≡ sums_to_one (at x.now) (places n) }
 {
@@ -116,6 +117,7 @@ pub fn sums_to_one(x: &[f64; 8], n: usize) -> bool
 }
 
 // The first n mole fractions are finite, not negative and sum to 1 within 1e-10.
+#[tactic(auto, unfolding(crate::specs::Composition::with_fractions, floats::specs::Outcome::need))]
 pub fn with_fractions(x: &[f64; 8], n: usize) -> Result<(), Refusal>
     ensures { outcome_of result ≡ with_fractions (at x.now) (places n) (ok tt) }
 {
@@ -132,6 +134,8 @@ pub fn with_fractions(x: &[f64; 8], n: usize) -> Result<(), Refusal>
 }
 
 // Each of the first n entries over s; 0.0 past them.
+// Kept: a loop to n; `from_fn` asks each of eight whether it is past n.
+#[tactic(auto, unfolding(floats::specs::Vector::fill))]
 pub fn divided(x: &[f64; 8], s: f64, n: usize) -> [f64; 8]
     ensures { result ≡ vec (λ i. at x.now i ⊘ s) (places n) }
 {
@@ -143,6 +147,7 @@ pub fn divided(x: &[f64; 8], s: f64, n: usize) -> [f64; 8]
 }
 
 // Each of the first n entries over their sum, whatever that is; 0.0 past them.
+#[tactic(auto, unfolding(crate::specs::Composition::shares_of))]
 pub fn shares(x: &[f64; 8], n: usize) -> [f64; 8]
     ensures { result ≡ shares_of (at x.now) (places n) }
 {
@@ -150,6 +155,7 @@ pub fn shares(x: &[f64; 8], n: usize) -> [f64; 8]
 }
 
 // The shares of a sum that is finite and positive.
+#[tactic(auto, unfolding(crate::specs::Composition::normalize_of, crate::specs::Composition::shares_of, floats::specs::Outcome::need))]
 pub fn normalize(x: &[f64; 8], n: usize) -> Result<[f64; 8], Refusal>
     ensures { outcome_of result ≡ normalize_of (at x.now) (places n) }
 {

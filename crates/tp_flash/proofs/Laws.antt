@@ -1,6 +1,6 @@
 -- Turns of the loops, and the ways out of a split and of a flash. Assumes nothing.
 use Prim.Native.Nat.{ℕ, suc, ◌+◌, ◌-◌, ◌<◌, ◌≤◌}
-use mathlib.Core.Path.{◌≡◌, refl, ◌∙◌, ap, sym}
+use mathlib.Core.Path.{◌≡◌, refl, ◌∙◌, ap}
 use mathlib.Core.Bool.{cond}
 use mathlib.Core.List.{List}
 use native.Mathlib.Numerals.{add-one}
@@ -47,9 +47,6 @@ module _ (E : List Float → Out Activity) (ps : List Float) (n : ℕ) (p : Floa
   module _ (tolerance : Float) where
     abbrev run : ℕ → ℕ → List Float → Out Split
     run left done lg = split_from E ps n p z tolerance left done lg
-
-    pub loop_start : (limit : ℕ) (lg : List Float) → split_from E ps n p z tolerance (limit - 0) 0 lg ≡ split_from E ps n p z tolerance limit 0 lg
-    loop_start limit lg = let a : limit - 0 ≡ limit = omega arith in rw a
 
     -- after `done` of at most `limit` turns: what is left to run from here is the whole run W
     module _ (limit done : ℕ) (lg : List Float) {W : Out Split} (whole : split_from E ps n p z tolerance (limit - done) done lg ≡ W) where

@@ -5,7 +5,7 @@ use Rattle.std.specs.Float.Ieee.{lt, le}
 use Rattle.floats.specs.Arithmetic.{◌⊖◌, #, 0f, 1f}
 use Rattle.floats.specs.Small.{min_of, abs_of}
 use Rattle.floats.specs.Vector.{at, zeros8}
-use Rattle.floats.specs.Outcome.{Out, ok, no, bind, need, choose}
+use Rattle.floats.specs.Outcome.{Out, ok, bind, need, choose}
 use Rattle.thermo_types.specs.Composition.{with_fractions}
 use Rattle.thermo_types.specs.declared.ActivityOptions.{ActivityOptions}
 use Rattle.thermo_models.specs.Model.{Activity, Activities, Liquids, pressure_in_domain}

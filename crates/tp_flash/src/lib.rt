@@ -24,7 +24,7 @@ pub enum FlashPhases {
 }
 
 // Pressures in Pa. `trials` are those of the liquid, where it was tested.
-// Kept: `tested` beside `trials`, for the reply has both words either way, and an Option would be taken apart into them again.
+// Kept: `tested`, which is true but for a vapor, and `trials` beside it, for the definition's Flash has both.
 #[derive(Clone, Copy)]
 pub struct ActivityTpFlash {
     pub phases: FlashPhases,
@@ -48,14 +48,13 @@ struct Saturated {
     dew: f64,
 }
 
-// A7-GAMMA-PHI is bit 0, A7-SPLIT-AT-SATURATION-BOUNDARY bit 1, A7-LIQUID-TPD-FINITE-TRIALS bit 2.
+// The word `notes` of the answer: A7-GAMMA-PHI is bit 0, A7-SPLIT-AT-SATURATION-BOUNDARY bit 1, A7-LIQUID-TPD-FINITE-TRIALS bit 2.
+// Kept: numbers, for they are that word itself, and the definitions have it as a number.
 const GAMMA_PHI: u64 = 1;
 
 const AT_BOUNDARY: u64 = 1 + 2;
 
 const FINITE_TRIALS: u64 = 1 + 4;
-
-// ---- the split at T and p
 
 // A converged split: vapor fraction, both phases, the largest gap of ln fugacities.
 #[derive(Clone, Copy)]
@@ -74,101 +73,6 @@ struct SplitTurn {
     activity: ActivityCoefficients,
 }
 
-// K_i = γ_i p_i^sat / p where the feed is positive, else 1.0, which no sum of Rachford-Rice reads.
-fn k_values(z: &[f64; 8], ps: &[f64; 8], p: Pressure, lg: &[f64; 8], n: usize) -> [f64; 8]
-    ensures { result ≡ k_values z.now ps.now p.0 lg.now (places n) }
-{
-    let ln_p = numerics::ln(p.value());
-    let mut k = [0.0; 8];
-    for i in 0..floats::places(n) {
-        k[i] = if z[i] > 0.0 {
-            numerics::exp(lg[i] + numerics::ln(ps[i]) - ln_p)
-        } else {
-            1.0
-        };
-    }
-    k
-}
-
-// The entries of a phase where the feed is positive, over their sum (34).
-fn phase_of(z: &[f64; 8], l: &[f64; 8], n: usize) -> Result<[f64; 8], Refusal>
-    ensures { outcome_of result ≡ phase_of z.now l.now (places n) }
-{
-    let mut w = [0.0; 8];
-    for i in 0..floats::places(n) {
-        w[i] = floats::pick(z[i] > 0.0, l[i], 0.0);
-    }
-    thermo_types::normalize(&w, n)
-}
-
-// max_i |ln(y_i p) - ln(x_i γ_i p_i^sat)| where the feed is positive.
-fn split_gap(
-    z: &[f64; 8],
-    lg: &[f64; 8],
-    ps: &[f64; 8],
-    p: Pressure,
-    x: &[f64; 8],
-    y: &[f64; 8],
-    n: usize,
-) -> f64
-    ensures { result ≡ split_gap z.now lg.now ps.now p.0 x.now y.now (places n) }
-{
-    let ln_p = numerics::ln(p.value());
-    let mut r = 0.0;
-    for i in 0..floats::places(n) {
-        if z[i] > 0.0 {
-            let gap = numerics::ln(y[i]) + ln_p - numerics::ln(x[i]) - lg[i] - numerics::ln(ps[i]);
-            r = floats::max(r, floats::abs(gap));
-        }
-    }
-    r
-}
-
-// max_i |β y_i + (1 - β) x_i - z_i|.
-fn balance(beta: f64, x: &[f64; 8], y: &[f64; 8], z: &[f64; 8], n: usize) -> f64
-    ensures { result ≡ balance_of beta x.now y.now z.now (places n) }
-{
-    (0..floats::places(n)).fold(0.0, |r, i| {
-        floats::max(r, floats::abs(beta * y[i] + (1.0 - beta) * x[i] - z[i]))
-    })
-}
-
-// The phases x and y of a solution of Rachford-Rice: the activity at x, and the gap (25).
-fn turn_at(
-    table: &[f64; 512],
-    at: Tabled,
-    z: &[f64; 8],
-    p: Pressure,
-    ps: &[f64; 8],
-    beta: f64,
-    x: [f64; 8],
-    y: [f64; 8],
-    iteration: u64,
-) -> Result<SplitTurn, Refusal>
-    ensures { outcome_of result ≡ turn_at (activity_on table.now at) ps.now (places at.n) p.0 z.now beta x y iteration }
-{
-    let mut lg = [0.0; 8];
-    let mut sl = [0.0; 8];
-    thermo_models::activity(table, at, &x, &mut lg, &mut sl)?;
-    let residual = split_gap(z, &lg, ps, p, &x, &y, at.n);
-    if !floats::is_finite(residual) {
-        return Err(Refusal::ResultNotFinite);
-    }
-    Ok(SplitTurn {
-        split: SplitPoint {
-            vapor_fraction: beta,
-            liquid: x,
-            vapor: y,
-            residual,
-            iterations: iteration,
-        },
-        activity: ActivityCoefficients {
-            ln_gamma: lg,
-            slopes: sl,
-        },
-    })
-}
-
 // RACHFORD_RICE_MAX_ITERATIONS, whatever the options say.
 const RACHFORD_RICE_MAX_ITERATIONS: u64 = 200;
 
@@ -182,65 +86,22 @@ fn vapor_fraction(outcome: RachfordRiceOutcome) -> f64
     }
 }
 
-// One turn from ln γ.
-fn split_turn(
-    table: &[f64; 512],
-    at: Tabled,
-    z: &[f64; 8],
-    p: Pressure,
-    ps: &[f64; 8],
-    lg: &[f64; 8],
-    iteration: u64,
-) -> Result<SplitTurn, Refusal>
-    ensures { outcome_of result ≡ split_turn (activity_on table.now at) ps.now (places at.n) p.0 z.now lg.now iteration }
+// A vapor fraction inside (0, 1).
+#[tactic(auto, unfolding(crate::specs::Tp::inside))]
+fn inside(beta: f64) -> bool
+    ensures { result ≡ inside beta }
 {
-    let k = k_values(z, ps, p, lg, at.n);
-    let rr = rachford_rice::rachford_rice_negative(z, &k, at.n, RACHFORD_RICE_MAX_ITERATIONS)?;
-    let x = phase_of(z, &rr.liquid, at.n)?;
-    let y = phase_of(z, &rr.vapor, at.n)?;
-    let beta = vapor_fraction(rr.outcome);
-    turn_at(table, at, z, p, ps, beta, x, y, iteration)
+    beta > 0.0 && beta < 1.0
 }
 
-// Successive substitution from ln γ of the feed, `start`; 27 where the turns are used up.
-fn split_from(
-    table: &[f64; 512],
-    at: Tabled,
-    o: ActivityOptions,
-    z: &[f64; 8],
-    p: Pressure,
-    ps: &[f64; 8],
-    start: &[f64; 8],
-) -> Result<SplitPoint, Refusal>
-    ensures { outcome_of result ≡ split_from (activity_on table.now at) ps.now (places at.n) p.0 z.now o.tolerance o.max_iterations 0 start.now }
-{
-    let mut lg = *start;
-    for done in 0..o.max_iterations {
-        let turn = split_turn(table, at, z, p, ps, &lg, done + 1)?;
-        if turn.split.residual <= o.tolerance {
-            return Ok(turn.split);
-        }
-        lg = turn.activity.ln_gamma;
-    }
-    Err(Refusal::NotConverged)
-}
+const SATURATION_BETA_ROUNDOFF: f64 = 1e-10;
 
-// ---- the phases of the feed
-
-// The trials of a liquid: 29 where they find a split.
-fn stable_liquid(
-    table: &[f64; 512],
-    at: Tabled,
-    o: ActivityOptions,
-    x: &[f64; 8],
-) -> Result<LiquidStability, Refusal>
-    ensures { outcome_of result ≡ stable_liquid (activity_on table.now at) (places at.n) o x.now }
+// At 0 or at 1 but for rounding.
+#[tactic(auto, unfolding(crate::specs::Tp::near_edge))]
+fn near_edge(beta: f64) -> bool
+    ensures { result ≡ near_edge beta }
 {
-    let trials = liquid_stability::liquid_stability(table, at, o, x)?;
-    if !trials.stable {
-        return Err(Refusal::LiquidUnstable);
-    }
-    Ok(trials)
+    floats::abs(floats::min(beta, 1.0 - beta)) <= SATURATION_BETA_ROUNDOFF
 }
 
 // A single phase, without its composition and its trials.
@@ -268,173 +129,276 @@ fn single_phase(
     }
 }
 
-// The feed as one vapor: its fractions.
-fn as_vapor(
-    n: usize,
-    z: &[f64; 8],
-    saturated: Saturated,
-    notes: u64,
-) -> Result<ActivityTpFlash, Refusal>
-    ensures { outcome_of result ≡ as_vapor (places n) z.now saturated.bubble saturated.dew notes }
-{
-    thermo_types::with_fractions(z, n)?;
-    Ok(ActivityTpFlash {
-        vapor: *z,
-        ..single_phase(FlashPhases::Vapor, saturated, 1.0, notes)
-    })
-}
-
-// The feed as one liquid: its trials (29), then its fractions.
-fn as_liquid(
-    table: &[f64; 512],
+// The feed z at p, with the vapor pressures ps of its solvents and the table of their activities, all at one temperature.
+#[derive(Clone, Copy)]
+struct Feed<'a> {
+    table: &'a [f64; 512],
     at: Tabled,
     o: ActivityOptions,
-    z: &[f64; 8],
-    saturated: Saturated,
-    notes: u64,
-) -> Result<ActivityTpFlash, Refusal>
-    ensures { outcome_of result ≡ as_liquid (activity_on table.now at) (places at.n) o z.now saturated.bubble saturated.dew notes }
-{
-    let trials = stable_liquid(table, at, o, z)?;
-    thermo_types::with_fractions(z, at.n)?;
-    Ok(ActivityTpFlash {
-        liquid: *z,
-        tested: true,
-        trials,
-        ..single_phase(FlashPhases::Liquid, saturated, 0.0, notes)
-    })
-}
-
-// Both phases: the trials of the liquid (29), then the fractions of the vapor and of the liquid.
-fn as_both(
-    table: &[f64; 512],
-    at: Tabled,
-    o: ActivityOptions,
-    z: &[f64; 8],
-    saturated: Saturated,
-    split: SplitPoint,
-) -> Result<ActivityTpFlash, Refusal>
-    ensures { outcome_of result ≡ as_both (activity_on table.now at) (places at.n) o z.now saturated.bubble saturated.dew split }
-{
-    let trials = stable_liquid(table, at, o, &split.liquid)?;
-    thermo_types::with_fractions(&split.vapor, at.n)?;
-    thermo_types::with_fractions(&split.liquid, at.n)?;
-    Ok(ActivityTpFlash {
-        phases: FlashPhases::Both,
-        bubble: saturated.bubble,
-        dew: saturated.dew,
-        iterations: split.iterations,
-        residual: split.residual,
-        balance: balance(split.vapor_fraction, &split.liquid, &split.vapor, z, at.n),
-        vapor_fraction: split.vapor_fraction,
-        notes: FINITE_TRIALS,
-        liquid: split.liquid,
-        vapor: split.vapor,
-        tested: true,
-        trials,
-    })
-}
-
-// A vapor fraction inside (0, 1).
-fn inside(beta: f64) -> bool
-    ensures { result ≡ inside beta }
-{
-    beta > 0.0 && beta < 1.0
-}
-
-const SATURATION_BETA_ROUNDOFF: f64 = 1e-10;
-
-// At 0 or at 1 but for rounding.
-fn near_edge(beta: f64) -> bool
-    ensures { result ≡ near_edge beta }
-{
-    floats::abs(floats::min(beta, 1.0 - beta)) <= SATURATION_BETA_ROUNDOFF
-}
-
-// The saturated single phase of a split at a boundary.
-fn at_boundary(
-    table: &[f64; 512],
-    at: Tabled,
-    o: ActivityOptions,
-    z: &[f64; 8],
-    saturated: Saturated,
-    beta: f64,
-) -> Result<ActivityTpFlash, Refusal>
-    ensures { outcome_of result ≡ boundary_of (activity_on table.now at) (places at.n) o z.now saturated.bubble saturated.dew beta }
-{
-    if beta >= 1.0 {
-        as_vapor(at.n, z, saturated, AT_BOUNDARY)
-    } else {
-        as_liquid(table, at, o, z, saturated, AT_BOUNDARY)
-    }
-}
-
-// A converged split: both phases, or the saturated single phase at a boundary; else 30.
-fn from_split(
-    table: &[f64; 512],
-    at: Tabled,
-    o: ActivityOptions,
-    z: &[f64; 8],
-    saturated: Saturated,
-    split: SplitPoint,
-) -> Result<ActivityTpFlash, Refusal>
-    ensures { outcome_of result ≡ from_split (activity_on table.now at) (places at.n) o z.now saturated.bubble saturated.dew split }
-{
-    let beta = split.vapor_fraction;
-    if inside(beta) {
-        as_both(table, at, o, z, saturated, split)
-    } else if near_edge(beta) {
-        at_boundary(table, at, o, z, saturated, beta)
-    } else {
-        Err(Refusal::VaporFractionOutside)
-    }
-}
-
-// p ≥ bubble is liquid, then p ≤ dew is vapor, else the split from the activity of the feed.
-fn between(
-    table: &[f64; 512],
-    at: Tabled,
-    o: ActivityOptions,
-    z: &[f64; 8],
+    z: &'a [f64; 8],
     p: Pressure,
-    ps: &[f64; 8],
-    feed: ActivityCoefficients,
-    saturated: Saturated,
-) -> Result<ActivityTpFlash, Refusal>
-    requires { activity_on table.now at z.now ≡ ok feed }
-    ensures { outcome_of result ≡ between_of (activity_on table.now at) (places at.n) o z.now p.0 ps.now saturated.bubble saturated.dew }
-{
-    let pressure = p.value();
-    if pressure >= saturated.bubble {
-        return as_liquid(table, at, o, z, saturated, GAMMA_PHI);
-    }
-    if pressure <= saturated.dew {
-        return as_vapor(at.n, z, saturated, GAMMA_PHI);
-    }
-    let split = split_from(table, at, o, z, p, ps, &feed.ln_gamma)?;
-    from_split(table, at, o, z, saturated, split)
+    ps: &'a [f64; 8],
 }
 
-// With one solvent present it is the bubble pressure.
-fn dew_pressure(
-    table: &[f64; 512],
-    at: Tabled,
-    o: ActivityOptions,
-    z: &[f64; 8],
-    ps: &[f64; 8],
-    bubble: f64,
-) -> Result<f64, Refusal>
-    ensures { outcome_of result ≡ dew_of (activity_on table.now at) (places at.n) o z.now ps.now bubble }
-{
-    if liquid_stability::present_count(z, at.n) == 1 {
-        return Ok(bubble);
+impl<'a> Feed<'a> {
+    // ---- the split at T and p
+
+    // Kept: loops to the count, for `array::from_fn` works out all eight; and `places(self.at.n)`, with no Count beside `at`, for
+    // trials and dew point take `at` and their contracts say `places at.n`.
+    // K_i = γ_i p_i^sat / p where the feed is positive, else 1.0, which no sum of Rachford-Rice reads.
+    #[tactic(auto, unfolding(crate::specs::Split::k_values, floats::specs::Vector::fill))]
+    fn k_values(self, lg: &[f64; 8]) -> [f64; 8]
+        ensures { let f = self.entry in result ≡ k_values f.z.now f.ps.now f.p.0 lg.now (places f.at.n) }
+    {
+        let ln_p = numerics::ln(self.p.value());
+        let mut k = [0.0; 8];
+        for i in 0..floats::places(self.at.n) {
+            k[i] = if self.z[i] > 0.0 {
+                numerics::exp(lg[i] + numerics::ln(self.ps[i]) - ln_p)
+            } else {
+                1.0
+            };
+        }
+        k
     }
-    let d = saturation::dew_at(table, at, z, ps, o)?;
-    Ok(d.pressure)
+
+    // The entries of a phase where the feed is positive, over their sum (34).
+    #[tactic(auto, using(crate::proofs::Laws::phase_is), unfolding(floats::specs::Vector::fill))]
+    fn phase_of(self, l: &[f64; 8]) -> Result<[f64; 8], Refusal>
+        ensures { outcome_of result ≡ phase_of self.entry.z.now l.now (places self.entry.at.n) }
+    {
+        let mut w = [0.0; 8];
+        for i in 0..floats::places(self.at.n) {
+            w[i] = floats::pick(self.z[i] > 0.0, l[i], 0.0);
+        }
+        thermo_types::normalize(&w, self.at.n)
+    }
+
+    // max_i |ln(y_i p) - ln(x_i γ_i p_i^sat)| where the feed is positive.
+    // Kept: a loop, for a fold's closure gives `r` back in an `else`, and is no plainer.
+    #[tactic(auto, unfolding(crate::specs::Split::split_gap, floats::specs::Fold::fold_to))]
+    fn split_gap(self, lg: &[f64; 8], x: &[f64; 8], y: &[f64; 8]) -> f64
+        ensures { let f = self.entry in result ≡ split_gap f.z.now lg.now f.ps.now f.p.0 x.now y.now (places f.at.n) }
+    {
+        let ln_p = numerics::ln(self.p.value());
+        let mut r = 0.0;
+        for i in 0..floats::places(self.at.n) {
+            if self.z[i] > 0.0 {
+                r = floats::max(r, saturation::gap(lg[i], self.ps[i], ln_p, x[i], y[i]));
+            }
+        }
+        r
+    }
+
+    // max_i |β y_i + (1 - β) x_i - z_i|.
+    fn balance(self, beta: f64, x: &[f64; 8], y: &[f64; 8]) -> f64
+        ensures { result ≡ balance_of beta x.now y.now self.entry.z.now (places self.entry.at.n) }
+    {
+        (0..floats::places(self.at.n)).fold(0.0, |r, i| {
+            floats::max(
+                r,
+                floats::abs(beta * y[i] + (1.0 - beta) * x[i] - self.z[i]),
+            )
+        })
+    }
+
+    // The phases x and y of a solution of Rachford-Rice: the activity at x, and the gap (25).
+    #[tactic(auto, using(outcome::proofs::Exits::met), unfolding(crate::specs::Split::turn_at, floats::specs::Outcome::bind))]
+    fn turn_at(
+        self,
+        beta: f64,
+        x: [f64; 8],
+        y: [f64; 8],
+        iteration: u64,
+    ) -> Result<SplitTurn, Refusal>
+        ensures { let f = self.entry in outcome_of result ≡ turn_at (activity_on f.table.now f.at) f.ps.now (places f.at.n) f.p.0 f.z.now beta x y iteration }
+    {
+        let mut activity = ActivityCoefficients {
+            ln_gamma: [0.0; 8],
+            slopes: [0.0; 8],
+        };
+        thermo_models::activity(
+            self.table,
+            self.at,
+            &x,
+            &mut activity.ln_gamma,
+            &mut activity.slopes,
+        )?;
+        let residual = self.split_gap(&activity.ln_gamma, &x, &y);
+        if !floats::is_finite(residual) {
+            return Err(Refusal::ResultNotFinite);
+        }
+        Ok(SplitTurn {
+            split: SplitPoint {
+                vapor_fraction: beta,
+                liquid: x,
+                vapor: y,
+                residual,
+                iterations: iteration,
+            },
+            activity,
+        })
+    }
+
+    // One turn from ln γ.
+    fn split_turn(self, lg: &[f64; 8], iteration: u64) -> Result<SplitTurn, Refusal>
+        ensures { let f = self.entry in outcome_of result ≡ split_turn (activity_on f.table.now f.at) f.ps.now (places f.at.n) f.p.0 f.z.now lg.now iteration }
+    {
+        let k = self.k_values(lg);
+        let rr = rachford_rice::rachford_rice_negative(
+            self.z,
+            &k,
+            self.at.n,
+            RACHFORD_RICE_MAX_ITERATIONS,
+        )?;
+        let x = self.phase_of(&rr.liquid)?;
+        let y = self.phase_of(&rr.vapor)?;
+        let beta = vapor_fraction(rr.outcome);
+        self.turn_at(beta, x, y, iteration)
+    }
+
+    // Successive substitution from ln γ of the feed, `start`; 27 where the turns are used up.
+    #[tactic(auto, using(crate::proofs::Laws::loop_out))]
+    fn split_from(self, start: &[f64; 8]) -> Result<SplitPoint, Refusal>
+        ensures { let f = self.entry in outcome_of result ≡ split_from (activity_on f.table.now f.at) f.ps.now (places f.at.n) f.p.0 f.z.now f.o.tolerance f.o.max_iterations 0 start.now }
+    {
+        let mut lg = *start;
+        for done in 0..self.o.max_iterations {
+            let turn = self.split_turn(&lg, done + 1)?;
+            if turn.split.residual <= self.o.tolerance {
+                return Ok(turn.split);
+            }
+            lg = turn.activity.ln_gamma;
+        }
+        Err(Refusal::NotConverged)
+    }
+
+    // ---- the phases of the feed
+
+    // The trials of a liquid: 29 where they find a split.
+    #[tactic(auto, using(outcome::proofs::Exits::met), unfolding(crate::specs::Tp::stable_liquid, floats::specs::Outcome::bind, floats::specs::Outcome::need))]
+    fn stable_liquid(self, x: &[f64; 8]) -> Result<LiquidStability, Refusal>
+        ensures { let f = self.entry in outcome_of result ≡ stable_liquid (activity_on f.table.now f.at) (places f.at.n) f.o x.now }
+    {
+        let trials = liquid_stability::liquid_stability(self.table, self.at, self.o, x)?;
+        if !trials.stable {
+            return Err(Refusal::LiquidUnstable);
+        }
+        Ok(trials)
+    }
+
+    // The feed as one vapor: its fractions.
+    #[tactic(auto, using(outcome::proofs::Exits::met, thermo_types::proofs::Passing::fractions_first), unfolding(crate::specs::Tp::as_vapor, floats::specs::Outcome::bind))]
+    fn as_vapor(self, saturated: Saturated, notes: u64) -> Result<ActivityTpFlash, Refusal>
+        ensures { outcome_of result ≡ as_vapor (places self.entry.at.n) self.entry.z.now saturated.bubble saturated.dew notes }
+    {
+        thermo_types::with_fractions(self.z, self.at.n)?;
+        Ok(ActivityTpFlash {
+            vapor: *self.z,
+            ..single_phase(FlashPhases::Vapor, saturated, 1.0, notes)
+        })
+    }
+
+    // The feed as one liquid: its trials (29), then its fractions.
+    #[tactic(auto, using(outcome::proofs::Exits::met, thermo_types::proofs::Passing::fractions_first), unfolding(crate::specs::Tp::as_liquid, floats::specs::Outcome::bind))]
+    fn as_liquid(self, saturated: Saturated, notes: u64) -> Result<ActivityTpFlash, Refusal>
+        ensures { let f = self.entry in outcome_of result ≡ as_liquid (activity_on f.table.now f.at) (places f.at.n) f.o f.z.now saturated.bubble saturated.dew notes }
+    {
+        let trials = self.stable_liquid(self.z)?;
+        thermo_types::with_fractions(self.z, self.at.n)?;
+        Ok(ActivityTpFlash {
+            liquid: *self.z,
+            tested: true,
+            trials,
+            ..single_phase(FlashPhases::Liquid, saturated, 0.0, notes)
+        })
+    }
+
+    // Both phases: the trials of the liquid (29), then the fractions of the vapor and of the liquid.
+    fn as_both(self, saturated: Saturated, split: SplitPoint) -> Result<ActivityTpFlash, Refusal>
+        ensures { let f = self.entry in outcome_of result ≡ as_both (activity_on f.table.now f.at) (places f.at.n) f.o f.z.now saturated.bubble saturated.dew split }
+    {
+        let trials = self.stable_liquid(&split.liquid)?;
+        thermo_types::with_fractions(&split.vapor, self.at.n)?;
+        thermo_types::with_fractions(&split.liquid, self.at.n)?;
+        Ok(ActivityTpFlash {
+            phases: FlashPhases::Both,
+            bubble: saturated.bubble,
+            dew: saturated.dew,
+            iterations: split.iterations,
+            residual: split.residual,
+            balance: self.balance(split.vapor_fraction, &split.liquid, &split.vapor),
+            vapor_fraction: split.vapor_fraction,
+            notes: FINITE_TRIALS,
+            liquid: split.liquid,
+            vapor: split.vapor,
+            tested: true,
+            trials,
+        })
+    }
+
+    // The saturated single phase of a split at a boundary.
+    #[tactic(auto, unfolding(crate::specs::Tp::boundary_of, floats::specs::Outcome::choose))]
+    fn at_boundary(self, saturated: Saturated, beta: f64) -> Result<ActivityTpFlash, Refusal>
+        ensures { let f = self.entry in outcome_of result ≡ boundary_of (activity_on f.table.now f.at) (places f.at.n) f.o f.z.now saturated.bubble saturated.dew beta }
+    {
+        if beta >= 1.0 {
+            self.as_vapor(saturated, AT_BOUNDARY)
+        } else {
+            self.as_liquid(saturated, AT_BOUNDARY)
+        }
+    }
+
+    // A converged split: both phases, or the saturated single phase at a boundary; else 30.
+    fn from_split(self, saturated: Saturated, split: SplitPoint) -> Result<ActivityTpFlash, Refusal>
+        ensures { let f = self.entry in outcome_of result ≡ from_split (activity_on f.table.now f.at) (places f.at.n) f.o f.z.now saturated.bubble saturated.dew split }
+    {
+        let beta = split.vapor_fraction;
+        if inside(beta) {
+            self.as_both(saturated, split)
+        } else if near_edge(beta) {
+            self.at_boundary(saturated, beta)
+        } else {
+            Err(Refusal::VaporFractionOutside)
+        }
+    }
+
+    // p ≥ bubble is liquid, then p ≤ dew is vapor, else the split from the activity of the feed.
+    fn between(
+        self,
+        saturated: Saturated,
+        activity: ActivityCoefficients,
+    ) -> Result<ActivityTpFlash, Refusal>
+        requires { activity_on self.table.now self.at self.z.now ≡ ok activity }
+        ensures { let f = self.entry in outcome_of result ≡ between_of (activity_on f.table.now f.at) (places f.at.n) f.o f.z.now f.p.0 f.ps.now saturated.bubble saturated.dew }
+    {
+        let pressure = self.p.value();
+        if pressure >= saturated.bubble {
+            return self.as_liquid(saturated, GAMMA_PHI);
+        }
+        if pressure <= saturated.dew {
+            return self.as_vapor(saturated, GAMMA_PHI);
+        }
+        let split = self.split_from(&activity.ln_gamma)?;
+        self.from_split(saturated, split)
+    }
+
+    // With one solvent present it is the bubble pressure.
+    #[tactic(auto, using(outcome::proofs::Exits::met), unfolding(crate::specs::Tp::dew_of, floats::specs::Outcome::choose, floats::specs::Outcome::bind))]
+    fn dew_pressure(self, bubble: f64) -> Result<f64, Refusal>
+        ensures { let f = self.entry in outcome_of result ≡ dew_of (activity_on f.table.now f.at) (places f.at.n) f.o f.z.now f.ps.now bubble }
+    {
+        if liquid_stability::present_count(self.z, self.at.n) == 1 {
+            return Ok(bubble);
+        }
+        let d = saturation::dew_at(self.table, self.at, self.z, self.ps, self.o)?;
+        Ok(d.pressure)
+    }
 }
 
 // The flash of the feed z at p, from the tables and the vapor pressures of a temperature: bubble and dew both, then the phases; what
 // bubble, dew, split and trials refuse (15 to 18, 24, 25, 27 to 30, 34).
+#[tactic(auto, using(outcome::proofs::Exits::met), unfolding(crate::specs::Tp::phases_of, saturation::specs::Saturation::bubble_at, floats::specs::Outcome::bind))]
 pub fn activity_tp_flash(
     table: &[f64; 512],
     at: Tabled,
@@ -445,18 +409,24 @@ pub fn activity_tp_flash(
 ) -> Result<ActivityTpFlash, Refusal>
     ensures { outcome_of result ≡ phases_of (activity_on table.now at) (places at.n) o z.now p.0 ps.now }
 {
-    let mut lg = [0.0; 8];
-    let mut sl = [0.0; 8];
-    thermo_models::activity(table, at, z, &mut lg, &mut sl)?;
-    let b = saturation::bubble_from(z, &lg, ps, at.n)?;
-    let dew = dew_pressure(table, at, o, z, ps, b.pressure)?;
-    let feed = ActivityCoefficients {
-        ln_gamma: lg,
-        slopes: sl,
+    let mut activity = ActivityCoefficients {
+        ln_gamma: [0.0; 8],
+        slopes: [0.0; 8],
     };
+    thermo_models::activity(table, at, z, &mut activity.ln_gamma, &mut activity.slopes)?;
+    let b = saturation::bubble_from(z, &activity.ln_gamma, ps, at.n)?;
+    let feed = Feed {
+        table,
+        at,
+        o,
+        z,
+        p,
+        ps,
+    };
+    let dew = feed.dew_pressure(b.pressure)?;
     let saturated = Saturated {
         bubble: b.pressure,
         dew,
     };
-    between(table, at, o, z, p, ps, feed, saturated)
+    feed.between(saturated, activity)
 }

@@ -1,4 +1,4 @@
--- The table's one Jet begins at plane 0, where the code adds no 0. Assumes nothing.
+-- The table's one Jet begins at plane 0, where the code adds no 0; logarithms of two sums at once. Assumes nothing.
 use Prim.Native.Nat.{ℕ, ◌+◌}
 use mathlib.Core.Path.{◌≡◌}
 use mathlib.Core.List.{List}
@@ -6,12 +6,14 @@ use native.Mathlib.Omega.{arith}
 use lib.Ieee.{Float}
 use Rattle.floats.specs.Vector.{at}
 use Rattle.jet.specs.declared.Jet.{Jet}
-use Rattle.jet.specs.Jets.{two_j}
-use Rattle.jet.specs.Planes.{jet_at, two_at}
+use Rattle.numerics.specs.Numerics.{ln_of}
+use Rattle.jet.specs.Jets.{ln_with, ln_j}
+use Rattle.jet.specs.Planes.{jet_at}
 
 pub jet_first : (m : List Float) (e : ℕ) → ◌≡◌ {A = Jet} (record { v = at m e; d = at m (64 + e); dd = at m (128 + e) }) (jet_at m 0 e)
 unfolding jet_at
 jet_first m e = let z : 0 + e ≡ e = omega arith in rw z
 
-pub two-first : (m : List Float) (e : ℕ) {r : Jet} → r ≡ two_j (at m e) (at m (64 + e)) → r ≡ two_at m 0 e
-two-first m e p = let z : 0 + e ≡ e = omega arith in rw z p
+-- the logarithm of a sum, where ln of its value is worked out beside another's
+pub ln_is : {k : Float} {s S l : Jet} → l ≡ ln_with k s → k ≡ ln_of s.v → s ≡ S → l ≡ ln_j S
+ln_is p q e = rw (p, q, e)

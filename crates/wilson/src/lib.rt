@@ -15,12 +15,15 @@ ghost use Rattle.wilson.specs.Sums.{row_s, quotients, wilson_from};
 ghost use Rattle.wilson.specs.On.{s_on, ln_s_on, ln_gamma_on, reduced_on, wilson_on};
 
 use excess::Energies;
+use floats::Count;
 use jet::Jet;
 use outcome::Refusal;
 use thermo_types::Temperature;
 
 // ---- the sums S and ln S
 
+// Kept: nrtl has a jet_at, a two_at, a keep_lns and a Liquid too; one pub fn for both has no `requires`, and would mask each index.
+// Kept: the bounds of indices (`e < 64`, `i < 8`): each is a loop's own, and a type for it would be made at each turn.
 fn jet_at(table: &[f64; 512], e: usize) -> Jet
     requires { e < 64 }
     ensures { result ≡ jet_at table.now 0 e }
@@ -39,48 +42,58 @@ fn two_at(table: &[f64; 512], e: usize) -> Jet
     Jet::two(table[e], table[64 + e])
 }
 
-// S_i.
-fn row_sum(table: &[f64; 512], x: &[f64; 8], n: usize, i: usize) -> Jet
-    requires { (n ≤ 8) × (i < 8) }
-    ensures { result ≡ row_s (jets table.now 0) (at x.now) n i }
-{
-    let mut s = Jet::constant(0.0);
-    for j in 0..n {
-        s = s.add(jet_at(table, i * 8 + j).scale(x[j]));
-    }
-    s
+// A table, and the mole fractions x of its solvents.
+#[derive(Clone, Copy)]
+struct Liquid<'a> {
+    table: &'a [f64; 512],
+    x: &'a [f64; 8],
+    m: Count,
 }
 
-// S_i and ln S_i into `sums`; the next partial sum of x_i ln S_i.
-fn sum_at(
-    total: Jet,
-    table: &[f64; 512],
-    x: &[f64; 8],
-    n: usize,
-    i: usize,
-    sums: &mut [f64; 32],
-) -> Jet
-    requires { (n ≤ 8) × (i < 8) }
-    ensures { SumTurn (s_on table.now (at x.now) n) (ln_s_on table.now (at x.now) n) (at x.now) i total result sums.old sums.new }
-{
-    let s = row_sum(table, x, n, i);
-    let l = s.ln();
-    sums[i * 4] = s.v;
-    sums[i * 4 + 1] = s.d;
-    sums[i * 4 + 2] = l.v;
-    sums[i * 4 + 3] = l.d;
-    total.add(l.scale(x[i]))
-}
-
-fn fill_sums(table: &[f64; 512], x: &[f64; 8], n: usize, sums: &mut [f64; 32]) -> Jet
-    requires { n ≤ 8 }
-    ensures { SumsTo (s_on table.now (at x.now) n) (ln_s_on table.now (at x.now) n) (at x.now) n result sums.old sums.new }
-{
-    let mut total = Jet::constant(0.0);
-    for i in 0..n {
-        total = sum_at(total, table, x, n, i, sums);
+impl Liquid<'_> {
+    // S_i.
+    fn row_sum(self, i: usize) -> Jet
+        requires { i < 8 }
+        ensures { let q = self.entry in result ≡ row_s (jets q.table.now 0) (at q.x.now) q.m.n i }
+    {
+        let mut s = Jet::constant(0.0);
+        for j in 0..self.m.n {
+            s = s.add(jet_at(self.table, i * 8 + j).scale(self.x[j]));
+        }
+        s
     }
-    total
+
+    // S_i and its logarithm l into `sums`; the next partial sum of x_i ln S_i.
+    fn keep_sum(self, total: Jet, i: usize, s: Jet, l: Jet, sums: &mut [f64; 32]) -> Jet
+        requires { i < 8 }
+        ensures { SumTurn (λ _. s) (λ _. l) (at self.entry.x.now) i total result sums.old sums.new }
+    {
+        sums[i * 4] = s.v;
+        sums[i * 4 + 1] = s.d;
+        sums[i * 4 + 2] = l.v;
+        sums[i * 4 + 3] = l.d;
+        total.add(l.scale(self.x[i]))
+    }
+
+    // Two solvents to a step: their logarithms side by side.
+    fn fill_sums(self, sums: &mut [f64; 32]) -> Jet
+        ensures { let q = self.entry in SumsTo (s_on q.table.now (at q.x.now) q.m.n) (ln_s_on q.table.now (at q.x.now) q.m.n) (at q.x.now) q.m.n result sums.old sums.new }
+    {
+        let n = self.m.n;
+        let mut total = Jet::constant(0.0);
+        for h in 0..n / 2 {
+            let (i, j) = (2 * h, 2 * h + 1);
+            let (s, r) = (self.row_sum(i), self.row_sum(j));
+            let (k, l) = numerics::ln_two(s.v, r.v);
+            total = self.keep_sum(total, i, s, s.ln_with(k), sums);
+            total = self.keep_sum(total, j, r, r.ln_with(l), sums);
+        }
+        if n % 2 == 1 {
+            let s = self.row_sum(n - 1);
+            total = self.keep_sum(total, n - 1, s, s.ln(), sums);
+        }
+        total
+    }
 }
 
 // ---- ln γ: value and slope; the second derivative isn't asked for
@@ -90,61 +103,6 @@ fn two_of(sums: &[f64; 32], k: usize) -> Jet
     ensures { result ≡ two_of sums.now k }
 {
     Jet::two(sums[k], sums[k + 1])
-}
-
-// x_k Λ_ki / S_k.
-fn quotient_at(table: &[f64; 512], sums: &[f64; 32], x: &[f64; 8], k: usize, i: usize) -> Jet
-    requires { (k < 8) × (i < 8) }
-    ensures { result ≡ div_j (scale_j (twos table.now 0 k i) (at x.now k)) (s_in sums.now k) }
-{
-    two_at(table, k * 8 + i)
-        .scale(x[k])
-        .div(two_of(sums, k * 4))
-}
-
-// Of W solvents from i on, side by side: their sums don't depend on each other, so the machine's lanes share the loop.
-fn quotients_from<const W: usize>(
-    table: &[f64; 512],
-    sums: &[f64; 32],
-    x: &[f64; 8],
-    n: usize,
-    i: usize,
-) -> [Jet; W]
-    requires { (n ≤ 8) × (i + W ≤ 8) }
-    ensures { Side (quotients (twos table.now 0) (s_in sums.now) (at x.now) n) i W result }
-{
-    let mut q = [Jet::constant(0.0); W];
-    for k in 0..n {
-        for w in 0..W {
-            q[w] = q[w].add(quotient_at(table, sums, x, k, i + w));
-        }
-    }
-    q
-}
-
-// 1 − ln S_i − q.
-fn ln_gamma_from(sums: &[f64; 32], q: Jet, i: usize) -> Jet
-    requires { i < 8 }
-    ensures { result ≡ sub_j (sub_j (const_j 1f) (r_in sums.now i)) q }
-{
-    Jet::constant(1.0).sub(two_of(sums, i * 4 + 2)).sub(q)
-}
-
-fn lns_from<const W: usize>(
-    table: &[f64; 512],
-    sums: &[f64; 32],
-    x: &[f64; 8],
-    n: usize,
-    i: usize,
-) -> [Jet; W]
-    requires { (n ≤ 8) × (i + W ≤ 8) }
-    ensures { Side (wilson_from (twos table.now 0) (s_in sums.now) (r_in sums.now) (at x.now) n) i W result }
-{
-    let mut l = quotients_from::<W>(table, sums, x, n, i);
-    for w in 0..W {
-        l[w] = ln_gamma_from(sums, l[w], i + w);
-    }
-    l
 }
 
 // One array after the other: that way neighbors of one are one store.
@@ -161,45 +119,87 @@ fn keep_lns<const W: usize>(l: [Jet; W], i: usize, ln_gamma: &mut [f64; 8], slop
     }
 }
 
-fn fill_lns(
-    table: &[f64; 512],
-    sums: &[f64; 32],
-    x: &[f64; 8],
-    n: usize,
-    ln_gamma: &mut [f64; 8],
-    slopes: &mut [f64; 8],
-)
-    requires { n ≤ 8 }
-    ensures { GammasTo (wilson_from (twos table.now 0) (s_in sums.now) (r_in sums.now) (at x.now) n) n ln_gamma.old slopes.old ln_gamma.new slopes.new }
-{
-    for h in 0..n / 2 {
-        let l = lns_from::<2>(table, sums, x, n, 2 * h);
-        keep_lns(l, 2 * h, ln_gamma, slopes);
+// A liquid with its sums S and ln S.
+#[derive(Clone, Copy)]
+struct Summed<'a> {
+    of: Liquid<'a>,
+    sums: &'a [f64; 32],
+}
+
+impl Summed<'_> {
+    // x_k Λ_ki / S_k.
+    fn quotient_at(self, k: usize, i: usize) -> Jet
+        requires { (k < 8) × (i < 8) }
+        ensures { let q = self.entry in result ≡ div_j (scale_j (twos q.of.table.now 0 k i) (at q.of.x.now k)) (s_in q.sums.now k) }
+    {
+        two_at(self.of.table, k * 8 + i)
+            .scale(self.of.x[k])
+            .div(two_of(self.sums, k * 4))
     }
-    if n % 2 == 1 {
-        let l = lns_from::<1>(table, sums, x, n, n - 1);
-        keep_lns(l, n - 1, ln_gamma, slopes);
+
+    // Of W solvents from i on, side by side: their sums don't depend on each other, so the machine's lanes share the loop.
+    fn quotients_from<const W: usize>(self, i: usize) -> [Jet; W]
+        requires { i + W ≤ 8 }
+        ensures { let q = self.entry in Side (quotients (twos q.of.table.now 0) (s_in q.sums.now) (at q.of.x.now) q.of.m.n) i W result }
+    {
+        let mut q = [Jet::constant(0.0); W];
+        for k in 0..self.of.m.n {
+            for w in 0..W {
+                q[w] = q[w].add(self.quotient_at(k, i + w));
+            }
+        }
+        q
+    }
+
+    // 1 − ln S_i − q.
+    fn ln_gamma_from(self, q: Jet, i: usize) -> Jet
+        requires { i < 8 }
+        ensures { result ≡ sub_j (sub_j (const_j 1f) (r_in self.entry.sums.now i)) q }
+    {
+        Jet::constant(1.0).sub(two_of(self.sums, i * 4 + 2)).sub(q)
+    }
+
+    fn lns_from<const W: usize>(self, i: usize) -> [Jet; W]
+        requires { i + W ≤ 8 }
+        ensures { let q = self.entry in Side (wilson_from (twos q.of.table.now 0) (s_in q.sums.now) (r_in q.sums.now) (at q.of.x.now) q.of.m.n) i W result }
+    {
+        let mut l = self.quotients_from::<W>(i);
+        for w in 0..W {
+            l[w] = self.ln_gamma_from(l[w], i + w);
+        }
+        l
+    }
+
+    fn fill_lns(self, ln_gamma: &mut [f64; 8], slopes: &mut [f64; 8])
+        ensures { let q = self.entry in GammasTo (wilson_from (twos q.of.table.now 0) (s_in q.sums.now) (r_in q.sums.now) (at q.of.x.now) q.of.m.n) q.of.m.n ln_gamma.old slopes.old ln_gamma.new slopes.new }
+    {
+        let n = self.of.m.n;
+        for h in 0..n / 2 {
+            keep_lns(self.lns_from::<2>(2 * h), 2 * h, ln_gamma, slopes);
+        }
+        if n % 2 == 1 {
+            keep_lns(self.lns_from::<1>(n - 1), n - 1, ln_gamma, slopes);
+        }
     }
 }
 
 // ---- the state
 
-// Of arrays that hold 0.0 everywhere.
+// ln γ, slopes and energies of the liquid, into arrays that hold 0.0 everywhere.
+// Kept: ln_gamma and slopes go side by side, as excess's functions take them; a struct of two `&mut` would be taken apart for each.
 fn state(
-    table: &[f64; 512],
-    n: usize,
+    of: Liquid,
     t: Temperature,
-    x: &[f64; 8],
     ln_gamma: &mut [f64; 8],
     slopes: &mut [f64; 8],
 ) -> Result<Energies, Refusal>
-    requires { (n ≤ 8) × (ln_gamma.now ≡ zeros8) × (slopes.now ≡ zeros8) }
-    ensures { Gives (state_from (reduced_on table.now (at x.now) n) (ln_gamma_on table.now (at x.now) n) n t.0) result ln_gamma.new slopes.new }
+    requires { (ln_gamma.now ≡ zeros8) × (slopes.now ≡ zeros8) }
+    ensures { let q = of.entry in Gives (state_from (reduced_on q.table.now (at q.x.now) q.m.n) (ln_gamma_on q.table.now (at q.x.now) q.m.n) q.m.n t.0) result ln_gamma.new slopes.new }
 {
     let mut sums = [0.0; 32];
-    let total = fill_sums(table, x, n, &mut sums);
-    fill_lns(table, &sums, x, n, ln_gamma, slopes);
-    excess::finite_state(total.neg(), n, t, ln_gamma, slopes)
+    let total = of.fill_sums(&mut sums);
+    Summed { of, sums: &sums }.fill_lns(ln_gamma, slopes);
+    excess::finite_state(total.neg(), of.m.n, t, ln_gamma, slopes)
 }
 
 // ln γ and slopes (1/K), 0.0 past n, and the energies at t and the mole fractions x, from a table.
@@ -215,5 +215,6 @@ pub fn excess(
 {
     excess::clear(ln_gamma, slopes);
     excess::with_state(t, x, n)?;
-    state(table, floats::places(n), t, x, ln_gamma, slopes)
+    let m = Count::of(n);
+    state(Liquid { table, x, m }, t, ln_gamma, slopes)
 }

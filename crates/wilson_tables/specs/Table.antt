@@ -2,17 +2,14 @@
 use Rattle.std.specs.Prelude.{ℕ, List, [], ◌∷◌, Float}
 use Rattle.floats.specs.Vector.{at}
 use Rattle.jet.specs.declared.Jet.{Jet}
-use Rattle.jet.specs.Planes.{plane_pairs, plane_rows}
+use Rattle.jet.specs.Planes.{plane_rows}
 use Rattle.wilson_tables.specs.Pair.{lambda_ij}
 
 -- what the table keeps of a pair
 unfoldable pub kept_of : Jet → ℕ → Float
 kept_of l k = at (l.v ∷ l.d ∷ l.dd ∷ []) k
 
--- the entries (i, j) and (j, i) for j below m, and the first r rows
-abbrev pub lambda_pairs : (ℕ → ℕ → Jet) → ℕ → ℕ → List Float → List Float
-lambda_pairs L i m old = plane_pairs (λ i j. kept_of (L i j)) 3 i m old
-
+-- the first r rows of n entries
 abbrev pub lambda_rows : (ℕ → ℕ → Jet) → ℕ → ℕ → List Float → List Float
 lambda_rows L n r old = plane_rows (λ i j. kept_of (L i j)) 3 n r old
 

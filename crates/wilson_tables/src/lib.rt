@@ -8,31 +8,22 @@ ghost use Rattle.std.proofs.Math.Nat.{le-add_right};
 ghost use Rattle.floats.specs.Arithmetic.{1f};
 ghost use Rattle.floats.specs.Vector.{at, places};
 ghost use Rattle.jet.specs.Jets.{const_j, exp_j};
-ghost use Rattle.wilson_tables.specs.Pair.{kelvin_j, ln_lambda_j};
+ghost use Rattle.wilson_tables.specs.Pair.{ln_lambda_j};
 ghost use Rattle.wilson_tables.specs.Table.{kept_of, lambdas_of};
 
 use jet::{Jet, Pairs};
 use thermo_types::Temperature;
 
-// T as a jet.
-fn kelvin(t: f64) -> Jet
-    ensures { result ≡ kelvin_j t }
-{
-    Jet {
-        v: t,
-        d: 1.0,
-        dd: 0.0,
-    }
-}
-
 // a + b/T, from a pair's parameters.
+#[tactic(auto, unfolding(crate::specs::Pair::ln_lambda_j, crate::specs::Pair::kelvin_j, jet::specs::Jets::two_j))]
 fn ln_lambda(p: [f64; 6], t: f64) -> Jet
     ensures { result ≡ ln_lambda_j p t 0 }
 {
-    Jet::constant(p[0]).add(Jet::constant(p[1]).div(kelvin(t)))
+    Jet::constant(p[0]).add(Jet::constant(p[1]).div(Jet::two(t, 1.0)))
 }
 
 // The three planes' cells.
+#[tactic(auto, unfolding(crate::specs::Table::kept_of))]
 fn kept(l: Jet) -> [f64; 3]
     ensures { (k : ℕ) → at result k ≡ kept_of l k }
 {

@@ -1,7 +1,7 @@
 -- `batch::answer` meets its contract. Assumes nothing.
-use mathlib.Core.Path.{sym, ◌∙◌, ap}
+use mathlib.Core.Path.{sym}
 use native.Mathlib.Omega.{arith}
-use Rattle.floats.specs.Outcome.{ok, bind, need}
+use Rattle.floats.specs.Outcome.{bind, need}
 use Rattle.batch.specs.Feeds.{feeds_of}
 use Rattle.batch.proofs.Calls.{ends, ends_exit, leaves, room-no, all_answered, few_feeds}
 use Rattle.batch.proofs.answer.Goals as goal
@@ -20,8 +20,8 @@ overflow_mul-count c = let few = few_feeds _ c.if-not-feeds_right.ensures in ome
 pub returns-then-out-count : goal.returns-then-out-count
 returns-then-out-count c = ends (room-no _ _ _ _ c.in_ok-head.ensures c.if-not-feeds_right.ensures c.if-out-count.true)
 
-pub answer_all-requires : goal.answer_all-requires
-answer_all-requires c = (few_feeds _ c.if-not-feeds_right.ensures, c.if-out-count.false)
+pub answer_feeds-requires : goal.answer_feeds-requires
+answer_feeds-requires c = (few_feeds _ c.if-not-feeds_right.ensures, c.if-out-count.false)
 
 pub returns : goal.returns
-returns c = rw c.answer_all.ensures (leaves _ (all_answered _ _ _ _ c.in_ok-head.ensures c.if-not-feeds_right.ensures c.if-out-count.false))
+returns c = rw c.answer_feeds.ensures (leaves _ (all_answered _ _ _ _ c.in_ok-head.ensures c.if-not-feeds_right.ensures c.if-out-count.false))

@@ -1,5 +1,4 @@
 -- `blocks::running_rows` meets its contract. The invariant: the eight sums after r rows. Assumes nothing.
-use Rattle.std.proofs.Common.{◌-◌}
 use Rattle.blocks.specs.Words.{word}
 use Rattle.blocks.proofs.Running.{Lanes}
 use Rattle.blocks.proofs.running_rows.Given as goal

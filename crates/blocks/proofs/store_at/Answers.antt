@@ -5,4 +5,4 @@ use Rattle.blocks.proofs.Laws.{block-put}
 use Rattle.blocks.proofs.store_at.Goals as goal
 
 pub returns : goal.returns
-returns c = block-put _ _ _ _ (c.sum_by-check.ensures (word_at c.args.ws.now) (λ k x l h. search rules)) c.store_words.ensures
+returns c = block-put _ _ _ _ (c.sum-check.ensures (word_at c.args.ws.now) (λ k x l h. search rules)) c.store_words.ensures

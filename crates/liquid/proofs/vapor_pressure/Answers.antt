@@ -5,10 +5,6 @@ use Rattle.liquid.specs.Vapor.{vapor_pressure_of}
 use Rattle.liquid.proofs.Ways.{vapor_is, sound_is}
 use Rattle.liquid.proofs.vapor_pressure.Goals as goal
 
-pub returns-then-not-in_range : goal.returns-then-not-in_range
-unfolding vapor_pressure_of need
-returns-then-not-in_range c = rw (← c.value-v.ensures, sym c.if-not-in_range.ensures)
-
 pub returns-then-not-is_representable : goal.returns-then-not-is_representable
 unfolding vapor_pressure_of need
 returns-then-not-is_representable c =

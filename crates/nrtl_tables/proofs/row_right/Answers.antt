@@ -7,4 +7,4 @@ use Rattle.nrtl_tables.specs.Pair.{alpha_right}
 use Rattle.nrtl_tables.proofs.row_right.Goals as goal
 
 pub returns : goal.returns
-returns c = all_of_range (alpha_right c.args.parameters.now c.args.b c.args.i) c.args.n refl c.all.ensures.ran (λ x q k. search (rules, tests)) (λ x q k. search (rules, tests))
+returns c = all_of_range (alpha_right c.args.parameters.now c.args.b c.args.i) c.args.m.n refl c.all.ensures.ran (λ x q k. search (rules, tests)) (λ x q k. search (rules, tests))

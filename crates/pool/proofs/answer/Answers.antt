@@ -1,12 +1,11 @@
 -- `pool::answer` meets its contract. Assumes nothing.
 use mathlib.Core.Path.{sym, ◌∙◌}
-use native.Mathlib.Nat.{min-le_right}
 use borrow.Author.Tests.{le-leb, lt-leb, ne_eqb}
 use Rattle.floats.specs.Outcome.{bind, need}
 use Rattle.sheet.specs.Sheet.{roomy}
 use Rattle.sheet.proofs.Laws.{refuses, quits}
 use Rattle.pool.specs.Pool.{fed_to, drums_to, pooled_from, pooled_of}
-use Rattle.pool.proofs.Laws.{counted, count_fits, feed_of_lem}
+use Rattle.pool.proofs.Laws.{counted, count_fits}
 use Rattle.pool.proofs.Calls.{asked, pooled}
 use Rattle.pool.proofs.answer.Goals as goal
 
@@ -31,56 +30,50 @@ pub returns-then-not-total_right : goal.returns-then-not-total_right
 unfolding drums_to need
 returns-then-not-total_right c = refuses (rw (
   asked _ _ _ _ c.in_ok-n.ensures c.if-out-lt-ANSWER_ROOM.false c.rule_of.ensures c.in_ok-read_task.ensures,
+  ← c.of-m.ensures,
   sym c.if-not-drums_right.ensures,
-  sym (c.if-not-total_right.ensures ∙ counted _ _ (min-le_right _ 8) c.pool_counts-counts.ensures),
+  sym (c.if-not-total_right.ensures ∙ counted _ _ c.of-m.result.few c.pool_counts-counts.ensures),
 ))
 
 pub returns-then-word-ne0 : goal.returns-then-word-ne0
 unfolding drums_to need
 returns-then-word-ne0 c = refuses (rw (
   asked _ _ _ _ c.in_ok-n.ensures c.if-out-lt-ANSWER_ROOM.false c.rule_of.ensures c.in_ok-read_task.ensures,
+  ← c.of-m.ensures,
   sym c.if-not-drums_right.ensures,
-  sym (c.if-not-total_right.ensures ∙ counted _ _ (min-le_right _ 8) c.pool_counts-counts.ensures),
+  sym (c.if-not-total_right.ensures ∙ counted _ _ c.of-m.result.few c.pool_counts-counts.ensures),
   ← c.word.ensures,
   ne_eqb _ 0 c.if-word-ne0.true,
 ))
 
 pub pool_feed-requires : goal.pool_feed-requires
-pool_feed-requires c = count_fits _ _ (min-le_right _ 8) c.pool_counts-counts.ensures (sym c.if-not-total_right.ensures)
+pool_feed-requires c = count_fits _ _ c.of-m.result.few c.pool_counts-counts.ensures (sym c.if-not-total_right.ensures)
 
 pub returns-in_err-x : goal.returns-in_err-x
 unfolding bind
-returns-in_err-x c = let t = c.if-not-total_right.ensures in
-    let e = c.pool_counts-counts.ensures in
-    quits _ _ c.from_residual-in_err-x.ensures.1 (rw (
-      asked _ _ _ _ c.in_ok-n.ensures c.if-out-lt-ANSWER_ROOM.false c.rule_of.ensures c.in_ok-read_task.ensures,
-      pooled _ _ _ _ c.if-not-drums_right.ensures (t ∙ counted _ _ (min-le_right _ 8) e) c.word.ensures c.if-word-ne0.false,
-      sym (feed_of_lem _ _ (min-le_right _ 8) e (sym t)),
-      sym c.in_err-x.ensures,
-    ))
+returns-in_err-x c = quits _ _ c.from_residual-in_err-x.ensures.1 (rw (
+  pooled _ _ _ _ c.in_ok-n.ensures c.if-out-lt-ANSWER_ROOM.false c.rule_of.ensures c.in_ok-read_task.ensures c.of-m.ensures c.if-not-drums_right.ensures
+      c.of-m.result.few c.pool_counts-counts.ensures c.if-not-total_right.ensures c.word.ensures c.if-word-ne0.false,
+  sym c.in_err-x.ensures,
+))
 
 pub returns-in_err-q : goal.returns-in_err-q
 unfolding fed_to bind
-returns-in_err-q c = let t = c.if-not-total_right.ensures in
-    let e = c.pool_counts-counts.ensures in
-    quits _ _ c.from_residual-in_err-q.ensures.1 (rw (
-      asked _ _ _ _ c.in_ok-n.ensures c.if-out-lt-ANSWER_ROOM.false c.rule_of.ensures c.in_ok-read_task.ensures,
-      pooled _ _ _ _ c.if-not-drums_right.ensures (t ∙ counted _ _ (min-le_right _ 8) e) c.word.ensures c.if-word-ne0.false,
-      sym (feed_of_lem _ _ (min-le_right _ 8) e (sym t)),
-      sym c.in_ok-x.ensures,
-      sym c.in_err-q.ensures,
-    ))
+returns-in_err-q c = quits _ _ c.from_residual-in_err-q.ensures.1 (rw (
+  pooled _ _ _ _ c.in_ok-n.ensures c.if-out-lt-ANSWER_ROOM.false c.rule_of.ensures c.in_ok-read_task.ensures c.of-m.ensures c.if-not-drums_right.ensures
+      c.of-m.result.few c.pool_counts-counts.ensures c.if-not-total_right.ensures c.word.ensures c.if-word-ne0.false,
+  sym c.in_ok-x.ensures,
+  c.of-m.ensures,
+  sym c.in_err-q.ensures,
+))
 
 pub returns : goal.returns
 unfolding fed_to roomy bind need
-returns c = let l = c.if-out-lt-ANSWER_ROOM.false in
-    let t = c.if-not-total_right.ensures in
-    let e = c.pool_counts-counts.ensures in
-    rw (
-      asked _ _ _ _ c.in_ok-n.ensures l c.rule_of.ensures c.in_ok-read_task.ensures,
-      pooled _ _ _ _ c.if-not-drums_right.ensures (t ∙ counted _ _ (min-le_right _ 8) e) c.word.ensures c.if-word-ne0.false,
-      sym (feed_of_lem _ _ (min-le_right _ 8) e (sym t)),
-      sym c.in_ok-x.ensures,
-      sym c.in_ok-q.ensures,
-    )
-    (rw (le-leb _ _ l) at c.answer_asked.ensures)
+returns c = rw (
+  pooled _ _ _ _ c.in_ok-n.ensures c.if-out-lt-ANSWER_ROOM.false c.rule_of.ensures c.in_ok-read_task.ensures c.of-m.ensures c.if-not-drums_right.ensures
+      c.of-m.result.few c.pool_counts-counts.ensures c.if-not-total_right.ensures c.word.ensures c.if-word-ne0.false,
+  sym c.in_ok-x.ensures,
+  c.of-m.ensures,
+  sym c.in_ok-q.ensures,
+)
+    (rw (le-leb _ _ c.if-out-lt-ANSWER_ROOM.false) at c.answer_asked.ensures)

@@ -9,28 +9,28 @@ pub returns-in_err-validate : goal.returns-in_err-validate
 unfolding constrained bind
 returns-in_err-validate c = rw (← validate_then, ← c.in_err-validate.ensures) (met c.in_err-validate.field-0.0 c.from_residual.result c.from_residual.ensures.1)
 
-pub returns-then-rachford_rice_residual : goal.returns-then-rachford_rice_residual
+pub returns-then-residual : goal.returns-then-residual
 unfolding constrained bind choose
-returns-then-rachford_rice_residual c = rw (
+returns-then-residual c = rw (
   ← validate_then,
   ← c.in_ok-validate.ensures,
-  ← c.places-m.ensures,
-  ← c.rachford_rice_residual.ensures,
-  c.if-rachford_rice_residual.true,
+  ← c.of.ensures,
+  ← c.residual.ensures,
+  c.if-residual.true,
   c.one_phase.ensures,
 )
 
-pub returns-then-rachford_rice_residual-2 : goal.returns-then-rachford_rice_residual-2
+pub returns-then-residual-2 : goal.returns-then-residual-2
 unfolding constrained bind choose
-returns-then-rachford_rice_residual-2 c = rw (
+returns-then-residual-2 c = rw (
   ← validate_then,
   ← c.in_ok-validate.ensures,
-  ← c.places-m.ensures,
-  ← c.rachford_rice_residual.ensures,
-  c.if-rachford_rice_residual.false,
-  ← c.rachford_rice_residual-2.ensures,
-  c.if-rachford_rice_residual-2.true,
-  c.one_phase-then-rachford_rice_residual-2.ensures,
+  ← c.of.ensures,
+  ← c.residual.ensures,
+  c.if-residual.false,
+  ← c.residual-2.ensures,
+  c.if-residual-2.true,
+  c.one_phase-then-residual-2.ensures,
 )
 
 pub returns : goal.returns
@@ -40,9 +40,9 @@ returns c = rw (
   ← c.in_ok-validate.ensures,
   ← validate_then,
   ← c.in_ok-validate.ensures,
-  ← c.places-m.ensures,
-  ← c.rachford_rice_residual.ensures,
-  c.if-rachford_rice_residual.false,
-  ← c.rachford_rice_residual-2.ensures,
-  c.if-rachford_rice_residual-2.false,
+  ← c.of.ensures,
+  ← c.residual.ensures,
+  c.if-residual.false,
+  ← c.residual-2.ensures,
+  c.if-residual-2.false,
 ) c.between.ensures

@@ -1,5 +1,4 @@
 -- `rachford_rice::rachford_rice_negative` meets its contract. Assumes nothing.
-use mathlib.Core.Path.{sym}
 use Rattle.floats.specs.Outcome.{bind}
 use Rattle.outcome.proofs.Exits.{met}
 use Rattle.rachford_rice.specs.Rachford.{negative}
@@ -12,4 +11,4 @@ returns-in_err-validate c = rw (← validate_then, ← c.in_err-validate.ensures
 
 pub returns : goal.returns
 unfolding negative bind
-returns c = rw (← validate_then, ← c.in_ok-validate.ensures, ← c.places.ensures) c.between.ensures
+returns c = rw (← validate_then, ← c.in_ok-validate.ensures, ← c.of.ensures) c.between.ensures

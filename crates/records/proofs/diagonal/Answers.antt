@@ -3,4 +3,4 @@ use Rattle.records.proofs.Loads.{none-stored}
 use Rattle.records.proofs.diagonal.Goals as goal
 
 pub returns : goal.returns
-returns c = none-stored _ _ c.set_terms.ensures
+returns c = let (t0, (t1, (t2, (t3, (a0, a1))))) = c.default.ensures in none-stored _ _ (rw (t0, t1, t2, t3, a0, a1) at c.set_terms.ensures)

@@ -5,6 +5,6 @@ use Rattle.records.proofs.row_from.Goals as goal
 
 pub returns : goal.returns
 returns c =
-    let low : c.min-i.result ≤ c.args.n = omega arith in
-    let e = row_code c.args.n c.min-i.result c.requires low in
-    (e ∙ row_capped c.args.n c.args.i c.min-i.ensures, omega (arith, e, row-few c.args.n c.min-i.result c.requires low))
+    let low : c.min-i.result ≤ c.args.m.n = omega arith in
+    let e = row_code c.args.m.n c.min-i.result c.args.m.few low in
+    (e ∙ row_capped c.args.m.n c.args.i c.min-i.ensures, omega (arith, e, row-few c.args.m.n c.min-i.result c.args.m.few low))

@@ -8,4 +8,4 @@ use Rattle.saturation.proofs.dew_at.Given as goal
 
 abbrev pub invariant-loop-done : goal.invariant-loop-done
 invariant-loop-done l =
-    dew_loop (activity_on l.table l.s) l.ps l.n l.y l.o.tolerance (l.done-end - l.done) l.done l.lg ≡ dew_at (activity_on l.table l.s) l.ps (places l.s.n) l.o l.y
+    dew_loop (activity_on l.table l.fn.s) l.ps l.vapor.m.n l.y l.o.tolerance (l.done-end - l.done) l.done l.lg ≡ dew_at (activity_on l.table l.fn.s) l.ps (places l.fn.s.n) l.o l.y

@@ -1,6 +1,5 @@
 -- `saturation_temperature::activity_dew_temperature` meets its contract. Assumes nothing.
 use Rattle.std.proofs.Common.{◌≡◌, rules}
-use Rattle.floats.specs.Vector.{places}
 use Rattle.floats.specs.Outcome.{ok, bind, need}
 use Rattle.outcome.proofs.Exits.{met}
 use Rattle.thermo_models.specs.Activity.{activity_of}
@@ -10,30 +9,26 @@ use Rattle.saturation_temperature.specs.Answers.{dew_tried}
 use Rattle.saturation_temperature.proofs.Points.{dew-first, dew-answer}
 use Rattle.saturation_temperature.proofs.activity_dew_temperature.Goals as goal
 
-pub returns-then-not-check_pressure : goal.returns-then-not-check_pressure
-unfolding dew_temperature saturation_temperature need
-returns-then-not-check_pressure c = rw (← c.value-p.ensures, ← c.if-not-check_pressure.ensures)
-
 pub returns-in_err-root : goal.returns-in_err-root
 unfolding dew_temperature saturation_temperature need bind
 returns-in_err-root c =
-    let n = places c.args.n in
+    let n = c.of.result.n in
     let E = activity_of c.args.book.now c.args.parameters.now n in
     let L = pure_liquids_of c.args.book.now n in
     let p = c.value-p.result in
-    rw (met c.in_err-root.field-0.0 c.from_residual.result c.from_residual.ensures.1, ← c.value-p.ensures, ← c.if-not-check_pressure.ensures)
+    rw (met c.in_err-root.field-0.0 c.from_residual.result c.from_residual.ensures.1, ← c.of.ensures, ← c.value-p.ensures, ← c.if-not-check_pressure.ensures)
     (rw (← c.in_err-root.ensures.root (dew_point E L n c.args.o p c.args.y.now) (λ t r q. dew-first _ _ _ _ _ c.args.o t (search rules))))
 
 pub returns : goal.returns
 unfolding dew_temperature saturation_temperature need
 returns c =
-    let n = places c.args.n in
+    let n = c.of.result.n in
     let E = activity_of c.args.book.now c.args.parameters.now n in
     let L = pure_liquids_of c.args.book.now n in
     let p = c.value-p.result in
     let q = c.in_ok-root.ensures.beside.1 in
     let k : ok (c.in_ok-root.ensures.beside.0, (c.in_ok-root.d, c.in_ok-root.ps)) ≡ dew_tried E L n c.args.o p c.args.y.now c.in_ok-root.root.temperature = search rules in
-    rw (← c.value-p.ensures, ← c.if-not-check_pressure.ensures)
+    rw (← c.of.ensures, ← c.value-p.ensures, ← c.if-not-check_pressure.ensures)
     (dew-answer _ _ _ _ _ c.args.o
     (c.in_ok-root.ensures.root (dew_point E L n c.args.o p c.args.y.now) (λ t r q. dew-first _ _ _ _ _ c.args.o t (search rules)))
     k

@@ -3,4 +3,4 @@ use Rattle.records.proofs.Offered.{copy-nothing}
 use Rattle.sheet.proofs.make_ready.Goals as goal
 
 pub returns : goal.returns
-returns c l = rw copy-nothing at (c.ready_offered.ensures l)
+returns c l = rw copy-nothing at c.ready.ensures

@@ -6,4 +6,4 @@ pub returns-in-Ok : goal.returns-in-Ok
 returns-in-Ok c = sent_answer _ _ c.requires c.in-Ok.ensures c.answer_length.ensures
 
 pub returns-in-Err : goal.returns-in-Err
-returns-in-Err c = sent_refusal _ _ c.requires c.in-Err.refusal c.in-Err.ensures c.rule_of.ensures (rw c.from.ensures at c.write_refusal.ensures)
+returns-in-Err c = sent_refusal _ _ c.requires _ c.in-Err.ensures c.rule_of.ensures (rw c.from.ensures at c.write_refusal.ensures)

@@ -11,4 +11,4 @@ use Rattle.floats.proofs.Chains.{all_of_range}
 use Rattle.thermo_models.proofs.all_representable.Goals as goal
 
 pub returns : goal.returns
-returns c = all_of_range (λ i. is_finite (at c.args.ps.now i) && is_finite (at c.args.ls.now i) && is_finite (at c.args.dps.now i) && is_finite (at c.args.cs.now i) && not (le (at c.args.ps.now i) 0f)) c.args.n refl c.all.ensures.ran (λ x q k. search (rules, tests)) (λ x q k. search (rules, tests))
+returns c = all_of_range (λ i. is_finite (at c.args.ps.now i) && is_finite (at c.args.ls.now i) && is_finite (at c.args.dps.now i) && is_finite (at c.args.cs.now i) && not (le (at c.args.ps.now i) 0f)) c.args.m.n refl c.all.ensures.ran (λ x q k. search (rules, tests)) (λ x q k. search (rules, tests))

@@ -1,6 +1,5 @@
 -- `thermo_models::pure_liquids` meets its contract: the domain's test, then the liquids. Assumes nothing.
 use mathlib.Core.Path.{sym}
-use native.Mathlib.Omega.{arith}
 use Rattle.floats.proofs.Outcomes.{need-no}
 use Rattle.floats.specs.Outcome.{need}
 use Rattle.thermo_models.specs.Domain.{pure_liquids_of}
@@ -12,8 +11,8 @@ unfolding pure_liquids_of
 returns-then-not-check_temperature c = pures_none _ (need-no 22 _ (sym c.if-not-check_temperature.ensures)) c.clear.ensures.cleared_values c.clear.ensures.cleared_slopes
 
 pub fill_pures-requires : goal.fill_pures-requires
-fill_pures-requires c = (omega arith, rw (← c.places.ensures) at (covers _ _ _ c.if-not-check_temperature.ensures))
+fill_pures-requires c = rw (← c.of-m.ensures, ← c.value-t.ensures) at (covers _ _ _ c.if-not-check_temperature.ensures)
 
 pub returns : goal.returns
 unfolding pure_liquids_of need
-returns c = rw (← c.if-not-check_temperature.ensures, ← c.places.ensures) c.fill_pures.ensures
+returns c = rw (← c.if-not-check_temperature.ensures, ← c.of-m.ensures, ← c.value-t.ensures) c.fill_pures.ensures

@@ -1,14 +1,10 @@
 -- `tp_flash::activity_tp_flash` meets its contract. Assumes nothing.
 use Rattle.floats.specs.Outcome.{bind}
 use Rattle.outcome.proofs.Exits.{met}
-use Rattle.thermo_models.proofs.Answers.{activity-passed, activity-refused}
+use Rattle.thermo_models.proofs.Answers.{activity-passed}
 use Rattle.saturation.specs.Saturation.{bubble_at}
 use Rattle.tp_flash.specs.Tp.{phases_of, from_dew}
 use Rattle.tp_flash.proofs.activity_tp_flash.Goals as goal
-
-pub returns-in_err-activity : goal.returns-in_err-activity
-unfolding phases_of bubble_at bind
-returns-in_err-activity c = rw (met c.in_err-activity.field-0.0 c.from_residual.result c.from_residual.ensures.1, activity-refused _ c.in_err-activity.ensures)
 
 pub returns-in_err-b : goal.returns-in_err-b
 unfolding phases_of bubble_at bind

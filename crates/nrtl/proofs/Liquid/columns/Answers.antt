@@ -1,0 +1,16 @@
+use native.Mathlib.Omega.{arith}
+use Rattle.floats.specs.Fold.{fold_to}
+use Rattle.jet.proofs.Sums.{sum_jet_turn}
+use Rattle.excess.proofs.Steps.{side-same, turning-next}
+use Rattle.nrtl.specs.Columns.{col_s}
+use Rattle.nrtl.proofs.Liquid.columns.Goals as goal
+
+pub loop-k-init : goal.loop-k-init
+unfolding col_s fold_to
+loop-k-init g c = side-same (λ v l. c.constant-s.ensures)
+
+pub loop-w-preserved : goal.loop-w-preserved
+unfolding col_s
+loop-w-preserved g c =
+    let t = c.loop-w.invariant in
+    turning-next c.loop-w.w c.loop-w-test.true (sum_jet_turn _ _ _ c.add.ensures c.part.ensures (t.left c.loop-w.w (omega arith) c.loop-w-test.true)) t

@@ -1,5 +1,0 @@
-use Rattle.rachford_rice.proofs.Laws.{solution-is}
-use Rattle.rachford_rice.proofs.solution.Goals as goal
-
-pub returns : goal.returns
-returns c = search solution-is

@@ -1,0 +1,25 @@
+-- `saturation::Vapor::point` meets its contract. Assumes nothing.
+use Rattle.floats.specs.Outcome.{bind}
+use Rattle.outcome.proofs.Exits.{met}
+use Rattle.saturation.proofs.Answers.{places_is}
+use Rattle.saturation.proofs.Laws.{point-from}
+use Rattle.saturation.proofs.Vapor.point.Goals as goal
+
+pub returns-in_err-pressure : goal.returns-in_err-pressure
+unfolding bind
+returns-in_err-pressure c = rw (met c.in_err-pressure.field-0.0 c.from_residual.result c.from_residual.ensures.1, point-from, ← c.in_err-pressure.ensures)
+
+pub returns-in_err-residual : goal.returns-in_err-residual
+unfolding bind
+returns-in_err-residual c =
+    rw (
+      met c.in_err-residual.field-0.0 c.from_residual-in_err-residual.result c.from_residual-in_err-residual.ensures.1,
+      point-from,
+      ← c.in_ok-pressure.ensures,
+      ← places_is _ c.args.self.m.few,
+      ← c.in_err-residual.ensures,
+    )
+
+pub returns : goal.returns
+unfolding bind
+returns c = rw (point-from, ← c.in_ok-pressure.ensures, ← places_is _ c.args.self.m.few, ← c.in_ok-residual.ensures)

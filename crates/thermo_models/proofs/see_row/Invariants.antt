@@ -1,8 +1,0 @@
--- `thermo_models::see_row` meets its contract: the loop is the definition's fold over j from i + 1 on. Assumes nothing.
-use mathlib.Core.Path.{◌≡◌}
-use Rattle.records.specs.Offered.{with_pair}
-use Rattle.thermo_models.specs.Validity.{row_seen}
-use Rattle.thermo_models.proofs.see_row.Given as goal
-
-abbrev pub invariant-loop-j : goal.invariant-loop-j
-invariant-loop-j l = l.s ≡ row_seen (with_pair l.n l.book l.offered) l.n l.t l.x l.i l.j l.fn.s
