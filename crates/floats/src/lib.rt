@@ -1,4 +1,4 @@
-// The small functions on f64, each equal to its definition in specs/Small.antt.
+// The small functions on f64, each equal to its definition in specs/Small.antt, and a count of at most eight.
 #![tactic(auto)]
 
 ghost use Rattle.std.specs.Prelude.{◌≡◌, ◌≤◌, if◌then◌else◌};
@@ -15,13 +15,14 @@ pub fn is_finite(x: f64) -> bool
 }
 
 // Finite and above 0.
+#[tactic(auto, unfolding(crate::specs::Small::positive))]
 pub fn positive(v: f64) -> bool
     ensures { result ≡ positive v }
 {
     is_finite(v) && 0.0 < v
 }
 
-// Kept: std's `max` and `min` leave open which of 0.0 and -0.0 they give, and the definitions don't.
+// Kept: std's `max` and `min` leave open which of 0.0 and -0.0 they give, so the definitions can't be proved of them.
 pub fn max(a: f64, b: f64) -> f64
     ensures { result ≡ max_of a b }
 {
@@ -34,7 +35,7 @@ pub fn min(a: f64, b: f64) -> f64
     if a.is_nan() || b < a { b } else { a }
 }
 
-// Kept: std's `abs` tests twice.
+// Kept: std's `abs` tests twice, and by its contract it clears a sign, where the definition takes x off 0.
 pub fn abs(x: f64) -> f64
     ensures { result ≡ abs_of x }
 {
@@ -42,6 +43,7 @@ pub fn abs(x: f64) -> f64
 }
 
 // One of two that are both worked out: a select, and no branch.
+// Kept: std's `select_unpredictable` has the same contract and the same body, and would stand here as its one call.
 pub fn pick(first: bool, a: f64, b: f64) -> f64
     ensures { result ≡ (if first then a else b) }
 {
@@ -68,7 +70,7 @@ pub fn places(n: usize) -> usize
     n.min(8)
 }
 
-// How many solvents count: at most the eight that there is room for.
+// How many of eight places are taken: by solvents, or by a correlation's terms.
 #[derive(Clone, Copy)]
 pub struct Count {
     pub n: usize,

@@ -15,6 +15,7 @@ pub struct Jet {
     pub dd: f64,
 }
 
+// Kept: add to div are public methods, by the names that the Rust's `Jet` gives them, and no traits of std::ops.
 impl Jet {
     // A number that doesn't depend on the temperature.
     #[tactic(auto, unfolding(crate::specs::Jets::const_j, crate::specs::Jets::two_j))]
@@ -159,6 +160,7 @@ pub trait Pairs<const M: usize> {
 }
 
 // The six parameters of the pair (i, j), from (i * 8 + j) * 6 on; indices modulo 8.
+// Kept: by `from_fn` the check finds that each index is within, not that the array is the definition's list of six.
 pub fn pair(parameters: &[f64; 384], i: usize, j: usize) -> [f64; 6]
     ensures { result ≡ six parameters.now (i % 8 * 8 + j % 8) }
 {
@@ -173,6 +175,8 @@ pub fn pair(parameters: &[f64; 384], i: usize, j: usize) -> [f64; 6]
     ]
 }
 
+// Kept: i, j and e are a loop's own; a type for them would be made at each turn.
+#[tactic(auto, unfolding(floats::specs::Fold::fold_to))]
 fn keep<const M: usize>(cells: [f64; M], e: usize, table: &mut [f64; 512])
     requires { (M ≤ 8) × (e < 64) }
     ensures { table.new ≡ spread (at cells.entry) e M table.old }
@@ -183,6 +187,7 @@ fn keep<const M: usize>(cells: [f64; M], e: usize, table: &mut [f64; 512])
 }
 
 // Row i up to the diagonal, and column i.
+#[tactic(auto, unfolding(floats::specs::Fold::fold_to))]
 fn fill_border<const M: usize, P: Pairs<M>>(
     pairs: &P,
     parameters: &[f64; 384],
@@ -200,6 +205,7 @@ fn fill_border<const M: usize, P: Pairs<M>>(
 }
 
 // All ordered pairs of n solvents; the table's other places stay as they are.
+#[tactic(auto, unfolding(floats::specs::Fold::fold_to))]
 pub fn fill_pairs<const M: usize, P: Pairs<M>>(
     pairs: &P,
     parameters: &[f64; 384],

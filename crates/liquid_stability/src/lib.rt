@@ -56,17 +56,10 @@ struct Measured {
 }
 
 // How many of the first n fractions are positive.
-#[tactic(auto, unfolding(crate::specs::Stability::present_count, floats::specs::Fold::fold_to))]
 pub fn present_count(x: &[f64; 8], n: usize) -> usize
     ensures { result ≡ present_count x.now (places n) }
 {
-    let mut count = 0;
-    for i in 0..floats::places(n) {
-        if 0.0 < x[i] {
-            count += 1;
-        }
-    }
-    count
+    x[..floats::places(n)].iter().filter(|v| 0.0 < **v).count()
 }
 
 // ln γ of x; its slopes aren't used here.
