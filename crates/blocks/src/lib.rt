@@ -34,6 +34,7 @@ fn byte_at(s: &[u8], at: usize) -> u8
 }
 
 // A word that the slice's end may cut short, each byte tested by itself.
+#[tactic(auto, unfolding(crate::specs::Words::word))]
 fn short_word(s: &[u8], k: usize) -> u64
     ensures { result ≡ word s.now k }
 {
@@ -44,6 +45,7 @@ fn short_word(s: &[u8], k: usize) -> u64
 }
 
 // Word k of a slice, of a block as a rule. Bytes past the end count as 0.
+#[tactic(auto, unfolding(crate::specs::Words::word))]
 pub fn word(s: &[u8], k: usize) -> u64
     ensures { result ≡ word s.now k }
 {
@@ -71,6 +73,7 @@ pub fn block(book: &[u8], k: usize) -> &[u8]
 impl Rule {
     // The sum of words 0 to 62, modulo 2^64.
     // Kept: `match self` is the definition by cases.
+    #[tactic(auto, unfolding(crate::specs::Words::sum_by))]
     fn sum<F: Fn(usize) -> u64>(self, word: F) -> u64
         requires { TakesWords (F.pre word) }
         ensures { (w : ℕ → ℕ) → GivesWords (F.post word) w → result ≡ sum_by self w }
@@ -151,6 +154,7 @@ fn running_rows(s: &[u8]) -> u64
 // The sum of a block's words 0 to 62 by a rule. A whole block has loops of its own: with `word`'s test in it the sum takes
 // four times as long.
 // Kept: `match rule` is the definition by cases.
+#[tactic(auto, unfolding(crate::specs::Words::word, crate::specs::Words::sum_by))]
 fn block_sum(rule: Rule, s: &[u8]) -> u64
     ensures { result ≡ sum_by rule (word s.now) }
 {
@@ -171,6 +175,7 @@ fn block_sum(rule: Rule, s: &[u8]) -> u64
 }
 
 // Is word 63 of a block the check of the words before it?
+#[tactic(auto, unfolding(crate::specs::Words::check_right))]
 pub fn check_right(rule: Rule, s: &[u8]) -> bool
     ensures { result ≡ check_right rule (word s.now) }
 {
@@ -195,6 +200,7 @@ pub fn write_word(out: &mut [u8], k: usize, w: u64)
 }
 
 // Words 0 to 62 of `ws`, then word 63.
+#[tactic(auto, unfolding(crate::specs::Bytes::row_to))]
 fn store_words(out: &mut [u8], ws: &[u64; 64], check: u64)
     requires { 512 ≤ length out.old }
     ensures { out.new ≡ (row_to (λ k. bytes (word_at ws.now k)) 63 ++ bytes check) ++ drop 512 out.old }
