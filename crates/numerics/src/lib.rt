@@ -42,6 +42,7 @@ fn power(a: i64) -> f64
 }
 
 // C * v plus 0.5, or minus, if v < 0.
+#[tactic(auto, unfolding(crate::specs::Numerics::exp_shift))]
 fn exp_shift(v: f64) -> f64
     ensures { result ≡ exp_shift v }
 {
@@ -158,6 +159,7 @@ pub fn exp_two(a: f64, b: f64) -> (f64, f64)
 }
 
 // exp of the first n entries, two at a time. Nothing is said of the entries past n.
+#[tactic(auto, unfolding(floats::specs::Vector::fill))]
 pub fn exps(v: &[f64; 8], n: usize) -> [f64; 8]
     ensures { (k : ℕ) → k < places n → at result k ≡ exp_of (at v.now k) }
 {
@@ -176,6 +178,7 @@ fn shift_up(digits: u64) -> u32
     digits.leading_zeros() - 11
 }
 
+#[tactic(auto, unfolding(crate::specs::Numerics::ln_from))]
 fn ln_from(k: f64, m: f64) -> f64
     ensures { result ≡ ln_from k m }
 {
@@ -193,6 +196,7 @@ fn ln_from(k: f64, m: f64) -> f64
     k * A - ((h - (s * (h + l) + k * B)) - f)
 }
 
+#[tactic(auto, unfolding(crate::specs::Numerics::ln_split))]
 fn ln_split(k: i64, m: f64) -> f64
     requires { mag k < 1999 }
     ensures { result ≡ ln_split k m }
@@ -238,6 +242,7 @@ fn ln_positive(v: f64) -> f64
     }
 }
 
+#[tactic(auto, unfolding(crate::specs::Numerics::ln_of))]
 pub fn ln(v: f64) -> f64
     ensures { result ≡ ln_of v }
 {
