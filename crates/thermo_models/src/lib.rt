@@ -133,6 +133,7 @@ impl Solvents<'_> {
 }
 
 // p_sat (Pa) and its logarithmic slope (1/K) of each of the book's first n solvents at t; zeros with a refusal.
+#[tactic(auto, unfolding(crate::specs::Domain::pure_liquids_of, floats::specs::Outcome::need))]
 pub fn pure_liquids(
     book: &[u8],
     n: usize,
@@ -285,6 +286,7 @@ struct Present<'a> {
 }
 
 impl Present<'_> {
+    #[tactic(auto, unfolding(crate::specs::Validity::visited))]
     fn visit(self, i: usize, j: usize, s: Seen) -> Seen
         requires { (i < j) × (j < self.m.n) }
         ensures { let p = self.entry in result ≡ visited (with_pair p.m.n p.book.now p.offered.now) p.m.n p.t p.x.now i j s }
@@ -307,6 +309,7 @@ impl Present<'_> {
         s
     }
 
+    #[tactic(auto, unfolding(floats::specs::Fold::fold_to, crate::specs::Validity::all_seen))]
     fn see_all(self) -> Seen
         ensures { let p = self.entry in result ≡ all_seen (with_pair p.m.n p.book.now p.offered.now) p.m.n p.t p.x.now }
     {

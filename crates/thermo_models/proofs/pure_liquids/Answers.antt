@@ -12,7 +12,3 @@ returns-then-not-check_temperature c = pures_none _ (need-no 22 _ (sym c.if-not-
 
 pub fill_pures-requires : goal.fill_pures-requires
 fill_pures-requires c = rw (← c.of-m.ensures, ← c.value-t.ensures) at (covers _ _ _ c.if-not-check_temperature.ensures)
-
-pub returns : goal.returns
-unfolding pure_liquids_of need
-returns c = rw (← c.if-not-check_temperature.ensures, ← c.of-m.ensures, ← c.value-t.ensures) c.fill_pures.ensures
