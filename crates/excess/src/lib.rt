@@ -91,6 +91,7 @@ pub fn state(
 }
 
 // The same where the first n ln γ and slopes are finite, else 25.
+#[tactic(auto, unfolding(crate::specs::State::finite_state, floats::specs::Outcome::need))]
 pub fn finite_state(
     e: Jet,
     n: usize,
