@@ -292,6 +292,7 @@ pub fn dew_at(
 
 // Bubble pressure of the feed x, p = Σ x_i γ_i p_i^sat, from the tables and the vapor pressures of a temperature: what
 // `activity` refuses, 25, and 23 where the pressure isn't in the domain.
+#[tactic(auto, unfolding(crate::specs::Saturation::bubble_task, crate::specs::Saturation::bubble_at, floats::specs::Outcome::bind, floats::specs::Outcome::need, crate::specs::Saturation::residual))]
 pub fn activity_bubble_pressure(
     table: &[f64; 512],
     s: Tabled,

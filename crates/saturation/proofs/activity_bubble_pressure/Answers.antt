@@ -5,10 +5,6 @@ use Rattle.thermo_models.proofs.Answers.{activity-passed, activity-refused}
 use Rattle.saturation.specs.Saturation.{bubble_at, residual, bubble_task}
 use Rattle.saturation.proofs.activity_bubble_pressure.Goals as goal
 
-pub returns-in_err-activity : goal.returns-in_err-activity
-unfolding bubble_task bubble_at bind
-returns-in_err-activity c = rw (met c.in_err-activity.field-0.0 c.from_residual.result c.from_residual.ensures.1, activity-refused _ c.in_err-activity.ensures)
-
 pub returns-in_err-pressure : goal.returns-in_err-pressure
 unfolding bubble_task bubble_at bind
 returns-in_err-pressure c =
