@@ -52,6 +52,7 @@ struct Liquid<'a> {
 
 impl Liquid<'_> {
     // S_i.
+    #[tactic(auto, unfolding(crate::specs::Sums::row_s, floats::specs::Fold::fold_to))]
     fn row_sum(self, i: usize) -> Jet
         requires { i < 8 }
         ensures { let q = self.entry in result ≡ row_s (jets q.table.now 0) (at q.x.now) q.m.n i }
@@ -76,6 +77,7 @@ impl Liquid<'_> {
     }
 
     // Two solvents to a step: their logarithms side by side.
+    #[tactic(auto, unfolding(floats::specs::Fold::fold_to))]
     fn fill_sums(self, sums: &mut [f64; 32]) -> Jet
         ensures { let q = self.entry in SumsTo (s_on q.table.now (at q.x.now) q.m.n) (ln_s_on q.table.now (at q.x.now) q.m.n) (at q.x.now) q.m.n result sums.old sums.new }
     {
@@ -106,6 +108,7 @@ fn two_of(sums: &[f64; 32], k: usize) -> Jet
 }
 
 // One array after the other: that way neighbors of one are one store.
+#[tactic(auto, unfolding(floats::specs::Vector::fill_from))]
 fn keep_lns<const W: usize>(l: [Jet; W], i: usize, ln_gamma: &mut [f64; 8], slopes: &mut [f64; 8])
     requires { i + W ≤ 8 }
     ensures values { ln_gamma.new ≡ fill_from (λ w. (jet_of l.entry w).v) i W ln_gamma.old }
@@ -138,6 +141,7 @@ impl Summed<'_> {
     }
 
     // Of W solvents from i on, side by side: their sums don't depend on each other, so the machine's lanes share the loop.
+    #[tactic(auto, unfolding(crate::specs::Sums::quotients, floats::specs::Fold::fold_to))]
     fn quotients_from<const W: usize>(self, i: usize) -> [Jet; W]
         requires { i + W ≤ 8 }
         ensures { let q = self.entry in Side (quotients (twos q.of.table.now 0) (s_in q.sums.now) (at q.of.x.now) q.of.m.n) i W result }
@@ -159,6 +163,7 @@ impl Summed<'_> {
         Jet::constant(1.0).sub(two_of(self.sums, i * 4 + 2)).sub(q)
     }
 
+    #[tactic(auto, unfolding(crate::specs::Sums::wilson_from))]
     fn lns_from<const W: usize>(self, i: usize) -> [Jet; W]
         requires { i + W ≤ 8 }
         ensures { let q = self.entry in Side (wilson_from (twos q.of.table.now 0) (s_in q.sums.now) (r_in q.sums.now) (at q.of.x.now) q.of.m.n) i W result }
@@ -170,6 +175,7 @@ impl Summed<'_> {
         l
     }
 
+    #[tactic(auto, unfolding(floats::specs::Vector::fill))]
     fn fill_lns(self, ln_gamma: &mut [f64; 8], slopes: &mut [f64; 8])
         ensures { let q = self.entry in GammasTo (wilson_from (twos q.of.table.now 0) (s_in q.sums.now) (r_in q.sums.now) (at q.of.x.now) q.of.m.n) q.of.m.n ln_gamma.old slopes.old ln_gamma.new slopes.new }
     {
