@@ -40,6 +40,7 @@ pub const HIGHEST_KELVIN: f64 = 450.0;
 const SUM_TOLERANCE: f64 = 1e-10;
 
 // A finite positive number, else this refusal.
+#[tactic(auto, unfolding(crate::specs::Quantities::positive_of, floats::specs::Small::positive, floats::specs::Outcome::need))]
 fn positive(v: f64, refusal: Refusal) -> Result<f64, Refusal>
     ensures { outcome_of result ≡ positive_of v (number refusal) }
 {
@@ -51,6 +52,7 @@ fn positive(v: f64, refusal: Refusal) -> Result<f64, Refusal>
 }
 
 impl Temperature {
+    #[tactic(auto, unfolding(floats::specs::Outcome::bind))]
     pub fn new(v: f64) -> Result<Temperature, Refusal>
         ensures { outcome_of result ≡ temperature_of v }
     {
@@ -65,6 +67,7 @@ impl Temperature {
 }
 
 impl Pressure {
+    #[tactic(auto, unfolding(floats::specs::Outcome::bind))]
     pub fn new(v: f64) -> Result<Pressure, Refusal>
         ensures { outcome_of result ≡ pressure_of v }
     {
