@@ -175,6 +175,7 @@ impl Feed<'_> {
 
     // f(T) = ln Σ w_i - ln p, beside ln γ of the feed and the vapor pressures: 13, the activity of the feed (24, 25), then the
     // pure liquids (22, 25).
+    #[tactic(auto, unfolding(crate::specs::Answers::bubble_tried, floats::specs::Outcome::bind))]
     fn try_bubble(self, t: f64) -> Result<(Point, ([f64; 8], [f64; 8])), Refusal>
         ensures { let f = self.entry in outcome_of result ≡ bubble_tried (activity_of f.book.now f.parameters.now f.m.n) (pure_liquids_of f.book.now f.m.n) f.m.n f.p f.z.now t }
     {
@@ -265,6 +266,7 @@ impl Feed<'_> {
     }
 
     // f(T) = ln p_dew(T) - ln p, beside the dew point and the vapor pressures: 13, the pure liquids (22, 25), then the dew point.
+    #[tactic(auto, unfolding(crate::specs::Answers::dew_tried, floats::specs::Outcome::bind, crate::specs::Boiling::dew_slope))]
     fn try_dew(self, o: ActivityOptions, t: f64) -> Result<(Point, (DewPoint, [f64; 8])), Refusal>
         ensures { let f = self.entry in outcome_of result ≡ dew_tried (activity_of f.book.now f.parameters.now f.m.n) (pure_liquids_of f.book.now f.m.n) f.m.n o f.p f.z.now t }
     {

@@ -5,10 +5,6 @@ use Rattle.saturation_temperature.specs.Answers.{bubble_tried}
 use Rattle.saturation_temperature.proofs.Points.{kelvin_ok, kelvin-no, feed-is, feed-no, pures-is, pures-no}
 use Rattle.saturation_temperature.proofs.Feed.try_bubble.Goals as goal
 
-pub returns-in_err-kelvin : goal.returns-in_err-kelvin
-unfolding bubble_tried bind
-returns-in_err-kelvin c = rw (met c.in_err-kelvin.field-0.0 c.from_residual.result c.from_residual.ensures.1, kelvin-no _ c.in_err-kelvin.ensures)
-
 pub returns-in_err-activity : goal.returns-in_err-activity
 unfolding bubble_tried bind
 returns-in_err-activity c =
