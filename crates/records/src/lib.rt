@@ -86,6 +86,7 @@ fn solvent_block(book: &[u8], i: usize) -> &[u8]
 
 // The correlation from word f on.
 // Kept: a word's place, with room for the record behind it; as an enum of two records it would be turned into 3 or 24 here.
+#[tactic(auto, unfolding(crate::specs::Records::ancillary_of))]
 fn ancillary_at(s: &[u8], f: usize) -> Ancillary
     requires { f ≤ 24 }
     ensures { result ≡ ancillary_of (word s.now) f }
@@ -101,6 +102,7 @@ fn ancillary_at(s: &[u8], f: usize) -> Ancillary
     }
 }
 
+#[tactic(auto, unfolding(crate::specs::Records::range_of))]
 fn range_at(s: &[u8], f: usize) -> Range
     requires { f ≤ 24 }
     ensures { result ≡ range_of (word s.now) f }
@@ -138,6 +140,7 @@ fn row_from(m: Count, i: usize) -> usize
     1 + n + (i * (2 * n - i) - i) / 2
 }
 
+#[tactic(auto, unfolding(book::specs::Places::pair_place))]
 fn pair_place(m: Count, i: usize, j: usize) -> usize
     requires { j ≤ 8 }
     ensures { result ≡ pair_place m.n i j }
@@ -166,6 +169,7 @@ pub fn offered_place(book: &[u8], offered: &[u8], n: usize) -> usize
     if place < book.len() / 512 { place } else { 0 }
 }
 
+#[tactic(auto, unfolding(crate::specs::Records::regression_of))]
 fn regression_at(s: &[u8]) -> Option<Interval>
     ensures { result ≡ regression_of (word s.now) }
 {
@@ -182,6 +186,7 @@ fn regression_at(s: &[u8]) -> Option<Interval>
 // Tau of the pair (i, j) from word 3 on, alpha from word 11 on. The last word first: past the test for it the others need none,
 // those of the caller neither.
 #[inline(always)]
+#[tactic(auto, unfolding(crate::specs::Parameters::terms_of, crate::specs::Parameters::term_in))]
 fn nrtl_terms(s: &[u8]) -> Terms
     ensures { result ≡ terms_of (term_in (word s.now) 3) }
 {
@@ -196,6 +201,7 @@ fn nrtl_terms(s: &[u8]) -> Terms
 }
 
 // a and b from word f on.
+#[tactic(auto, unfolding(crate::specs::Parameters::terms_of, crate::specs::Parameters::wilson_term))]
 fn wilson_terms(s: &[u8], f: usize) -> Terms
     requires { f ≤ 7 }
     ensures { result ≡ terms_of (wilson_term (word s.now) f) }
@@ -210,6 +216,7 @@ fn wilson_terms(s: &[u8], f: usize) -> Terms
 // Of the pair (i, j), i < j, and of (j, i), in their block. NRTL has one alpha for both.
 // Kept: a definition by cases; `Model` is `book`'s, and as its method this would want a trait for one call.
 #[inline(always)]
+#[tactic(auto, unfolding(crate::specs::Parameters::pair_term, crate::specs::Parameters::terms_of, crate::specs::Parameters::term_in, crate::specs::Parameters::lower_from))]
 fn both_terms(model: Model, s: &[u8]) -> (Terms, Terms)
     ensures upper { result.0 ≡ terms_of (pair_term model (word s.now) 3) }
     ensures lower { result.1 ≡ terms_of (pair_term model (word s.now) (lower_from model)) }
@@ -230,6 +237,7 @@ fn both_terms(model: Model, s: &[u8]) -> (Terms, Terms)
     }
 }
 
+#[tactic(auto, unfolding(crate::specs::Records::pair_of))]
 fn pair_in(model: Model, s: &[u8]) -> Pair
     ensures { result ≡ pair_of model (word s.now) }
 {
@@ -298,6 +306,7 @@ impl<'a> PairBlocks<'a> {
     }
 
     // Row i up to the diagonal, and column i.
+    #[tactic(auto, unfolding(floats::specs::Fold::fold_to))]
     fn fill_border(self, i: usize, plane: &mut [f64; 384])
         requires { i < 8 }
         ensures { plane.new ≡ parameter_border (offered_parameter self.entry.model self.entry.book.now self.entry.offered.now self.entry.place self.entry.m.n) i i plane.old }
