@@ -45,6 +45,7 @@ fn pool_count(drums: &[u8], i: usize) -> u64
 
 // Of the solvents that count, 0 past them.
 // Kept: a loop to n, here and in `amounts`: `from_fn` would go over all eight.
+#[tactic(auto, unfolding(floats::specs::Vector::fill))]
 fn pool_counts(drums: &[u8], m: Count) -> [u64; 8]
     ensures { result ≡ fill (λ i. min (pool_count drums.now i) (2 ^ 53 + 1)) m.n (replicate 8 0) }
 {
@@ -64,6 +65,7 @@ fn total_right(counts: &[u64; 8], m: Count) -> bool
 }
 
 // Counts as floats, each exact.
+#[tactic(auto, unfolding(floats::specs::Vector::fill))]
 fn amounts(counts: &[u64; 8], m: Count) -> [f64; 8]
     requires { (i : ℕ) → i < m.n → word_at counts.now i ≤ 2 ^ 53 }
     ensures { result ≡ vec (λ i. amount (word_at counts.now i)) m.n }
