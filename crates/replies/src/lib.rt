@@ -120,6 +120,7 @@ fn put_floats(ws: &mut [u64; 64], from: usize, x: &[f64; 8])
     }
 }
 
+#[tactic(auto, unfolding(crate::specs::Blocks::state_words, crate::specs::Blocks::model_words, crate::specs::Blocks::answer_words, floats::specs::Vector::fill_from))]
 pub fn answer_words(task: u64, b: AnswerBlock) -> [u64; 64]
     ensures { result ≡ answer_words task b }
 {
