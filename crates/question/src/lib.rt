@@ -114,6 +114,7 @@ fn float_at(q: &[u8], k: usize) -> f64
 
 // The first n floats from word `from` on, 0.0 past them.
 // Kept: a loop to n, here and in `over_masses`: `from_fn` would go over all eight.
+#[tactic(auto, unfolding(floats::specs::Vector::fill))]
 pub fn floats_from(q: &[u8], from: usize, n: usize) -> [f64; 8]
     ensures { result ≡ vec (λ i. float (word q.now) (from + i)) (places n) }
 {
@@ -244,6 +245,7 @@ pub fn kind_right(version: u64, q: &[u8]) -> bool
 }
 
 // Fraction over molar mass (kg/mol): mol of each solvent in a kg of the feed.
+#[tactic(auto, unfolding(floats::specs::Vector::fill))]
 fn over_masses(book: &[u8], n: usize, x: &[f64; 8]) -> [f64; 8]
     ensures { result ≡ vec (λ i. at x.now i ⊘ molar_mass (words book.now) i) (places n) }
 {
