@@ -146,7 +146,10 @@ fn solvent_right(s: &[u8; 512], i: u64) -> bool
 fn solvents_right(solvents: &[[u8; 512]]) -> bool
     ensures { result ≡ all_to (λ i. solvent_right (words_in solvents.now i) i) (length solvents.now) }
 {
-    (0..solvents.len()).all(|i| solvent_right(&solvents[i], i as u64))
+    solvents
+        .iter()
+        .enumerate()
+        .all(|(i, s)| solvent_right(s, i as u64))
 }
 
 // 0 < low ≤ high < t_r (K), the reducing value positive.
@@ -220,7 +223,10 @@ fn cas_new(own: u64, before: &[[u8; 512]]) -> bool
 fn cas_distinct(solvents: &[[u8; 512]]) -> bool
     ensures { result ≡ all_to (λ i. list_all (λ s. not (word s 2 == words_in solvents.now i 2)) (take i solvents.now)) (length solvents.now) }
 {
-    (0..solvents.len()).all(|i| cas_new(word(&solvents[i], 2), &solvents[..i]))
+    solvents
+        .iter()
+        .enumerate()
+        .all(|(i, s)| cas_new(word(s, 2), &solvents[..i]))
 }
 
 // Kind 3, due i and j, flags 0 or 1.
@@ -238,7 +244,9 @@ fn row_right(i: usize, row: &[[u8; 512]]) -> bool
     requires { i + length row.now ≤ 8 }
     ensures { result ≡ all_to (λ d. pair_right (words_in row.now d) i (i + 1 + d)) (length row.now) }
 {
-    (0..row.len()).all(|d| pair_right(&row[d], i as u64, (i + 1 + d) as u64))
+    row.iter()
+        .enumerate()
+        .all(|(d, s)| pair_right(s, i as u64, (i + 1 + d) as u64))
 }
 
 // The bounds of an interval are read only if it is flagged.
