@@ -59,15 +59,12 @@ pub fn word(s: &[u8], k: usize) -> u64
 pub fn block(book: &[u8], k: usize) -> &[u8]
     ensures { result.now ≡ block book.now k }
 {
-    let n = book.len() / 512;
-    if n < k {
-        return &book[book.len()..];
+    let (blocks, rest) = book.as_chunks::<512>();
+    match blocks.get(k) {
+        Some(whole) => whole,
+        None if k == blocks.len() => rest,
+        None => &[],
     }
-    let from = 512 * k;
-    if k < n {
-        return &book[from..from + 512];
-    }
-    &book[from..]
 }
 
 impl Rule {
