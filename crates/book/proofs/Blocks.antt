@@ -81,16 +81,16 @@ each_pair book n p h =
     each_item p s [] ∙ ap (all_to (λ d. p (get_or s d []))) e
     ∙ all_cong (pair_count n) (λ d l. ap p (get_or-take (length book - (1 + n)) (drop (1 + n) book) d [] (omega arith) ∙ get_or-drop (1 + n) book d []))
 
--- a row of them
-pub row_read : (book : List (List ℕ)) (i from count n : ℕ) → length book ≡ block_count n → from + count ≤ block_count n
-    → all_to (λ d. pair_right (words_in (take (from + count - from) (drop from book)) d) i (i + 1 + d)) (length (take (from + count - from) (drop from book)))
-    ≡ row_right (words_in book) i from count
+-- a row of them, at the front of what is left, and what is left behind it
+pub row_read : (book : List (List ℕ)) (n i from : ℕ) {rest row : List (List ℕ)} → length book ≡ block_count n → from + (n - i - 1) ≤ block_count n → rest ≡ drop from book → row ≡ take (n - i - 1) rest
+    → all_to (λ d. pair_right (words_in row d) i (i + 1 + d)) (length row) ≡ row_right (words_in book) i from (n - i - 1)
 unfolding row_right
-row_read book i from count n z h =
-    let s = take (from + count - from) (drop from book) in
+row_read book n i from {rest} {row} z h r w =
+    let count = n - i - 1 in
+    let s = take count (drop from book) in
     let e : length s ≡ count = simp (length-take, length-drop) (omega arith) in
-    ap (all_to (λ d. pair_right (words_in s d) i (i + 1 + d))) e
-    ∙ all_cong count (λ d l. ap (λ b. pair_right (word b) i (i + 1 + d)) (get_or-take (from + count - from) (drop from book) d [] (omega arith) ∙ get_or-drop from book d []))
+    rw (w, r) (ap (all_to (λ d. pair_right (words_in s d) i (i + 1 + d))) e
+    ∙ all_cong count (λ d l. ap (λ b. pair_right (word b) i (i + 1 + d)) (get_or-take count (drop from book) d [] l ∙ get_or-drop from book d [])))
 
 -- ---- a book's bytes
 pub whole : {s : List ℕ} {blocks : List (List ℕ)} → blocks ≡ first_chunks 512 (length s / 512) s → length blocks ≡ length s / 512 → length s ≡ 512 * length blocks → 0 < length blocks → Whole s blocks

@@ -328,13 +328,13 @@ impl<'a> Book<'a> {
         ensures { result ≡ all_to (λ i. row_right (words_in self.entry.blocks.now) i (row_from self.entry.head.n i) (self.entry.head.n - i - 1)) self.entry.head.n }
     {
         let n = self.head.n;
-        let mut from = 1 + n;
+        let mut pairs = &self.blocks[1 + n..];
         for i in 0..n {
-            let count = n - i - 1;
-            if !row_right(i, &self.blocks[from..from + count]) {
+            let (row, behind) = pairs.split_at(n - i - 1);
+            if !row_right(i, row) {
                 return false;
             }
-            from += count;
+            pairs = behind;
         }
         true
     }
