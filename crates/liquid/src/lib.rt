@@ -42,6 +42,7 @@ pub struct Sums {
 }
 
 // In a closed range.
+#[tactic(auto, unfolding(crate::specs::Vapor::in_range))]
 pub fn in_range(low: f64, high: f64, t: f64) -> bool
     ensures { result ≡ in_range low high t }
 {
