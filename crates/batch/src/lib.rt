@@ -48,6 +48,7 @@ struct Call<'a> {
 
 impl<'a> Call<'a> {
     // 11, 12 and 36, which are the same for every feed.
+    #[tactic(auto, unfolding(crate::specs::Feeds::task_among, floats::specs::Outcome::bind, floats::specs::Outcome::need))]
     fn task_among(self) -> Result<Task, Refusal>
         ensures { task_found result ≡ task_among self.entry.book.now self.entry.head.version self.entry.question.now }
     {
@@ -100,6 +101,7 @@ impl<'a> Call<'a> {
     }
 
     // A refusal is a block too. What one feed needs is kept for the others: the tables and vapor pressures are worked out once.
+    #[tactic(auto, unfolding(crate::specs::Feeds::parts_to, floats::specs::Fold::fold_to))]
     fn answer_feeds(self, feeds: &[u8], out: &mut [u8])
         requires { (feed_count feeds.now ≤ 64) × (answer_room * feed_count feeds.now ≤ length out.old) }
         ensures { out.new ≡ parts_to self.entry.book.now self.entry.head.version (places self.entry.head.n) self.entry.question.now feeds.now out.old (feed_count feeds.now) }
