@@ -19,7 +19,7 @@ use outcome::Refusal;
 use thermo_types::ActivityOptions;
 
 // What is asked, by the number in word 1.
-#[derive(Clone, Copy, PartialEq, Eq)]
+#[derive(Clone, Copy)]
 pub enum Task {
     Activity = 1,
     BubblePressure,

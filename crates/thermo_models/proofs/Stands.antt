@@ -29,7 +29,7 @@ use Rattle.thermo_models.specs.Activity.{activity_in, excess_by, excess_of, mode
 pub nrtl_made : (P : List Float) (n : ℕ) (t : Temperature) {k : Model} {v : Result (Unit {0}) Refusal} {m : ℕ} {old new : List Float} → k ≡ Nrtl → Filled P (places n) t.0 v old new → m ≡ places n
     → Made Nrtl P (places n) t (record { model = k; alphas = v; n = m; t = t }) old new
 unfolding tabled_by alphas_by table_by
-nrtl_made P n t q h e = record { said = rw (q, e, h.verdict); table = h.table }
+nrtl_made P n t q h e = record { said = rw (q, e, h.alphas); table = h.table }
 
 pub wilson_made : (P : List Float) (n : ℕ) (t : Temperature) {k : Model} {m : ℕ} {old new : List Float} → k ≡ Wilson → new ≡ lambdas_of P (places n) t.0 old → m ≡ places n
     → Made Wilson P (places n) t (record { model = k; alphas = Ok tt; n = m; t = t }) old new
