@@ -100,20 +100,16 @@ pub fn no_trials() -> LiquidStability
 }
 
 // d_i = ln x_i + ln γ_i(x) of the solvents present.
-// Kept: a loop to the count, here and below: `array::from_fn` works out all eight.
-#[tactic(auto, unfolding(crate::specs::Stability::tangent, floats::specs::Vector::fill))]
 fn tangent(x: &[f64; 8], lg: &[f64; 8], m: Count) -> [f64; 8]
     ensures { result ≡ tangent x.now lg.now m.n }
 {
-    let mut d = [0.0; 8];
-    for i in 0..m.n {
-        d[i] = if x[i] > 0.0 {
+    std::array::from_fn(|i| {
+        if i < m.n && x[i] > 0.0 {
             numerics::ln(x[i]) + lg[i]
         } else {
             0.0
-        };
-    }
-    d
+        }
+    })
 }
 
 // At the start this is shared by the solvents that the trial isn't near.
@@ -140,30 +136,26 @@ struct Tested<'a> {
 
 impl<'a> Tested<'a> {
     // ln W at the start of the trial near solvent j.
-    #[tactic(auto, unfolding(crate::specs::Stability::start_from, floats::specs::Vector::fill))]
     fn start(self, j: usize) -> [f64; 8]
         ensures { result ≡ start_of self.entry.x.now self.entry.m.n j }
     {
         let near = numerics::ln(1.0 - START_REST);
         let far = numerics::ln(START_REST / self.others);
-        let mut ln_w = [0.0; 8];
-        for i in 0..self.m.n {
-            ln_w[i] = floats::pick(i == j, near, far);
-        }
-        ln_w
+        std::array::from_fn(|i| {
+            if i < self.m.n {
+                floats::pick(i == j, near, far)
+            } else {
+                0.0
+            }
+        })
     }
 
     // W_i = exp ln W_i of the solvents present.
-    #[tactic(auto, unfolding(crate::specs::Steps::amounts_of, floats::specs::Vector::fill))]
     fn amounts(self, ln_w: &[f64; 8]) -> [f64; 8]
         ensures { result ≡ amounts_of self.entry.x.now ln_w.now self.entry.m.n }
     {
         let all = numerics::exps(ln_w, self.m.n);
-        let mut big = [0.0; 8];
-        for i in 0..self.m.n {
-            big[i] = floats::pick(self.x[i] > 0.0, all[i], 0.0);
-        }
-        big
+        std::array::from_fn(|i| floats::pick(i < self.m.n && self.x[i] > 0.0, all[i], 0.0))
     }
 
     // Kept: a loop, here and in measure: a fold's closure gives the sums back in an `else`, and is no plainer.
@@ -181,15 +173,10 @@ impl<'a> Tested<'a> {
     }
 
     // w_i = W_i / Σ W.
-    #[tactic(auto, unfolding(floats::specs::Vector::fill))]
     fn composition(self, big: &[f64; 8], s: f64) -> [f64; 8]
         ensures { let l = self.entry in result ≡ vec (λ i. cond (lt 0f (at l.x.now i)) (at big.now i ⊘ s) 0f) l.m.n }
     {
-        let mut w = [0.0; 8];
-        for i in 0..self.m.n {
-            w[i] = floats::pick(self.x[i] > 0.0, big[i] / s, 0.0);
-        }
-        w
+        std::array::from_fn(|i| floats::pick(i < self.m.n && self.x[i] > 0.0, big[i] / s, 0.0))
     }
 
     // tm = 1 + Σ W_i (ln W_i + ln γ_i(w) - d_i - 1), with the two largest differences.
@@ -217,15 +204,16 @@ impl<'a> Tested<'a> {
     }
 
     // ln W_i = d_i - ln γ_i(w).
-    #[tactic(auto, unfolding(crate::specs::Stability::next_of, floats::specs::Vector::fill))]
     fn next(self, lg: &[f64; 8]) -> [f64; 8]
         ensures { result ≡ next_of self.entry.d.now lg.now self.entry.m.n }
     {
-        let mut ln_w = [0.0; 8];
-        for i in 0..self.m.n {
-            ln_w[i] = self.d[i] - lg[i];
-        }
-        ln_w
+        std::array::from_fn(|i| {
+            if i < self.m.n {
+                self.d[i] - lg[i]
+            } else {
+                0.0
+            }
+        })
     }
 
     // One turn of the trial near solvent j: the trial where it ends here, else the next ln W. The activity of w is asked for once.

@@ -44,16 +44,10 @@ fn pool_count(drums: &[u8], i: usize) -> u64
 }
 
 // Of the solvents that count, 0 past them.
-// Kept: a loop to n, here and in `amounts`: `from_fn` would go over all eight.
-#[tactic(auto, unfolding(floats::specs::Vector::fill))]
 fn pool_counts(drums: &[u8], m: Count) -> [u64; 8]
     ensures { result ≡ fill (λ i. min (pool_count drums.now i) (2 ^ 53 + 1)) m.n (replicate 8 0) }
 {
-    let mut counts = [0; 8];
-    for i in 0..m.n {
-        counts[i] = pool_count(drums, i);
-    }
-    counts
+    std::array::from_fn(|i| if i < m.n { pool_count(drums, i) } else { 0 })
 }
 
 // 32
@@ -70,11 +64,7 @@ fn amounts(counts: &[u64; 8], m: Count) -> [f64; 8]
     requires { (i : ℕ) → i < m.n → word_at counts.now i ≤ 2 ^ 53 }
     ensures { result ≡ vec (λ i. amount (word_at counts.now i)) m.n }
 {
-    let mut x = [0.0; 8];
-    for i in 0..m.n {
-        x[i] = counts[i] as f64;
-    }
-    x
+    std::array::from_fn(|i| if i < m.n { counts[i] as f64 } else { 0.0 })
 }
 
 // The mole fractions of a pool.

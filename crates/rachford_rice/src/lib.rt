@@ -199,28 +199,23 @@ impl<'a> Feed<'a> {
         self.k_chosen(floats::min, f64::INFINITY)
     }
 
-    // Kept: a loop to n, here and below: `from_fn` would go over all eight.
-    #[tactic(auto, unfolding(floats::specs::Vector::fill, crate::specs::Rachford::liquid_part))]
     fn liquid_parts(self, beta: f64) -> [f64; 8]
         ensures { result ≡ vec (liquid_part (at self.entry.z.now) (at self.entry.k.now) self.entry.m.n beta) self.entry.m.n }
     {
-        let mut x = [0.0; 8];
-        for i in 0..self.m.n {
-            x[i] = liquid_part(self.z[i], self.k[i], beta);
-        }
-        x
+        std::array::from_fn(|i| {
+            if i < self.m.n {
+                liquid_part(self.z[i], self.k[i], beta)
+            } else {
+                0.0
+            }
+        })
     }
 
     // From the liquid that is not yet divided by its sum.
-    #[tactic(auto, unfolding(floats::specs::Vector::fill))]
     fn vapor_parts(self, x: &[f64; 8]) -> [f64; 8]
         ensures { result ≡ vec (λ i. at x.now i ⊗ at self.entry.k.now i) self.entry.m.n }
     {
-        let mut y = [0.0; 8];
-        for i in 0..self.m.n {
-            y[i] = x[i] * self.k[i];
-        }
-        y
+        std::array::from_fn(|i| if i < self.m.n { x[i] * self.k[i] } else { 0.0 })
     }
 
     fn solution(self, beta: f64, iterations: u64) -> RachfordRice

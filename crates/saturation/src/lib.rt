@@ -79,8 +79,6 @@ struct Raoult<'a> {
 
 impl Raoult<'_> {
     // f of each solvent's fraction, γ and vapor pressure; 0.0 past the solvents.
-    // Kept: a loop to the count, for `array::from_fn` works out all eight.
-    #[tactic(auto, unfolding(floats::specs::Vector::fill))]
     fn terms<F: Fn(f64, f64, f64) -> f64>(self, z: &[f64; 8], f: F) -> [f64; 8]
         requires { F.IsAlwaysCallable f }
         ensures { (t : ℕ → Float)
@@ -88,11 +86,13 @@ impl Raoult<'_> {
             → result ≡ vec t self.entry.m.n }
     {
         let gamma = numerics::exps(self.lg, self.m.n);
-        let mut w = [0.0; 8];
-        for i in 0..self.m.n {
-            w[i] = f(z[i], gamma[i], self.ps[i]);
-        }
-        w
+        std::array::from_fn(|i| {
+            if i < self.m.n {
+                f(z[i], gamma[i], self.ps[i])
+            } else {
+                0.0
+            }
+        })
     }
 
     // The largest gap of a solvent that is present in both phases.

@@ -137,16 +137,11 @@ pub fn with_fractions(x: &[f64; 8], n: usize) -> Result<(), Refusal>
 }
 
 // Each of the first n entries over s; 0.0 past them.
-// Kept: a loop to n; `from_fn` asks each of eight whether it is past n.
-#[tactic(auto, unfolding(floats::specs::Vector::fill))]
 pub fn divided(x: &[f64; 8], s: f64, n: usize) -> [f64; 8]
     ensures { result ≡ vec (λ i. at x.now i ⊘ s) (places n) }
 {
-    let mut y = [0.0; 8];
-    for i in 0..floats::places(n) {
-        y[i] = x[i] / s;
-    }
-    y
+    let m = floats::places(n);
+    std::array::from_fn(|i| if i < m { x[i] / s } else { 0.0 })
 }
 
 // Each of the first n entries over their sum, whatever that is; 0.0 past them.

@@ -143,34 +143,30 @@ struct Feed<'a> {
 impl<'a> Feed<'a> {
     // ---- the split at T and p
 
-    // Kept: loops to the count, for `array::from_fn` works out all eight; and `places(self.at.n)`, with no Count beside `at`, for
-    // trials and dew point take `at` and their contracts say `places at.n`.
+    // Kept: `places(self.at.n)`, with no Count beside `at`, for trials and dew point take `at` and their contracts say `places at.n`.
     // K_i = γ_i p_i^sat / p where the feed is positive, else 1.0, which no sum of Rachford-Rice reads.
-    #[tactic(auto, unfolding(crate::specs::Split::k_values, floats::specs::Vector::fill))]
     fn k_values(self, lg: &[f64; 8]) -> [f64; 8]
         ensures { let f = self.entry in result ≡ k_values f.z.now f.ps.now f.p.0 lg.now (places f.at.n) }
     {
+        let n = floats::places(self.at.n);
         let ln_p = numerics::ln(self.p.value());
-        let mut k = [0.0; 8];
-        for i in 0..floats::places(self.at.n) {
-            k[i] = if self.z[i] > 0.0 {
+        std::array::from_fn(|i| {
+            if i >= n {
+                0.0
+            } else if self.z[i] > 0.0 {
                 numerics::exp(lg[i] + numerics::ln(self.ps[i]) - ln_p)
             } else {
                 1.0
-            };
-        }
-        k
+            }
+        })
     }
 
     // The entries of a phase where the feed is positive, over their sum (34).
-    #[tactic(auto, using(crate::proofs::Laws::phase_is), unfolding(floats::specs::Vector::fill))]
     fn phase_of(self, l: &[f64; 8]) -> Result<[f64; 8], Refusal>
         ensures { outcome_of result ≡ phase_of self.entry.z.now l.now (places self.entry.at.n) }
     {
-        let mut w = [0.0; 8];
-        for i in 0..floats::places(self.at.n) {
-            w[i] = floats::pick(self.z[i] > 0.0, l[i], 0.0);
-        }
+        let n = floats::places(self.at.n);
+        let w = std::array::from_fn(|i| floats::pick(i < n && self.z[i] > 0.0, l[i], 0.0));
         thermo_types::normalize(&w, self.at.n)
     }
 
