@@ -59,7 +59,6 @@ fn total_right(counts: &[u64; 8], m: Count) -> bool
 }
 
 // Counts as floats, each exact.
-#[tactic(auto, unfolding(floats::specs::Vector::fill))]
 fn amounts(counts: &[u64; 8], m: Count) -> [f64; 8]
     requires { (i : ℕ) → i < m.n → word_at counts.now i ≤ 2 ^ 53 }
     ensures { result ≡ vec (λ i. amount (word_at counts.now i)) m.n }
