@@ -36,7 +36,7 @@ pub struct State {
 }
 
 // Words 30 to 37: g^E / RT, J/mol, J/(mol K), and what is said of the state.
-#[derive(Clone, Copy)]
+#[derive(Clone, Copy, Default)]
 pub struct ModelState {
     pub reduced: f64,
     pub gibbs: f64,
@@ -206,7 +206,6 @@ pub fn write_refusal(rule: Rule, question: &[u8], number: u64, out: &mut [u8])
 // ---- the answer block of each task
 
 // Of a task that has none of the model's words but, in 6 and 7, whether the liquid is stable.
-// Kept: no derived Default of `ModelState`: it would ask for one of `ValidityStatus`, and this is its one place.
 fn plain_block(
     outcome: u64,
     state: State,
@@ -222,14 +221,8 @@ fn plain_block(
         liquid,
         vapor,
         model: ModelState {
-            reduced: 0.0,
-            gibbs: 0.0,
-            enthalpy: 0.0,
-            entropy: 0.0,
-            heat_capacity: 0.0,
-            validity: ValidityStatus::Unassessed,
-            inferred: false,
             stable,
+            ..ModelState::default()
         },
     }
 }

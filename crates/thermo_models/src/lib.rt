@@ -230,8 +230,9 @@ pub fn activity(
 // ---- validity
 
 // Extrapolated: T outside an interval of a pair present. Unassessed: a pair without interval, or no pair present.
-#[derive(Clone, Copy)]
+#[derive(Clone, Copy, Default)]
 pub enum ValidityStatus {
+    #[default]
     Unassessed,
     WithinDeclaredDomain,
     Extrapolated,
