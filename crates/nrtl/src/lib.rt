@@ -105,6 +105,7 @@ impl Liquid<'_> {
     }
 
     // The sums of W columns from i on.
+    #[tactic(auto, unfolding(crate::specs::Columns::col_s, floats::specs::Fold::fold_to))]
     fn columns<const W: usize>(self, b: usize, i: usize) -> [Jet; W]
         requires { (b ≤ 320) × (i + W ≤ 8) }
         ensures { let q = self.entry in Side (col_s (jets q.table.now b) (at q.x.now) q.m.n) i W result }
@@ -119,6 +120,7 @@ impl Liquid<'_> {
     }
 
     // S and R = C / S of W solvents from i on.
+    #[tactic(auto, unfolding(floats::specs::Fold::fold_to))]
     fn sums_from<const W: usize>(self, i: usize, sums: &mut [f64; 24], ratios: &mut [f64; 24])
         requires { i + W ≤ 8 }
         ensures s { let q = self.entry in sums.new ≡ lanes_from (s_on q.table.now (at q.x.now) q.m.n) 2 i W sums.old }
@@ -183,6 +185,7 @@ struct Summed<'a> {
 
 impl Summed<'_> {
     // g^E/RT
+    #[tactic(auto, unfolding(crate::specs::Columns::gibbs_from, floats::specs::Fold::fold_to))]
     fn reduced(self) -> Jet
         ensures { let q = self.entry in result ≡ gibbs_from (jet_in q.ratios.now) (at q.of.x.now) q.of.m.n }
     {
@@ -208,6 +211,7 @@ impl Summed<'_> {
     }
 
     // ln γ of W solvents from i on.
+    #[tactic(auto, unfolding(crate::specs::Columns::ln_from, floats::specs::Fold::fold_to))]
     fn lns_from<const W: usize>(self, i: usize) -> [Jet; W]
         requires { i + W ≤ 8 }
         ensures { let q = self.entry in Side (ln_in q.of.table.now q.sums.now q.ratios.now (at q.of.x.now) q.of.m.n) i W result }
@@ -224,6 +228,7 @@ impl Summed<'_> {
         l
     }
 
+    #[tactic(auto, unfolding(floats::specs::Vector::fill))]
     fn fill_lns(self, ln_gamma: &mut [f64; 8], slopes: &mut [f64; 8])
         ensures { let q = self.entry in GammasTo (ln_in q.of.table.now q.sums.now q.ratios.now (at q.of.x.now) q.of.m.n) (evened q.of.m.n) ln_gamma.old slopes.old ln_gamma.new slopes.new }
     {
@@ -242,6 +247,7 @@ impl Summed<'_> {
 }
 
 // One array after the other: that way neighbors of one are one store.
+#[tactic(auto, unfolding(floats::specs::Vector::fill_from))]
 fn keep_lns<const W: usize>(l: [Jet; W], i: usize, ln_gamma: &mut [f64; 8], slopes: &mut [f64; 8])
     requires { i + W ≤ 8 }
     ensures values { ln_gamma.new ≡ fill_from (λ w. (jet_of l.entry w).v) i W ln_gamma.old }
