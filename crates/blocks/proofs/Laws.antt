@@ -1,5 +1,5 @@
 -- Laws of words, sums and rows of bytes, which the proofs of reading and writing cite. Assumes nothing.
-use Rattle.std.proofs.Common.{◌≡◌, ℕ, zero, suc, ◌+◌, ◌-◌, ◌*◌, ◌/◌, ◌%◌, ◌^◌, ◌<◌, ◌≤◌, List, [], ◌∷◌, ◌++◌, length, get_or, take, drop, sym, refl, ap, ◌∙◌, ⊎_elim, append_assoc, append-nil, add-zero, suc-mul, eq-or-lt_of_le, add-one, arith, length-append, length-drop, drop_of_length-le, length-take, take_all, drop-drop, take_at, get_or-append-add, get_or-take, get_or-drop, le-leb}
+use Rattle.std.proofs.Common.{◌≡◌, ℕ, zero, suc, ◌+◌, ◌-◌, ◌*◌, ◌/◌, ◌%◌, ◌^◌, ◌<◌, ◌≤◌, List, [], ◌++◌, length, get_or, take, drop, sym, refl, ap, ◌∙◌, ⊎_elim, append_assoc, append-nil, add-zero, suc-mul, eq-or-lt_of_le, add-one, arith, length-append, length-drop, drop_of_length-le, length-take, take_all, drop-drop, take_at, get_or-append-add, get_or-take, get_or-drop, le-leb}
 use lib.ListN.{get_or-eq_default}
 use borrow.Author.Tests.{lt-leb}
 use lib.Seq.{take-nil, drop-append-add}

@@ -1,6 +1,5 @@
-use Rattle.std.proofs.Common.{refl, arith}
+use Rattle.std.proofs.Common.{arith}
 use Rattle.blocks.proofs.Laws.{word-turn, words-end}
-use Rattle.blocks.specs.Bytes.{row_to}
 use Rattle.blocks.proofs.store_words.Goals as goal
 
 pub loop-k-preserved : goal.loop-k-preserved
