@@ -263,10 +263,8 @@ pub extern "C" fn zektonk_open_book(book: &[u8]) -> u64
 fn repeat(table: &[f64; 512], s: Tabled, x: &[f64; 8], count: u64) -> u64
     ensures { result ≡ count }
 {
-    let mut lg = [0.0; 8];
-    let mut sl = [0.0; 8];
     for _ in 0..count {
-        let _ = thermo_models::activity(table, s, x, &mut lg, &mut sl);
+        let _ = thermo_models::activity(table, s, x);
     }
     count
 }

@@ -67,10 +67,8 @@ pub fn present_count(x: &[f64; 8], n: usize) -> usize
 fn ln_gamma(table: &[f64; 512], tabled: Tabled, x: &[f64; 8]) -> Result<[f64; 8], Refusal>
     ensures { outcome_of result ≡ bind (activity_on table.now tabled x.now) (λ a. ok a.ln_gamma) }
 {
-    let mut lg = [0.0; 8];
-    let mut sl = [0.0; 8];
-    thermo_models::activity(table, tabled, x, &mut lg, &mut sl)?;
-    Ok(lg)
+    let activity = thermo_models::activity(table, tabled, x)?;
+    Ok(activity.ln_gamma)
 }
 
 // An entry that no trial has filled.

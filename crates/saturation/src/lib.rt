@@ -170,7 +170,6 @@ struct Vapor<'a> {
 
 impl Vapor<'_> {
     // What ln γ gives: 34, then what `activity` refuses at the incipient liquid.
-    // Kept: zeros that `activity` fills, for it is public and writes to its caller's arrays.
     fn incipient(self, lg: &[f64; 8]) -> Result<IncipientLiquid, Refusal>
         ensures { let v = self.entry in outcome_of result ≡ incipient (activity_on v.table.now v.tabled) v.ps.now v.m.n v.y.now lg.now }
     {
@@ -182,17 +181,7 @@ impl Vapor<'_> {
         );
         let pressure = 1.0 / thermo_types::sum(&w, m.n);
         let liquid = thermo_types::normalize(&w, m.n)?;
-        let mut activity = ActivityCoefficients {
-            ln_gamma: [0.0; 8],
-            slopes: [0.0; 8],
-        };
-        thermo_models::activity(
-            self.table,
-            self.tabled,
-            &liquid,
-            &mut activity.ln_gamma,
-            &mut activity.slopes,
-        )?;
+        let activity = thermo_models::activity(self.table, self.tabled, &liquid)?;
         Ok(IncipientLiquid {
             pressure,
             liquid,
@@ -301,14 +290,13 @@ pub fn activity_bubble_pressure(
 ) -> Result<ActivitySaturation, Refusal>
     ensures { outcome_of result ≡ bubble_task (activity_on table.now s) ps.now (places s.n) s.t.0 x.now }
 {
-    let mut lg = [0.0; 8];
-    let mut sl = [0.0; 8];
-    thermo_models::activity(table, s, x, &mut lg, &mut sl)?;
-    let BubblePoint { pressure, vapor } = bubble_from(x, &lg, ps, s.n)?;
+    let activity = thermo_models::activity(table, s, x)?;
+    let lg = &activity.ln_gamma;
+    let BubblePoint { pressure, vapor } = bubble_from(x, lg, ps, s.n)?;
     if !thermo_models::check_pressure(pressure) {
         return Err(Refusal::PressureOutside);
     }
-    let residual = residual_with(&lg, ps, pressure, x, &vapor, s.n)?;
+    let residual = residual_with(lg, ps, pressure, x, &vapor, s.n)?;
     Ok(ActivitySaturation {
         temperature: s.t.value(),
         pressure,

@@ -182,18 +182,14 @@ impl Feed<'_> {
         let kelvin = Temperature::new(t)?;
         let mut table = [0.0; 512];
         let s = thermo_models::tables(self.book, self.parameters, self.m.n, kelvin, &mut table);
-        let mut lg = [0.0; 8];
-        let mut sl = [0.0; 8];
-        thermo_models::activity(&table, s, self.z, &mut lg, &mut sl)?;
-        let mut ps = [0.0; 8];
-        let mut dps = [0.0; 8];
-        thermo_models::pure_liquids(self.book, self.m.n, kelvin, &mut ps, &mut dps)?;
-        let (sum, slope) = self.weigh(&lg, &sl, &ps, &dps);
+        let a = thermo_models::activity(&table, s, self.z)?;
+        let pure = thermo_models::pure_liquids(self.book, self.m.n, kelvin)?;
+        let (sum, slope) = self.weigh(&a.ln_gamma, &a.slopes, &pure.pressure, &pure.slope);
         let point = Point {
             value: numerics::ln(sum) - numerics::ln(self.p),
             slope: slope / sum,
         };
-        Ok((point, (lg, ps)))
+        Ok((point, (a.ln_gamma, pure.pressure)))
     }
 
     // The answer at a root, from ln γ of the feed and the vapor pressures there: the bubble point, and its residual at the given pressure.
@@ -271,17 +267,15 @@ impl Feed<'_> {
         ensures { let f = self.entry in outcome_of result ≡ dew_tried (activity_of f.book.now f.parameters.now f.m.n) (pure_liquids_of f.book.now f.m.n) f.m.n o f.p f.z.now t }
     {
         let kelvin = Temperature::new(t)?;
-        let mut ps = [0.0; 8];
-        let mut dps = [0.0; 8];
-        thermo_models::pure_liquids(self.book, self.m.n, kelvin, &mut ps, &mut dps)?;
+        let pure = thermo_models::pure_liquids(self.book, self.m.n, kelvin)?;
         let mut table = [0.0; 512];
         let s = thermo_models::tables(self.book, self.parameters, self.m.n, kelvin, &mut table);
-        let d = saturation::dew_at(&table, s, self.z, &ps, o)?;
+        let d = saturation::dew_at(&table, s, self.z, &pure.pressure, o)?;
         let point = Point {
             value: numerics::ln(d.pressure) - numerics::ln(self.p),
-            slope: self.dew_slope(&d.liquid, &d.activity.slopes, &dps),
+            slope: self.dew_slope(&d.liquid, &d.activity.slopes, &pure.slope),
         };
-        Ok((point, (d, ps)))
+        Ok((point, (d, pure.pressure)))
     }
 
     // The answer at a root, from the dew point there: its residual at the given pressure. The count wraps past 2^64, which no

@@ -62,13 +62,12 @@ struct Asked<'a> {
 
 impl<'a> Source<'a> {
     // Of the pure liquids: 22, 25.
+    #[tactic(auto, using(outcome::proofs::Exits::met), unfolding(crate::specs::Ready::pressures_in, floats::specs::Outcome::bind))]
     fn pure_pressures(self, t: Temperature) -> Result<[f64; 8], Refusal>
         ensures { outcome_of result ≡ pressures_in (pure_liquids_of self.entry.book.now (places self.entry.n) t.0) }
     {
-        let mut ps = [0.0; 8];
-        let mut dps = [0.0; 8];
-        thermo_models::pure_liquids(self.book, self.n, t, &mut ps, &mut dps)?;
-        Ok(ps)
+        let pure = thermo_models::pure_liquids(self.book, self.n, t)?;
+        Ok(pure.pressure)
     }
 
     // A flash's: 22, 23, 25.

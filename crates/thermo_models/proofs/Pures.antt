@@ -1,29 +1,26 @@
--- What the loops over the pure liquids keep, and the two ways out of `fill_pures`. Assumes nothing.
+-- What the loops over the pure liquids keep, and the two ways out of `Solvents::pures`. Assumes nothing.
 use Prim.Native.Nat.{ℕ, zero, suc, ◌+◌, ◌*◌, ◌≤◌}
 use mathlib.Core.Path.{◌≡◌, refl, sym, ap, ◌∙◌}
 use mathlib.Core.Bool.{Bool, true, false, not, ◌&&◌, true≢false}
-use Rattle.std.specs.Prelude.{Ok, Err}
 use mathlib.Core.List.{List}
 use native.Mathlib.Omega.{arith}
 use lib.ListN.{set}
 use lib.Ieee.{Float, le}
 use Rattle.floats.specs.Fold.{all_to}
 use Rattle.floats.specs.Vector.{at, fill, vec, zeros8}
-use Rattle.floats.specs.Outcome.{Out, ok, no, bind, need}
+use Rattle.floats.specs.Outcome.{ok, no, bind, need}
 use Rattle.floats.proofs.Fills.{fill-turn, fill_cong, vec-at}
 use Rattle.floats.proofs.Folds.{all_cong}
 use Rattle.floats.specs.Arithmetic.{0f}
 use Rattle.floats.specs.Small.{is_finite}
 use Rattle.floats.proofs.Outcomes.{need_yes}
-use Rattle.outcome.specs.declared.Refusal.{Refusal}
-use Rattle.outcome.specs.Refused.{number}
 use Rattle.records.specs.declared.Ancillary.{Ancillary}
 use Rattle.numerics.specs.Numerics.{exp_of}
 use Rattle.thermo_types.specs.Quantities.{lowest_kelvin, highest_kelvin}
 use Rattle.records.specs.Records.{ancillary_of, range_of}
 use Rattle.liquid.specs.Vapor.{Vapor, vapor_from, vapor_of, representable, vapor_pressure_of, in_range}
 use Rattle.liquid.proofs.Ways.{sound_of, sound_is}
-use Rattle.thermo_models.specs.Model.{Pures, PuresAre, pressures_of, pressure_slopes_of}
+use Rattle.thermo_models.specs.Model.{Pures}
 use Rattle.thermo_models.specs.Domain.{vapor_record, vapor_range, density_range, solvent_covers, temperature_in_domain, pures_to}
 
 -- ---- what the loops keep
@@ -91,15 +88,6 @@ module _ (book : List ℕ) (t : Float) where
     pub pures_passed : b ≡ true → pures_to book t n ≡ ok (record { pressure = ps; slope = dps })
     unfolding need
     pures_passed q = pures_are n h ∙ rw (← tests, q, pressures, ed)
-
--- ---- as the code has them
-pub pures_given : {o : Out Pures} {ps dps : List Float} → o ≡ ok (record { pressure = ps; slope = dps }) → PuresAre o (Ok tt) ps dps
-unfolding bind pressures_of pressure_slopes_of
-pures_given e = rw e (record { outcome = refl; pressures = refl; slopes = refl })
-
-pub pures_none : (o : Out Pures) {r : Refusal} {ps dps : List Float} → o ≡ no (number r) → ps ≡ zeros8 → dps ≡ zeros8 → PuresAre o (Err r) ps dps
-unfolding bind pressures_of pressure_slopes_of
-pures_none o e p d = rw e (record { outcome = refl; pressures = p; slopes = d })
 
 -- ---- the domain first
 pub covers : (book : List ℕ) (n : ℕ) (t : Float) → true ≡ temperature_in_domain book n t → all_to (solvent_covers book t) n ≡ true

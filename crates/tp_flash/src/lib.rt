@@ -209,17 +209,7 @@ impl<'a> Feed<'a> {
     ) -> Result<SplitTurn, Refusal>
         ensures { let f = self.entry in outcome_of result ≡ turn_at (activity_on f.table.now f.at) f.ps.now (places f.at.n) f.p.0 f.z.now beta x y iteration }
     {
-        let mut activity = ActivityCoefficients {
-            ln_gamma: [0.0; 8],
-            slopes: [0.0; 8],
-        };
-        thermo_models::activity(
-            self.table,
-            self.at,
-            &x,
-            &mut activity.ln_gamma,
-            &mut activity.slopes,
-        )?;
+        let activity = thermo_models::activity(self.table, self.at, &x)?;
         let residual = self.split_gap(&activity.ln_gamma, &x, &y);
         if !floats::is_finite(residual) {
             return Err(Refusal::ResultNotFinite);
@@ -405,11 +395,7 @@ pub fn activity_tp_flash(
 ) -> Result<ActivityTpFlash, Refusal>
     ensures { outcome_of result ≡ phases_of (activity_on table.now at) (places at.n) o z.now p.0 ps.now }
 {
-    let mut activity = ActivityCoefficients {
-        ln_gamma: [0.0; 8],
-        slopes: [0.0; 8],
-    };
-    thermo_models::activity(table, at, z, &mut activity.ln_gamma, &mut activity.slopes)?;
+    let activity = thermo_models::activity(table, at, z)?;
     let b = saturation::bubble_from(z, &activity.ln_gamma, ps, at.n)?;
     let feed = Feed {
         table,
