@@ -308,10 +308,10 @@ pub fn flash_block(t: f64, p: f64, f: ActivityTpFlash) -> AnswerBlock
         residual: f.residual,
         balance: f.balance,
         vapor_fraction: f.vapor_fraction,
-        trials: f.trials.count as u64,
+        trials: f.trials.unwrap_or(liquid_stability::no_trials()).count as u64,
         notes: f.notes,
     };
-    plain_block(phase_number(f.phases), state, f.liquid, f.vapor, f.tested)
+    plain_block(phase_number(f.phases), state, f.liquid, f.vapor, f.trials.is_some())
 }
 
 // Tasks 8 and 9.

@@ -224,7 +224,8 @@ impl<'a> Asked<'a> {
         let q = self.q;
         let f = tp_flash::activity_tp_flash(table, at, q.options, &q.fractions, p, ps)?;
         let b = flash_block(at.t.value(), p.value(), f);
-        self.write_answer(b, &f.trials.trials, out);
+        let trials = f.trials.unwrap_or(liquid_stability::no_trials());
+        self.write_answer(b, &trials.trials, out);
         Ok(())
     }
 

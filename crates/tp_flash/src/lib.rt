@@ -23,8 +23,7 @@ pub enum FlashPhases {
     Both,
 }
 
-// Pressures in Pa. `trials` are those of the liquid, where it was tested.
-// Kept: `tested`, which is true but for a vapor, and `trials` beside it, for the definition's Flash has both.
+// Pressures in Pa. `trials` are those of the liquid; a vapor has none.
 #[derive(Clone, Copy)]
 pub struct ActivityTpFlash {
     pub phases: FlashPhases,
@@ -37,8 +36,7 @@ pub struct ActivityTpFlash {
     pub notes: u64,
     pub liquid: [f64; 8],
     pub vapor: [f64; 8],
-    pub tested: bool,
-    pub trials: LiquidStability,
+    pub trials: Option<LiquidStability>,
 }
 
 // Bubble and dew pressure of the feed, Pa.
@@ -124,8 +122,7 @@ fn single_phase(
         notes,
         liquid: [0.0; 8],
         vapor: [0.0; 8],
-        tested: false,
-        trials: liquid_stability::no_trials(),
+        trials: None,
     }
 }
 
@@ -294,8 +291,7 @@ impl<'a> Feed<'a> {
         thermo_types::with_fractions(self.z, self.at.n)?;
         Ok(ActivityTpFlash {
             liquid: *self.z,
-            tested: true,
-            trials,
+            trials: Some(trials),
             ..single_phase(FlashPhases::Liquid, saturated, 0.0, notes)
         })
     }
@@ -318,8 +314,7 @@ impl<'a> Feed<'a> {
             notes: FINITE_TRIALS,
             liquid: split.liquid,
             vapor: split.vapor,
-            tested: true,
-            trials,
+            trials: Some(trials),
         })
     }
 
