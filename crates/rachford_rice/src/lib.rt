@@ -9,10 +9,11 @@ ghost use Rattle.floats.specs.Fold.{fold_to, active};
 ghost use Rattle.floats.specs.Vector.{at, places, vec};
 ghost use Rattle.floats.specs.Outcome.{ok, bind};
 ghost use Rattle.outcome.specs.Refused.{outcome_of};
-ghost use Rattle.rachford_rice.specs.Rachford.{middle, turn_of, residual_of, slope_of, k_max, k_min, validate, liquid_part, solution_at, iterate, between, negative, two_phase, one_phase, constrained};
+ghost use Rattle.rachford_rice.specs.Rachford.{middle, turn_of, goes, residual_of, slope_of, k_max, k_min, validate, liquid_part, solution_at, iterate, between, negative, two_phase, one_phase, constrained};
 
 use floats::Count;
 use outcome::Refusal;
+use std::ops::ControlFlow;
 
 // Constrained or negative: vapor fraction, residual |g(β)| and count of a split.
 #[derive(Clone, Copy)]
@@ -31,14 +32,12 @@ pub struct RachfordRice {
     pub vapor: [f64; 8],
 }
 
-// One turn: the bounds moved, the next β, and whether it is the last.
-// Kept: a flag and no ControlFlow, since `next` is read either way: as the root where it is the last turn, else as the next β.
+// The bounds, and the β that the next turn starts from.
 #[derive(Clone, Copy)]
-struct Turn {
+struct Bracket {
     lo: f64,
     hi: f64,
-    next: f64,
-    last: bool,
+    beta: f64,
 }
 
 // g(β) and g'(β).
@@ -96,22 +95,21 @@ fn next_from(newton: f64, lo: f64, hi: f64) -> f64
     }
 }
 
-// The bounds are moved before the step. A change of β by at most 4 ε max(|β|, 1) counts as none.
-#[tactic(auto, unfolding(crate::specs::Rachford::turn_of))]
-fn turn_from(g: f64, slope: f64, lo: f64, hi: f64, beta: f64) -> Turn
-    ensures { result ≡ turn_of g slope lo hi beta }
+// One turn: the root where it is the last. The bounds are moved before the step; a change of β by at most 4 ε max(|β|, 1) counts as none.
+#[tactic(auto, unfolding(crate::specs::Rachford::turn_of, crate::specs::Rachford::goes))]
+fn turn_from(g: f64, slope: f64, at: Bracket) -> ControlFlow<f64, Bracket>
+    ensures { result ≡ goes g at.beta (turn_of g slope at.lo at.hi at.beta) }
 {
-    let low = floats::pick(g > 0.0, beta, lo);
-    let high = floats::pick(g > 0.0, hi, beta);
-    let next = next_from(beta - g / slope, low, high);
+    let beta = at.beta;
+    let lo = floats::pick(g > 0.0, beta, at.lo);
+    let hi = floats::pick(g > 0.0, at.hi, beta);
+    let next = next_from(beta - g / slope, lo, hi);
     let least = floats::FOUR_EPSILON * floats::max(floats::abs(beta), 1.0);
     let small = floats::abs(next - beta) <= least;
-    Turn {
-        lo: low,
-        hi: high,
-        next,
-        last: (g == 0.0) | small | (next == low) | (next == high),
+    if (g == 0.0) | small | (next == lo) | (next == hi) {
+        return ControlFlow::Break(floats::pick(g == 0.0, beta, next));
     }
+    ControlFlow::Continue(Bracket { lo, hi, beta: next })
 }
 
 // ---- a feed and its ratios
@@ -232,21 +230,19 @@ impl<'a> Feed<'a> {
     }
 
     // From β = 0.5 between the bounds; refused where g(β) isn't finite, and where no turn is left.
-    fn iterate(self, limit: u64, mut lo: f64, mut hi: f64) -> Result<RachfordRice, Refusal>
+    fn iterate(self, limit: u64, lo: f64, hi: f64) -> Result<RachfordRice, Refusal>
         ensures { outcome_of result ≡ bind (iterate (at self.entry.z.now) (at self.entry.k.now) self.entry.m.n limit 0 lo hi ½) (λ s. ok (two_phase s)) }
     {
-        let mut beta = 0.5;
+        let mut at = Bracket { lo, hi, beta: 0.5 };
         for done in 0..limit {
-            let Sums { residual, slope } = self.residual_and_slope(beta);
+            let Sums { residual, slope } = self.residual_and_slope(at.beta);
             if !floats::is_finite(residual) {
                 return Err(Refusal::ResultNotFinite);
             }
-            let turn = turn_from(residual, slope, lo, hi, beta);
-            if turn.last {
-                let root = floats::pick(residual == 0.0, beta, turn.next);
-                return Ok(self.solution(root, done + 1));
+            match turn_from(residual, slope, at) {
+                ControlFlow::Break(root) => return Ok(self.solution(root, done + 1)),
+                ControlFlow::Continue(next) => at = next,
             }
-            (lo, hi, beta) = (turn.lo, turn.hi, turn.next);
         }
         Err(Refusal::NotConverged)
     }
