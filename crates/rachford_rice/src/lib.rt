@@ -106,8 +106,11 @@ fn turn_from(g: f64, slope: f64, at: Bracket) -> ControlFlow<f64, Bracket>
     let next = next_from(beta - g / slope, lo, hi);
     let least = floats::FOUR_EPSILON * floats::max(floats::abs(beta), 1.0);
     let small = floats::abs(next - beta) <= least;
-    if (g == 0.0) | small | (next == lo) | (next == hi) {
-        return ControlFlow::Break(floats::pick(g == 0.0, beta, next));
+    if g == 0.0 {
+        return ControlFlow::Break(beta);
+    }
+    if small | (next == lo) | (next == hi) {
+        return ControlFlow::Break(next);
     }
     ControlFlow::Continue(Bracket { lo, hi, beta: next })
 }
