@@ -178,6 +178,7 @@ impl<'a> Tested<'a> {
     }
 
     // tm = 1 + Σ W_i (ln W_i + ln γ_i(w) - d_i - 1), with the two largest differences.
+    #[tactic(auto, unfolding(crate::specs::Stability::distance_of, crate::specs::Stability::change_of, crate::specs::Stability::apart_of, floats::specs::Fold::fold_to))]
     fn measure(self, ln_w: &[f64; 8], big: &[f64; 8], lg: &[f64; 8], w: &[f64; 8]) -> Measured
         requires { big.now ≡ amounts_of self.x.now ln_w.now self.m.n }
         ensures { let l = self.entry in
@@ -246,6 +247,7 @@ impl<'a> Tested<'a> {
     }
 
     // The trial near solvent j: 24, 25, and 27 at its limit.
+    #[tactic(auto, unfolding(floats::specs::Outcome::bind, crate::specs::Steps::after))]
     fn trial(self, j: usize) -> Result<LiquidStabilityTrial, Refusal>
         ensures { let l = self.entry in
             outcome_of result ≡ trial_from (activity_on l.table.now l.tabled) l.o.tm_threshold l.m.n l.x.now l.d.now j l.o.max_iterations 0 (start_of l.x.now l.m.n j) }
@@ -261,6 +263,7 @@ impl<'a> Tested<'a> {
     }
 
     // One trial near each solvent present. All of them run: a later trial's refusal stands before an unstable one's answer.
+    #[tactic(auto, unfolding(crate::specs::Stability::no_trials, crate::specs::Stability::trials_to, crate::specs::Stability::with_trial))]
     fn trials(self) -> Result<LiquidStability, Refusal>
         ensures { let l = self.entry in outcome_of result ≡ trials_to (activity_on l.table.now l.tabled) l.m.n l.o l.x.now l.d.now l.m.n }
     {
