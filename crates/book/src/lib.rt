@@ -42,6 +42,7 @@ fn whole_blocks(book: &[u8]) -> Option<&[[u8; 512]]>
 
 // A word of a whole block, read with no test for its end.
 // Kept: shared with `blocks` it would be a `pub fn` with a `requires`, and `float_at` is one line. `k < 64` is the place of a word, here and below.
+#[tactic(auto, unfolding(blocks::specs::Words::word))]
 fn word(s: &[u8; 512], k: usize) -> u64
     requires { k < 64 }
     ensures { result ≡ word s.now k }
@@ -65,6 +66,7 @@ fn carry(bits: u64) -> u64
 }
 
 // No early way out, and no test in the loop: over a known count it is unrolled, two words to a step.
+#[tactic(auto, unfolding(crate::specs::Book::floats_finite, floats::specs::Fold::all_to))]
 fn floats_finite(s: &[u8; 512], from: usize, count: usize) -> bool
     requires { from + count ≤ 64 }
     ensures { result ≡ floats_finite (word s.now) from count }
@@ -83,6 +85,7 @@ fn checks_right(rule: Rule, blocks: &[[u8; 512]]) -> bool
 }
 
 // Kind 1 has version 1 to 3.
+#[tactic(auto, unfolding(crate::specs::Book::version_right))]
 fn version_right(s: &[u8; 512]) -> bool
     ensures { result ≡ version_right (word s.now) }
 {
@@ -90,6 +93,7 @@ fn version_right(s: &[u8; 512]) -> bool
     word(s, 0) != 1 || (1..=3).contains(&version)
 }
 
+#[tactic(auto, unfolding(crate::specs::Book::head_right))]
 fn head_right(s: &[u8; 512]) -> bool
     ensures { result ≡ head_right (word s.now) }
 {
@@ -97,6 +101,7 @@ fn head_right(s: &[u8; 512]) -> bool
 }
 
 // 0, NRTL; or 1, Wilson, from version 2 on.
+#[tactic(auto, unfolding(crate::specs::Book::model_right))]
 fn model_right(s: &[u8; 512]) -> bool
     ensures { result ≡ model_right (word s.now) }
 {
@@ -129,6 +134,7 @@ fn pair_count(m: Count) -> usize
 }
 
 // Kind 2, its own index, a CAS number, term counts 1 to 8.
+#[tactic(auto, unfolding(crate::specs::Book::solvent_right))]
 fn solvent_right(s: &[u8; 512], i: u64) -> bool
     ensures { result ≡ solvent_right (word s.now) i }
 {
@@ -154,6 +160,7 @@ fn solvents_right(solvents: &[[u8; 512]]) -> bool
 
 // 0 < low ≤ high < t_r (K), the reducing value positive.
 // Kept: `f` is a word's place, with room for the record behind it (`record_right` too); as an enum of two records it would be turned into 3 or 24 here.
+#[tactic(auto, unfolding(crate::specs::Book::range_right))]
 fn range_right(s: &[u8; 512], f: usize) -> bool
     requires { f ≤ 24 }
     ensures { result ≡ range_right (word s.now) f }
@@ -166,6 +173,7 @@ fn range_right(s: &[u8; 512], f: usize) -> bool
 }
 
 // The record from word f on.
+#[tactic(auto, unfolding(crate::specs::Book::record_right))]
 fn record_right(s: &[u8; 512], f: usize) -> bool
     requires { f ≤ 24 }
     ensures { result ≡ record_right (word s.now) f }
@@ -178,6 +186,7 @@ fn record_right(s: &[u8; 512], f: usize) -> bool
 }
 
 // Vapor pressure and liquid density. As a rule the unused places are finite too, so one scan does for both records.
+#[tactic(auto, unfolding(crate::specs::Book::records_right))]
 fn records_right(s: &[u8; 512]) -> bool
     ensures { result ≡ records_right (word s.now) }
 {
@@ -230,6 +239,7 @@ fn cas_distinct(solvents: &[[u8; 512]]) -> bool
 }
 
 // Kind 3, due i and j, flags 0 or 1.
+#[tactic(auto, unfolding(crate::specs::Book::pair_right))]
 fn pair_right(s: &[u8; 512], i: u64, j: u64) -> bool
     ensures { result ≡ pair_right (word s.now) i j }
 {
@@ -250,6 +260,7 @@ fn row_right(i: usize, row: &[[u8; 512]]) -> bool
 }
 
 // The bounds of an interval are read only if it is flagged.
+#[tactic(auto, unfolding(crate::specs::Book::bounds_finite))]
 fn bounds_finite(s: &[u8; 512]) -> bool
     ensures { result ≡ bounds_finite (word s.now) }
 {
@@ -259,6 +270,7 @@ fn bounds_finite(s: &[u8; 512]) -> bool
 // Kept: each `match self` is a definition by cases, with a constant in each: a count that is known lets the loop unroll.
 impl Model {
     // Four taus and two alphas each way, or a and b.
+    #[tactic(auto, unfolding(crate::specs::Book::parameters_finite))]
     fn parameters_finite(self, s: &[u8; 512]) -> bool
         ensures { result ≡ parameters_finite self (word s.now) }
     {
@@ -268,6 +280,7 @@ impl Model {
         }
     }
 
+    #[tactic(auto, unfolding(crate::specs::Book::pair_finite))]
     fn pair_finite(self, s: &[u8; 512]) -> bool
         ensures { result ≡ pair_finite self (word s.now) }
     {
@@ -297,6 +310,7 @@ impl Model {
     }
 }
 
+#[tactic(auto, unfolding(crate::specs::Book::alphas_equal))]
 fn alphas_equal(s: &[u8; 512]) -> bool
     ensures { result ≡ alphas_equal Model.Nrtl (word s.now) }
 {
@@ -324,6 +338,7 @@ struct Book<'a> {
 }
 
 impl<'a> Book<'a> {
+    #[tactic(auto, unfolding(floats::specs::Fold::all_to, crate::specs::Places::row_from))]
     fn pairs_right(self) -> bool
         ensures { result ≡ all_to (λ i. row_right (words_in self.entry.blocks.now) i (row_from self.entry.head.n i) (self.entry.head.n - i - 1)) self.entry.head.n }
     {
@@ -339,6 +354,7 @@ impl<'a> Book<'a> {
         true
     }
 
+    #[tactic(auto, unfolding(crate::specs::Book::pairs_of, floats::specs::Outcome::need))]
     fn open_pairs(self) -> Result<Head, Refusal>
         ensures { outcome_of result ≡ pairs_of (words_in self.entry.blocks.now) self.entry.head }
     {
@@ -378,6 +394,7 @@ impl<'a> Book<'a> {
     }
 }
 
+#[tactic(auto, unfolding(crate::specs::Book::head_of, floats::specs::Outcome::need, crate::specs::Book::head_in, crate::specs::Book::model_in))]
 fn open_head(blocks: &[[u8; 512]]) -> Result<Head, Refusal>
     requires { 0 < length blocks.now }
     ensures { outcome_of result ≡ head_of (words_in blocks.now) (length blocks.now) }

@@ -6,10 +6,6 @@ use Rattle.book.proofs.Laws.{row_ends, row_next}
 use Rattle.book.specs.Places.{row_from}
 use Rattle.book.proofs.Book.pairs_right.Goals as goal
 
-pub loop-i-init : goal.loop-i-init
-unfolding all_to row_from
-loop-i-init c = (refl, take_all _ _ (simp length-drop (omega arith)))
-
 pub split_at-requires : goal.split_at-requires
 split_at-requires c = omega (arith, row_ends c.args.self.head.n c.loop-i.i c.args.self.few c.loop-i-test.true refl, c.args.self.size, ap length c.loop-i.invariant.1 ∙ length-drop (row_from c.args.self.head.n c.loop-i.i) _)
 
@@ -24,6 +20,3 @@ loop-i-preserved c =
     let count = c.args.self.head.n - c.loop-i.i - 1 in
     (all_turn _ _ c.loop-i.invariant.0 (sym (c.if-not-row_right.ensures ∙ row_read _ _ _ _ c.args.self.size fits c.loop-i.invariant.1 c.split_at.ensures.front)),
     c.split_at.ensures.back ∙ rw (c.loop-i.invariant.1, row_next) (drop-drop count _ _))
-
-pub returns : goal.returns
-returns c = all_end _ _ _ (omega arith) (omega arith) c.loop-i.invariant.0
