@@ -5,8 +5,8 @@ use Rattle.std.specs.Prelude.{ℕ, zero, suc, Bool, not, cond, ◌&&◌, ◌||�
 use Rattle.std.specs.Float.Ieee.{neg, lt, le, eq}
 use Rattle.std.specs.declared.ops.ControlFlow.{ControlFlow}
 use Rattle.std.specs.declared.ops.ControlFlow.TheVariants.{Break, Continue}
-use Rattle.floats.specs.Arithmetic.{◌⊕◌, ◌⊖◌, ◌⊗◌, ◌⊘◌, 0f, ½, 1f, 2f, 4ε, ∞, -∞}
-use Rattle.floats.specs.Small.{is_finite, max_of, min_of, abs_of}
+use Rattle.floats.specs.Arithmetic.{◌⊕◌, ◌⊖◌, ◌⊗◌, ◌⊘◌, 0f, ½, 1f, 4ε, ∞, -∞}
+use Rattle.floats.specs.Small.{is_finite, max_of, min_of, abs_of, middle}
 use Rattle.floats.specs.Fold.{fold_to, sum_to, active}
 use Rattle.floats.specs.Vector.{vec, zeros8}
 use Rattle.floats.specs.Outcome.{Out, ok, no, bind, need, choose}
@@ -27,10 +27,6 @@ pub record Solution : Type 0 where
   pub vapor : List Float
   pub residual : Float
   pub iterations : ℕ
-
--- bisection
-abbrev pub middle : Float → Float → Float
-middle lo hi = lo ⊕ (hi ⊖ lo) ⊘ 2f
 
 -- the step is at most 4 ε times max(|β|, 1)
 abbrev pub small : Float → Float → Bool

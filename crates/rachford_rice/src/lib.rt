@@ -4,12 +4,12 @@
 ghost use Rattle.std.specs.Prelude.{◌≡◌, cond, ◌&&◌, Float};
 ghost use Rattle.std.specs.Float.Ieee.{lt};
 ghost use Rattle.floats.specs.Arithmetic.{◌⊕◌, ◌⊗◌, ◌⊘◌, ◌⊖◌, 0f, 1f, ½};
-ghost use Rattle.floats.specs.Small.{is_finite};
+ghost use Rattle.floats.specs.Small.{is_finite, middle};
 ghost use Rattle.floats.specs.Fold.{fold_to, active};
 ghost use Rattle.floats.specs.Vector.{at, places, vec};
 ghost use Rattle.floats.specs.Outcome.{ok, bind};
 ghost use Rattle.outcome.specs.Refused.{outcome_of};
-ghost use Rattle.rachford_rice.specs.Rachford.{middle, turn_of, goes, residual_of, slope_of, k_max, k_min, validate, liquid_part, solution_at, iterate, between, negative, two_phase, one_phase, constrained};
+ghost use Rattle.rachford_rice.specs.Rachford.{turn_of, goes, residual_of, slope_of, k_max, k_min, validate, liquid_part, solution_at, iterate, between, negative, two_phase, one_phase, constrained};
 
 use floats::Count;
 use outcome::Refusal;
@@ -91,7 +91,7 @@ fn next_from(newton: f64, lo: f64, hi: f64) -> f64
     if newton > lo && newton < hi && floats::is_finite(newton) {
         newton
     } else {
-        lo + (hi - lo) / 2.0
+        floats::middle(lo, hi)
     }
 }
 

@@ -12,7 +12,7 @@ ghost use Rattle.thermo_models.specs.Model.{Activity};
 ghost use Rattle.thermo_models.specs.Activity.{activity_of};
 ghost use Rattle.thermo_models.specs.Domain.{pure_liquids_of};
 ghost use Rattle.saturation.specs.Saturation.{dew_at};
-ghost use Rattle.saturation_temperature.specs.Search.{Point, middle, step_of, collapsed, solve_temperature};
+ghost use Rattle.saturation_temperature.specs.Search.{Point, step_of, collapsed, solve_temperature};
 ghost use Rattle.saturation_temperature.specs.Boiling.{bubble_saturation, dew_saturation, bubble_temperature, dew_temperature};
 ghost use Rattle.saturation_temperature.specs.Answers.{activity_from, Weighed, first_in, Evaluates, bubble_tried, dew_tried};
 
@@ -45,13 +45,6 @@ struct Bracket {
 
 // ---- the search, for any f
 
-// Kept: `rachford_rice` has the same line; shared it would be a public function with contract and edits in their place.
-fn middle(lo: f64, hi: f64) -> f64
-    ensures { result ≡ middle lo hi }
-{
-    lo + (hi - lo) / 2.0
-}
-
 // The Newton step where f rises and the step stays inside the bracket, else the middle.
 #[tactic(auto, unfolding(crate::specs::Search::step_of))]
 fn step(f: Point, b: Bracket) -> Bracket
@@ -66,7 +59,7 @@ fn step(f: Point, b: Bracket) -> Bracket
     let next = if (0.0 < f.slope) & (lo < newton) & (newton < hi) {
         newton
     } else {
-        middle(lo, hi)
+        floats::middle(lo, hi)
     };
     Bracket { lo, hi, next }
 }
@@ -116,7 +109,7 @@ fn solve_temperature<S: Copy, F: Fn(f64) -> Result<(Point, S), Refusal>>(
     let mut bracket = Bracket {
         lo,
         hi,
-        next: middle(lo, hi),
+        next: floats::middle(lo, hi),
     };
     for done in 0..o.max_temperature_iterations {
         let t = bracket.next;
