@@ -1,7 +1,7 @@
 // The small functions on f64, each equal to its definition in specs/Small.antt, and a count of at most eight.
 #![tactic(auto)]
 
-ghost use Rattle.std.specs.Prelude.{◌≡◌, ◌≤◌, if◌then◌else◌};
+ghost use Rattle.std.specs.Prelude.{◌≡◌, ◌≤◌};
 ghost use Rattle.floats.specs.Small.{is_finite, positive, max_of, min_of, abs_of, middle, bits_of, float_of};
 ghost use Rattle.floats.specs.Vector.{places};
 
@@ -48,14 +48,6 @@ pub fn middle(lo: f64, hi: f64) -> f64
     ensures { result ≡ middle lo hi }
 {
     lo + (hi - lo) / 2.0
-}
-
-// One of two that are both worked out: a select, and no branch.
-// Kept: std's `select_unpredictable` has the same contract and the same body, and would stand here as its one call.
-pub fn pick(first: bool, a: f64, b: f64) -> f64
-    ensures { result ≡ (if first then a else b) }
-{
-    if first { a } else { b }
 }
 
 // A NaN is always written 0x7ff8000000000000.

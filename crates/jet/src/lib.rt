@@ -160,19 +160,11 @@ pub trait Pairs<const M: usize> {
 }
 
 // The six parameters of the pair (i, j), from (i * 8 + j) * 6 on; indices modulo 8.
-// Kept: by `from_fn` the check finds that each index is within, not that the array is the definition's list of six.
 pub fn pair(parameters: &[f64; 384], i: usize, j: usize) -> [f64; 6]
     ensures { result ≡ six parameters.now (i % 8 * 8 + j % 8) }
 {
     let e = (i % 8 * 8 + j % 8) * 6;
-    [
-        parameters[e],
-        parameters[e + 1],
-        parameters[e + 2],
-        parameters[e + 3],
-        parameters[e + 4],
-        parameters[e + 5],
-    ]
+    std::array::from_fn(|k| parameters[e + k])
 }
 
 // Kept: i, j and e are a loop's own; a type for them would be made at each turn.

@@ -15,6 +15,7 @@ ghost use Rattle.liquid_stability.specs.Steps.{amounts_of, TrialTurn};
 
 use floats::Count;
 use outcome::Refusal;
+use std::hint::select_unpredictable;
 use std::ops::ControlFlow;
 use thermo_models::Tabled;
 use thermo_types::ActivityOptions;
@@ -141,7 +142,7 @@ impl<'a> Tested<'a> {
         let far = numerics::ln(START_REST / self.others);
         std::array::from_fn(|i| {
             if i < self.m.n {
-                floats::pick(i == j, near, far)
+                select_unpredictable(i == j, near, far)
             } else {
                 0.0
             }
@@ -153,7 +154,7 @@ impl<'a> Tested<'a> {
         ensures { result ≡ amounts_of self.entry.x.now ln_w.now self.entry.m.n }
     {
         let all = numerics::exps(ln_w, self.m.n);
-        std::array::from_fn(|i| floats::pick(i < self.m.n && self.x[i] > 0.0, all[i], 0.0))
+        std::array::from_fn(|i| select_unpredictable(i < self.m.n && self.x[i] > 0.0, all[i], 0.0))
     }
 
     // Kept: a loop, here and in measure: a fold's closure gives the sums back in an `else`, and is no plainer.
@@ -174,7 +175,7 @@ impl<'a> Tested<'a> {
     fn composition(self, big: &[f64; 8], s: f64) -> [f64; 8]
         ensures { let l = self.entry in result ≡ vec (λ i. cond (lt 0f (at l.x.now i)) (at big.now i ⊘ s) 0f) l.m.n }
     {
-        std::array::from_fn(|i| floats::pick(i < self.m.n && self.x[i] > 0.0, big[i] / s, 0.0))
+        std::array::from_fn(|i| select_unpredictable(i < self.m.n && self.x[i] > 0.0, big[i] / s, 0.0))
     }
 
     // tm = 1 + Σ W_i (ln W_i + ln γ_i(w) - d_i - 1), with the two largest differences.

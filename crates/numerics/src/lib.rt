@@ -12,6 +12,7 @@ ghost use Rattle.numerics.specs.declared.Near.{Near};
 ghost use Rattle.numerics.specs.Numerics.{ln_of, ln_from, ln_split, mantissa, exponent, exp_of, exp_from, exp_shift, powf_of, pow2, whole};
 
 use std::f64::consts::{LOG2_E as C, SQRT_2};
+use std::hint::select_unpredictable;
 
 // ln 2, in two parts: A has few digits, so that a small whole number times A is exact.
 const A: f64 = 0.6931471803691238;
@@ -109,7 +110,7 @@ fn exp_near(v: f64) -> Near
     ensures { IsTrue result.ok → result.y ≡ exp_of v }
 {
     let near = (-700.0 <= v) & (v <= 700.0);
-    let w = floats::pick(near, v, 0.0);
+    let w = select_unpredictable(near, v, 0.0);
     let p = C * w;
     let u = (p + ROUNDING).to_bits() % 2048;
     let f = count(u);
@@ -216,7 +217,7 @@ fn ln_fields(field: u64, digits: u64) -> f64
 {
     let m = f64::from_bits(digits + ONE);
     let up = m > SQRT_2;
-    ln_from(count(field + u64::from(up)), floats::pick(up, m * 0.5, m))
+    ln_from(count(field + u64::from(up)), select_unpredictable(up, m * 0.5, m))
 }
 
 // ln of a float below the smallest normal one, which is `digits` times 2^-1074.
@@ -264,7 +265,7 @@ fn ln_near(v: f64) -> Near
     ensures { IsTrue result.ok → result.y ≡ ln_of v }
 {
     let above = (0.0 < v) & (v < f64::INFINITY);
-    let bits = floats::pick(above, v, 1.0).to_bits();
+    let bits = select_unpredictable(above, v, 1.0).to_bits();
     let field = bits / FIELD;
     Near {
         y: ln_fields(field, bits % FIELD),

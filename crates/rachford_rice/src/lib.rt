@@ -13,6 +13,7 @@ ghost use Rattle.rachford_rice.specs.Rachford.{turn_of, goes, residual_of, slope
 
 use floats::Count;
 use outcome::Refusal;
+use std::hint::select_unpredictable;
 use std::ops::ControlFlow;
 
 // Constrained or negative: vapor fraction, residual |g(β)| and count of a split.
@@ -101,8 +102,8 @@ fn turn_from(g: f64, slope: f64, at: Bracket) -> ControlFlow<f64, Bracket>
     ensures { result ≡ goes g at.beta (turn_of g slope at.lo at.hi at.beta) }
 {
     let beta = at.beta;
-    let lo = floats::pick(g > 0.0, beta, at.lo);
-    let hi = floats::pick(g > 0.0, at.hi, beta);
+    let lo = select_unpredictable(g > 0.0, beta, at.lo);
+    let hi = select_unpredictable(g > 0.0, at.hi, beta);
     let next = next_from(beta - g / slope, lo, hi);
     let least = floats::FOUR_EPSILON * floats::max(floats::abs(beta), 1.0);
     let small = floats::abs(next - beta) <= least;

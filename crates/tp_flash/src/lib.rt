@@ -13,6 +13,7 @@ ghost use Rattle.tp_flash.specs.Tp.{inside, near_edge, stable_liquid, dew_of, si
 use liquid_stability::LiquidStability;
 use outcome::Refusal;
 use rachford_rice::RachfordRiceOutcome;
+use std::hint::select_unpredictable;
 use thermo_models::{ActivityCoefficients, Tabled};
 use thermo_types::{ActivityOptions, Pressure};
 
@@ -163,7 +164,7 @@ impl<'a> Feed<'a> {
         ensures { outcome_of result ≡ phase_of self.entry.z.now l.now (places self.entry.at.n) }
     {
         let n = floats::places(self.at.n);
-        let w = std::array::from_fn(|i| floats::pick(i < n && self.z[i] > 0.0, l[i], 0.0));
+        let w = std::array::from_fn(|i| select_unpredictable(i < n && self.z[i] > 0.0, l[i], 0.0));
         thermo_types::normalize(&w, self.at.n)
     }
 
