@@ -7,6 +7,8 @@ ghost use Rattle.floats.specs.Vector.{at, places};
 ghost use Rattle.jet.specs.Jets.{const_j, two_j, add_j, sub_j, neg_j, mul_j, scale_j, div_j, exp_with, exp_j, ln_with, ln_j};
 ghost use Rattle.jet.specs.Planes.{Holds, six, cell_of, spread, plane_pairs, plane_rows};
 
+use std::ops::{Add, Div, Mul, Neg, Sub};
+
 // A quantity with its derivatives by the temperature, 1/K and 1/K².
 #[derive(Clone, Copy)]
 pub struct Jet {
@@ -15,7 +17,6 @@ pub struct Jet {
     pub dd: f64,
 }
 
-// Kept: add to div are public methods, by the names that the Rust's `Jet` gives them, and no traits of std::ops.
 impl Jet {
     // A number that doesn't depend on the temperature.
     #[tactic(auto, unfolding(crate::specs::Jets::const_j, crate::specs::Jets::two_j))]
@@ -37,50 +38,6 @@ impl Jet {
         }
     }
 
-    #[tactic(auto, unfolding(crate::specs::Jets::add_j))]
-    pub fn add(self, o: Jet) -> Jet
-        ensures { result ≡ add_j self o }
-    {
-        Jet {
-            v: self.v + o.v,
-            d: self.d + o.d,
-            dd: self.dd + o.dd,
-        }
-    }
-
-    #[tactic(auto, unfolding(crate::specs::Jets::sub_j))]
-    pub fn sub(self, o: Jet) -> Jet
-        ensures { result ≡ sub_j self o }
-    {
-        Jet {
-            v: self.v - o.v,
-            d: self.d - o.d,
-            dd: self.dd - o.dd,
-        }
-    }
-
-    #[tactic(auto, unfolding(crate::specs::Jets::neg_j))]
-    pub fn neg(self) -> Jet
-        ensures { result ≡ neg_j self }
-    {
-        Jet {
-            v: -self.v,
-            d: -self.d,
-            dd: -self.dd,
-        }
-    }
-
-    #[tactic(auto, unfolding(crate::specs::Jets::mul_j))]
-    pub fn mul(self, o: Jet) -> Jet
-        ensures { result ≡ mul_j self o }
-    {
-        Jet {
-            v: self.v * o.v,
-            d: self.d * o.v + self.v * o.d,
-            dd: self.dd * o.v + 2.0 * self.d * o.d + self.v * o.dd,
-        }
-    }
-
     #[tactic(auto, unfolding(crate::specs::Jets::scale_j))]
     pub fn scale(self, x: f64) -> Jet
         ensures { result ≡ scale_j self x }
@@ -90,16 +47,6 @@ impl Jet {
             d: self.d * x,
             dd: self.dd * x,
         }
-    }
-
-    #[tactic(auto, unfolding(crate::specs::Jets::div_j))]
-    pub fn div(self, o: Jet) -> Jet
-        ensures { result ≡ div_j self o }
-    {
-        let q = self.v / o.v;
-        let d = (self.d - q * o.d) / o.v;
-        let dd = (self.dd - 2.0 * d * o.d - q * o.dd) / o.v;
-        Jet { v: q, d, dd }
     }
 
     // exp of self, where e is exp of its value.
@@ -136,6 +83,80 @@ impl Jet {
         ensures { result ≡ ln_j self }
     {
         self.ln_with(numerics::ln(self.v))
+    }
+}
+
+impl Add for Jet {
+    type Output = Jet;
+
+    ghost add_gives = { λ a b r. r ≡ add_j a b };
+
+    #[tactic(auto, unfolding(crate::specs::Jets::add_j))]
+    fn add(self, o: Jet) -> Jet {
+        Jet {
+            v: self.v + o.v,
+            d: self.d + o.d,
+            dd: self.dd + o.dd,
+        }
+    }
+}
+
+impl Sub for Jet {
+    type Output = Jet;
+
+    ghost sub_gives = { λ a b r. r ≡ sub_j a b };
+
+    #[tactic(auto, unfolding(crate::specs::Jets::sub_j))]
+    fn sub(self, o: Jet) -> Jet {
+        Jet {
+            v: self.v - o.v,
+            d: self.d - o.d,
+            dd: self.dd - o.dd,
+        }
+    }
+}
+
+impl Mul for Jet {
+    type Output = Jet;
+
+    ghost mul_gives = { λ a b r. r ≡ mul_j a b };
+
+    #[tactic(auto, unfolding(crate::specs::Jets::mul_j))]
+    fn mul(self, o: Jet) -> Jet {
+        Jet {
+            v: self.v * o.v,
+            d: self.d * o.v + self.v * o.d,
+            dd: self.dd * o.v + 2.0 * self.d * o.d + self.v * o.dd,
+        }
+    }
+}
+
+impl Div for Jet {
+    type Output = Jet;
+
+    ghost div_gives = { λ a b r. r ≡ div_j a b };
+
+    #[tactic(auto, unfolding(crate::specs::Jets::div_j))]
+    fn div(self, o: Jet) -> Jet {
+        let q = self.v / o.v;
+        let d = (self.d - q * o.d) / o.v;
+        let dd = (self.dd - 2.0 * d * o.d - q * o.dd) / o.v;
+        Jet { v: q, d, dd }
+    }
+}
+
+impl Neg for Jet {
+    type Output = Jet;
+
+    ghost neg_gives = { λ a r. r ≡ neg_j a };
+
+    #[tactic(auto, unfolding(crate::specs::Jets::neg_j))]
+    fn neg(self) -> Jet {
+        Jet {
+            v: -self.v,
+            d: -self.d,
+            dd: -self.dd,
+        }
     }
 }
 

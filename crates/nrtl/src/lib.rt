@@ -113,7 +113,7 @@ impl Liquid<'_> {
         let mut s = [Jet::constant(0.0); W];
         for k in 0..self.m.n {
             for w in 0..W {
-                s[w] = s[w].add(self.part(b, k, i + w));
+                s[w] = s[w] + self.part(b, k, i + w);
             }
         }
         s
@@ -130,7 +130,7 @@ impl Liquid<'_> {
         let c = self.columns::<W>(H_PLANE, i);
         for w in 0..W {
             keep_two(s[w], i + w, sums);
-            keep_jet(c[w].div(s[w]), i + w, ratios);
+            keep_jet(c[w] / s[w], i + w, ratios);
         }
     }
 
@@ -191,7 +191,7 @@ impl Summed<'_> {
     {
         let mut e = Jet::constant(0.0);
         for i in 0..self.of.m.n {
-            e = e.add(jet_in(self.ratios, i).scale(self.of.x[i]));
+            e = e + jet_in(self.ratios, i).scale(self.of.x[i]);
         }
         e
     }
@@ -203,11 +203,9 @@ impl Summed<'_> {
         ensures { let q = self.entry in result ≡ term_j (twos q.of.table.now tau_plane i j) (twos q.of.table.now g_plane i j) (two_in q.sums.now j) (two_in q.ratios.now j) (at q.of.x.now j) }
     {
         let e = i * 8 + j;
+        let g = two_at(self.of.table, G_PLANE, e);
         let tau = two_at(self.of.table, TAU_PLANE, e);
-        two_at(self.of.table, G_PLANE, e)
-            .scale(self.of.x[j])
-            .div(two_in(self.sums, j))
-            .mul(tau.sub(two_in(self.ratios, j)))
+        g.scale(self.of.x[j]) / two_in(self.sums, j) * (tau - two_in(self.ratios, j))
     }
 
     // ln γ of W solvents from i on.
@@ -222,7 +220,7 @@ impl Summed<'_> {
         }
         for j in 0..self.of.m.n {
             for w in 0..W {
-                l[w] = l[w].add(self.term(i + w, j));
+                l[w] = l[w] + self.term(i + w, j);
             }
         }
         l

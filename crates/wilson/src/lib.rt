@@ -59,7 +59,7 @@ impl Liquid<'_> {
     {
         let mut s = Jet::constant(0.0);
         for j in 0..self.m.n {
-            s = s.add(jet_at(self.table, i * 8 + j).scale(self.x[j]));
+            s = s + jet_at(self.table, i * 8 + j).scale(self.x[j]);
         }
         s
     }
@@ -73,7 +73,7 @@ impl Liquid<'_> {
         sums[i * 4 + 1] = s.d;
         sums[i * 4 + 2] = l.v;
         sums[i * 4 + 3] = l.d;
-        total.add(l.scale(self.x[i]))
+        total + l.scale(self.x[i])
     }
 
     // Two solvents to a step: their logarithms side by side.
@@ -135,9 +135,7 @@ impl Summed<'_> {
         requires { (k < 8) × (i < 8) }
         ensures { let q = self.entry in result ≡ div_j (scale_j (twos q.of.table.now 0 k i) (at q.of.x.now k)) (s_in q.sums.now k) }
     {
-        two_at(self.of.table, k * 8 + i)
-            .scale(self.of.x[k])
-            .div(two_of(self.sums, k * 4))
+        two_at(self.of.table, k * 8 + i).scale(self.of.x[k]) / two_of(self.sums, k * 4)
     }
 
     // Of W solvents from i on, side by side: their sums don't depend on each other, so the machine's lanes share the loop.
@@ -149,7 +147,7 @@ impl Summed<'_> {
         let mut q = [Jet::constant(0.0); W];
         for k in 0..self.of.m.n {
             for w in 0..W {
-                q[w] = q[w].add(self.quotient_at(k, i + w));
+                q[w] = q[w] + self.quotient_at(k, i + w);
             }
         }
         q
@@ -160,7 +158,7 @@ impl Summed<'_> {
         requires { i < 8 }
         ensures { result ≡ sub_j (sub_j (const_j 1f) (r_in self.entry.sums.now i)) q }
     {
-        Jet::constant(1.0).sub(two_of(self.sums, i * 4 + 2)).sub(q)
+        Jet::constant(1.0) - two_of(self.sums, i * 4 + 2) - q
     }
 
     #[tactic(auto, unfolding(crate::specs::Sums::wilson_from))]
@@ -205,7 +203,7 @@ fn state(
     let mut sums = [0.0; 32];
     let total = of.fill_sums(&mut sums);
     Summed { of, sums: &sums }.fill_lns(ln_gamma, slopes);
-    excess::finite_state(total.neg(), of.m.n, t, ln_gamma, slopes)
+    excess::finite_state(-total, of.m.n, t, ln_gamma, slopes)
 }
 
 // ln γ and slopes (1/K), 0.0 past n, and the energies at t and the mole fractions x, from a table.
