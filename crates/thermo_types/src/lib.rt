@@ -20,7 +20,8 @@ pub struct Temperature(f64);
 #[derive(Clone, Copy)]
 pub struct Pressure(f64);
 
-// What the solvers iterate with: limits, the tolerance of ln fugacities, the threshold of tm below which a liquid is unstable, the bracket in K.
+// What the solvers iterate with: limits, the tolerance of ln fugacities, the threshold of tm below which a liquid is
+// unstable, the bracket in K.
 #[derive(Clone, Copy)]
 pub struct ActivityOptions {
     pub max_iterations: u64,

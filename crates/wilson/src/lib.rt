@@ -22,7 +22,8 @@ use thermo_types::Temperature;
 
 // ---- the sums S and ln S
 
-// Kept: nrtl has a jet_at, a two_at, a keep_lns and a Liquid too; one pub fn for both has no `requires`, and would mask each index.
+// Kept: nrtl has a jet_at, a two_at, a keep_lns and a Liquid too; one pub fn for both has no `requires`, and would mask each
+// index.
 // Kept: the bounds of indices (`e < 64`, `i < 8`): each is a loop's own, and a type for it would be made at each turn.
 fn jet_at(table: &[f64; 512], e: usize) -> Jet
     requires { e < 64 }
