@@ -15,7 +15,7 @@ ghost use Rattle.sheet.specs.Sheet.{Answers, number_of};
 ghost use Rattle.batch.specs.Feeds.{feed_count, feeds_right, task_among, feed_to, parts_to, feeds_of, slice_of, Keeps};
 
 use blocks::word;
-use book::Head;
+use book::{Head, float_at};
 use outcome::Refusal;
 use question::{Task, floats_from, read_rest, read_task};
 use replies::ANSWER_ROOM;
@@ -72,8 +72,8 @@ impl<'a> Call<'a> {
                 self.book,
                 self.head.n,
                 word(self.question, 1),
-                floats::float_of(word(self.question, 2)),
-                floats::float_of(word(self.question, 3)),
+                float_at(self.question, 2),
+                float_at(self.question, 3),
                 &mut kept.table,
                 &mut kept.ps,
             ),

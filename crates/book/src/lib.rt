@@ -41,7 +41,7 @@ fn whole_blocks(book: &[u8]) -> Option<&[[u8; 512]]>
 }
 
 // A word of a whole block, read with no test for its end.
-// Kept: shared with `blocks` it would be a `pub fn` with a `requires`, and `float_at` is one line. `k < 64` is the place of a word, here and below.
+// Kept: shared with `blocks` it would be a `pub fn` with a `requires`, and `float_in` is one line. `k < 64` is the place of a word, here and below.
 #[tactic(auto, unfolding(blocks::specs::Words::word))]
 fn word(s: &[u8; 512], k: usize) -> u64
     requires { k < 64 }
@@ -51,7 +51,14 @@ fn word(s: &[u8; 512], k: usize) -> u64
     u64::from_le_bytes(s[from..from + 8].try_into().unwrap())
 }
 
-fn float_at(s: &[u8; 512], k: usize) -> f64
+// Word k of a slice as a float.
+pub fn float_at(s: &[u8], k: usize) -> f64
+    ensures { result ≡ float (word s.now) k }
+{
+    floats::float_of(blocks::word(s, k))
+}
+
+fn float_in(s: &[u8; 512], k: usize) -> f64
     requires { k < 64 }
     ensures { result ≡ float (word s.now) k }
 {
@@ -165,10 +172,10 @@ fn range_right(s: &[u8; 512], f: usize) -> bool
     requires { f ≤ 24 }
     ensures { result ≡ range_right (word s.now) f }
 {
-    let t_r = float_at(s, f);
-    let reducing_value = float_at(s, f + 1);
-    let low = float_at(s, f + 2);
-    let high = float_at(s, f + 3);
+    let t_r = float_in(s, f);
+    let reducing_value = float_in(s, f + 1);
+    let low = float_in(s, f + 2);
+    let high = float_in(s, f + 3);
     (0.0 < low) & (low <= high) & (high < t_r) & (0.0 < reducing_value)
 }
 
@@ -213,7 +220,7 @@ pub fn has_masses(version: u64) -> bool
 fn masses_positive(solvents: &[[u8; 512]]) -> bool
     ensures { result ≡ list_all (λ s. positive (float (word s) 45)) solvents.now }
 {
-    solvents.iter().all(|s| floats::positive(float_at(s, 45)))
+    solvents.iter().all(|s| floats::positive(float_in(s, 45)))
 }
 
 // Word 45 of version 1 is not read.
@@ -314,7 +321,7 @@ impl Model {
 fn alphas_equal(s: &[u8; 512]) -> bool
     ensures { result ≡ alphas_equal Model.Nrtl (word s.now) }
 {
-    (float_at(s, 11) == float_at(s, 13)) & (float_at(s, 12) == float_at(s, 14))
+    (float_in(s, 11) == float_in(s, 13)) & (float_in(s, 12) == float_in(s, 14))
 }
 
 // Questions 8 and 9 in one reading. As a rule the alphas are the same words, and unflagged bounds are finite too.

@@ -15,6 +15,7 @@ ghost use Rattle.question.specs.Inputs.{is_task, task_number, task_found, needs_
 ghost use Rattle.question.specs.Asked.{task_in, kind_right, feed_of, temperature_right, pressure_right, inputs_finite, ratios_positive, inputs_right, tolerance_right, options_right, limited, limits_some, limits_few, limits_right, moles_of, options_in, question_from, rest_of, question_of};
 
 use blocks::{Rule, word};
+use book::float_at;
 use outcome::Refusal;
 use thermo_types::ActivityOptions;
 
@@ -103,13 +104,6 @@ fn needs_ratios(task: u64) -> bool
     ensures { result ≡ needs_ratios task }
 {
     matches!(task, 8..=9)
-}
-
-// Kept: as in records; one line each; shared it is longer, and no plainer.
-fn float_at(q: &[u8], k: usize) -> f64
-    ensures { result ≡ float (word q.now) k }
-{
-    floats::float_of(word(q, k))
 }
 
 // The first n floats from word `from` on, 0.0 past them.

@@ -13,7 +13,7 @@ ghost use Rattle.records.specs.Offered.{offered_place, pair_at, with_pair};
 ghost use Rattle.records.specs.Parameters.{terms_of, term_in, wilson_term, pair_term, lower_from, offered_parameter, parameter_both, parameter_border, parameter_rows, parameters_of};
 
 use blocks::word;
-use book::Model;
+use book::{Model, float_at};
 use floats::Count;
 
 // A correlation of document 003: t_r, low and high in K, the reducing value in Pa; the first `count` of n and t are
@@ -61,13 +61,6 @@ pub struct Pair {
     pub ij: Terms,
     pub ji: Terms,
     pub regression: Option<Interval>,
-}
-
-// Kept: as in question; one line each; shared it is longer, and no plainer.
-fn float_at(s: &[u8], k: usize) -> f64
-    ensures { result ≡ float (word s.now) k }
-{
-    floats::float_of(word(s, k))
 }
 
 fn eight_floats(s: &[u8], from: usize) -> [f64; 8]
@@ -150,23 +143,26 @@ fn pair_place(m: Count, i: usize, j: usize) -> usize
 
 // ---- a pair offered in the place of the book's own
 
-// The block in whose place it stands; 0 where it is for no pair of the book's first n solvents.
-// Kept: no Option: block 0 is no pair's, so one test `k == place` serves both; for the same reason the empty slice is
-// "nothing offered" (a public caller's slice).
-pub fn offered_place(book: &[u8], offered: &[u8], n: usize) -> usize
+// The block in whose place it stands, where it is for a pair of the book's first n solvents.
+// Kept: the empty slice is "nothing offered" (a public caller's slice).
+pub fn offered_place(book: &[u8], offered: &[u8], n: usize) -> Option<usize>
     ensures { result ≡ offered_place (places n) book.now offered.now }
 {
     if offered.len() != 512 {
-        return 0;
+        return None;
     }
     let m = Count::of(n);
     let i = word(offered, 1);
     let j = word(offered, 2);
     if j <= i || m.n as u64 <= j {
-        return 0;
+        return None;
     }
     let place = pair_place(m, i as usize, j as usize);
-    if place < book.len() / 512 { place } else { 0 }
+    if place < book.len() / 512 {
+        Some(place)
+    } else {
+        None
+    }
 }
 
 #[tactic(auto, unfolding(crate::specs::Records::regression_of))]
@@ -278,7 +274,7 @@ struct PairBlocks<'a> {
     model: Model,
     book: &'a [u8],
     offered: &'a [u8],
-    place: usize,
+    place: Option<usize>,
     m: Count,
 }
 
@@ -289,7 +285,7 @@ impl<'a> PairBlocks<'a> {
         ensures { result.now ≡ pair_at self.entry.book.now self.entry.offered.now self.entry.place (pair_place self.entry.m.n i j) }
     {
         let k = pair_place(self.m, i, j);
-        if k == self.place {
+        if Some(k) == self.place {
             self.offered
         } else {
             blocks::block(self.book, k)
@@ -329,7 +325,14 @@ impl<'a> PairBlocks<'a> {
 }
 
 // The pair (i, j), i < j, of a book of n solvents, where a block is offered for the pair at `place`.
-pub fn pair_record(book: &[u8], offered: &[u8], place: usize, n: usize, i: usize, j: usize) -> Pair
+pub fn pair_record(
+    book: &[u8],
+    offered: &[u8],
+    place: Option<usize>,
+    n: usize,
+    i: usize,
+    j: usize,
+) -> Pair
     ensures { result ≡ pair_of (model_of book.now) (word (pair_at book.now offered.now place (pair_place (places n) (places i) (places j)))) }
 {
     let model = book::model_of(book);

@@ -280,8 +280,7 @@ fn note(interval: Option<Interval>, t: f64, s: Seen) -> Seen
 struct Present<'a> {
     book: &'a [u8],
     offered: &'a [u8],
-    // Kept: 0 for no pair, as `records` has it: block 0 is no pair's, so one test of the place serves both.
-    place: usize,
+    place: Option<usize>,
     m: Count,
     t: f64,
     x: &'a [f64; 8],
