@@ -7,3 +7,4 @@ pub mod Squares
 pub mod Chains
 pub mod Copies
 pub mod Made
+pub mod Chosen

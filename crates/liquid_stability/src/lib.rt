@@ -157,18 +157,11 @@ impl<'a> Tested<'a> {
         std::array::from_fn(|i| select_unpredictable(i < self.m.n && self.x[i] > 0.0, all[i], 0.0))
     }
 
-    // Kept: a loop, here and in measure: a fold's closure gives the sums back in an `else`, and is no plainer.
-    #[tactic(auto, unfolding(floats::specs::Fold::fold_to))]
     fn total(self, big: &[f64; 8]) -> f64
         ensures { result ≡ fold_to (active (at self.entry.x.now) (λ i s. s ⊕ at big.now i)) 0f self.entry.m.n }
     {
-        let mut s = 0.0;
-        for i in 0..self.m.n {
-            if self.x[i] > 0.0 {
-                s += big[i];
-            }
-        }
-        s
+        let present = (0..self.m.n).filter(|&i| self.x[i] > 0.0).map(|i| big[i]);
+        present.fold(0.0, |s, w| s + w)
     }
 
     // w_i = W_i / Σ W.

@@ -142,13 +142,10 @@ impl<'a> Feed<'a> {
     fn residual(self, beta: f64) -> f64
         ensures { result ≡ residual_of (at self.entry.z.now) (at self.entry.k.now) self.entry.m.n beta }
     {
-        (0..self.m.n).fold(0.0, |s, i| {
-            if self.z[i] > 0.0 {
-                s + self.z[i] * (self.k[i] - 1.0) / (1.0 + beta * (self.k[i] - 1.0))
-            } else {
-                s
-            }
-        })
+        let terms = (0..self.m.n)
+            .filter(|&i| self.z[i] > 0.0)
+            .map(|i| self.z[i] * (self.k[i] - 1.0) / (1.0 + beta * (self.k[i] - 1.0)));
+        terms.fold(0.0, |s, term| s + term)
     }
 
     // g(β) and g'(β): the second negates its sum. 1 + β (K - 1) is worked out once for both.
@@ -156,19 +153,12 @@ impl<'a> Feed<'a> {
         ensures residual_value { result.residual ≡ residual_of (at self.entry.z.now) (at self.entry.k.now) self.entry.m.n beta }
         ensures slope_value { result.slope ≡ slope_of (at self.entry.z.now) (at self.entry.k.now) self.entry.m.n beta }
     {
-        let (residual, squares) = (0..self.m.n).fold((0.0, 0.0), |(residual, squares), i| {
-            let z = self.z[i];
-            if z > 0.0 {
-                let k = self.k[i];
-                let over = 1.0 + beta * (k - 1.0);
-                (
-                    residual + z * (k - 1.0) / over,
-                    squares + z * ((k - 1.0) * (k - 1.0)) / (over * over),
-                )
-            } else {
-                (residual, squares)
-            }
+        let terms = (0..self.m.n).filter(|&i| self.z[i] > 0.0).map(|i| {
+            let (z, k) = (self.z[i], self.k[i]);
+            let over = 1.0 + beta * (k - 1.0);
+            (z * (k - 1.0) / over, z * ((k - 1.0) * (k - 1.0)) / (over * over))
         });
+        let (residual, squares) = terms.fold((0.0, 0.0), |s, term| (s.0 + term.0, s.1 + term.1));
         Sums {
             residual,
             slope: -squares,
@@ -180,13 +170,8 @@ impl<'a> Feed<'a> {
         requires { F.IsAlwaysCallable choose }
         ensures { (f : Float → Float → Float) → ((a b r : Float) → F.post choose a b r → r ≡ f a b) → result ≡ fold_to (active (at self.entry.z.now) (λ i s. f s (at self.entry.k.now i))) first self.entry.m.n }
     {
-        (0..self.m.n).fold(first, |s, i| {
-            if self.z[i] > 0.0 {
-                choose(s, self.k[i])
-            } else {
-                s
-            }
-        })
+        let ratios = (0..self.m.n).filter(|&i| self.z[i] > 0.0).map(|i| self.k[i]);
+        ratios.fold(first, |s, k| choose(s, k))
     }
 
     fn k_max(self) -> f64

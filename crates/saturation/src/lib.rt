@@ -96,19 +96,14 @@ impl Raoult<'_> {
     }
 
     // The largest gap of a solvent that is present in both phases.
-    // Kept: a loop, here and in largest_change: a fold's closure gives `r` back in an `else`, and is no plainer.
-    #[tactic(auto, unfolding(crate::specs::Saturation::gap_of, floats::specs::Fold::fold_to))]
     fn largest_gap(self, p: f64, x: &[f64; 8], y: &[f64; 8]) -> f64
         ensures { let l = self.entry in result ≡ gap_of l.lg.now l.ps.now p x.now y.now l.m.n }
     {
         let ln_p = numerics::ln(p);
-        let mut r = 0.0;
-        for i in 0..self.m.n {
-            if (x[i] > 0.0) & (y[i] > 0.0) {
-                r = floats::max(r, gap(self.lg[i], self.ps[i], ln_p, x[i], y[i]));
-            }
-        }
-        r
+        let gaps = (0..self.m.n)
+            .filter(|&i| (x[i] > 0.0) & (y[i] > 0.0))
+            .map(|i| gap(self.lg[i], self.ps[i], ln_p, x[i], y[i]));
+        gaps.fold(0.0, floats::max)
     }
 }
 
@@ -190,17 +185,13 @@ impl Vapor<'_> {
     }
 
     // The largest change of ln γ of a solvent that is present.
-    #[tactic(auto, unfolding(crate::specs::Saturation::change_of, floats::specs::Fold::fold_to))]
     fn largest_change(self, new: &[f64; 8], old: &[f64; 8]) -> f64
         ensures { result ≡ change_of self.entry.y.now new.now old.now self.entry.m.n }
     {
-        let mut r = 0.0;
-        for i in 0..self.m.n {
-            if self.y[i] > 0.0 {
-                r = floats::max(r, floats::abs(new[i] - old[i]));
-            }
-        }
-        r
+        let changes = (0..self.m.n)
+            .filter(|&i| self.y[i] > 0.0)
+            .map(|i| floats::abs(new[i] - old[i]));
+        changes.fold(0.0, floats::max)
     }
 
     // A turn from ln γ: 25 where change or pressure isn't finite.

@@ -240,18 +240,13 @@ pub fn activity_bubble_temperature(
 
 impl Feed<'_> {
     // Σ x_i (∂ ln γ_i/∂T + d ln p_i^sat/dT) over the incipient liquid of the solvents in the vapor, 1/K.
-    #[tactic(auto, unfolding(floats::specs::Fold::fold_to))]
     fn dew_slope(self, liquid: &[f64; 8], sl: &[f64; 8], dps: &[f64; 8]) -> f64
         ensures { result ≡ fold_to (active (at self.entry.z.now) (λ i s. s ⊕ at liquid.now i ⊗ (at sl.now i ⊕ at dps.now i))) 0f self.entry.m.n }
     {
-        let y = self.z;
-        let mut s = 0.0;
-        for i in 0..self.m.n {
-            if 0.0 < y[i] {
-                s += liquid[i] * (sl[i] + dps[i]);
-            }
-        }
-        s
+        let terms = (0..self.m.n)
+            .filter(|&i| 0.0 < self.z[i])
+            .map(|i| liquid[i] * (sl[i] + dps[i]));
+        terms.fold(0.0, |s, term| s + term)
     }
 
     // f(T) = ln p_dew(T) - ln p, beside the dew point and the vapor pressures: 13, the pure liquids (22, 25), then the dew point.

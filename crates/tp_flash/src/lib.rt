@@ -169,19 +169,14 @@ impl<'a> Feed<'a> {
     }
 
     // max_i |ln(y_i p) - ln(x_i γ_i p_i^sat)| where the feed is positive.
-    // Kept: a loop, for a fold's closure gives `r` back in an `else`, and is no plainer.
-    #[tactic(auto, unfolding(crate::specs::Split::split_gap, floats::specs::Fold::fold_to))]
     fn split_gap(self, lg: &[f64; 8], x: &[f64; 8], y: &[f64; 8]) -> f64
         ensures { let f = self.entry in result ≡ split_gap f.z.now lg.now f.ps.now f.p.0 x.now y.now (places f.at.n) }
     {
         let ln_p = numerics::ln(self.p.value());
-        let mut r = 0.0;
-        for i in 0..floats::places(self.at.n) {
-            if self.z[i] > 0.0 {
-                r = floats::max(r, saturation::gap(lg[i], self.ps[i], ln_p, x[i], y[i]));
-            }
-        }
-        r
+        let gaps = (0..floats::places(self.at.n))
+            .filter(|&i| self.z[i] > 0.0)
+            .map(|i| saturation::gap(lg[i], self.ps[i], ln_p, x[i], y[i]));
+        gaps.fold(0.0, floats::max)
     }
 
     // max_i |β y_i + (1 - β) x_i - z_i|.
