@@ -1,5 +1,5 @@
 -- A fold over what a closure makes of the indices that pass a test, as a fold over all indices. Assumes nothing.
-use Prim.Native.Nat.{ℕ, zero, suc, ◌+◌}
+use Prim.Native.Nat.{ℕ, zero, suc, ◌+◌, ◌<◌}
 use mathlib.Core.Path.{◌≡◌, refl, sym, ◌∙◌, ap, subst}
 use mathlib.Core.Bool.{Bool, true, false, cond}
 use mathlib.Core.List.{map}
@@ -40,3 +40,17 @@ module _ {S A : Type 0} (test : ℕ → Bool) (v : ℕ → A) (w : S → A → S
       let chosen = YieldsList-from_filter _ test (YieldsList-from_range 0 n n source (omega arith)) chooser chooses in
       fold_from_yields_List _ w s _ ran (YieldsList-from_map _ v (subst (λ a. YieldsList (filter_steps nat_range_steps p) (λ (i : ℕ). i) a (filter test (range_with_len 0 n))) (sym under) chosen) maker makes) folds
       ∙ each n 0 s refl ∙ ap (fold_to step s) (omega arith)
+
+-- a part of such a fold, as a fold of its own
+module _ {S A R : Type 0} (test : ℕ → Bool) (v : ℕ → A) (w : S → A → S) (s : S) (p : S → R) (f : ℕ → R → R) where
+  either : (b : Bool) (a : S) {x : S} {y : R} → (b ≡ true → p x ≡ y) → p (cond b x a) ≡ cond b y (p a)
+  either true a e = e refl
+  either false a e = refl
+
+  part : (n : ℕ) → ((i : ℕ) (a : S) → i < n → test i ≡ true → p (w a (v i)) ≡ f i (p a)) → p (fold_to (step test v w s) s n) ≡ fold_to (λ i (b : R). cond (test i) (f i b) b) (p s) n
+  unfolding fold_to
+  part zero h = refl
+  part (suc n) h = either (test n) _ (h n _ (omega arith)) ∙ ap (λ (b : R). cond (test n) (f n b) b) (part n (λ i a l. h i a (omega arith)))
+
+  pub part_of_chosen : (n : ℕ) {r : S} → r ≡ fold_to (step test v w s) s n → ((i : ℕ) (a : S) → i < n → test i ≡ true → p (w a (v i)) ≡ f i (p a)) → p r ≡ fold_to (λ i (b : R). cond (test i) (f i b) b) (p s) n
+  part_of_chosen n e h = ap p e ∙ part n h

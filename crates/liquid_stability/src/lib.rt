@@ -172,6 +172,7 @@ impl<'a> Tested<'a> {
     }
 
     // tm = 1 + Σ W_i (ln W_i + ln γ_i(w) - d_i - 1), with the two largest differences.
+    // Kept: a loop, which moves three numbers of a struct in place; a fold would hand on a tuple, and the struct be made of it.
     #[tactic(auto, unfolding(crate::specs::Stability::distance_of, crate::specs::Stability::change_of, crate::specs::Stability::apart_of, floats::specs::Fold::fold_to))]
     fn measure(self, ln_w: &[f64; 8], big: &[f64; 8], lg: &[f64; 8], w: &[f64; 8]) -> Measured
         requires { big.now ≡ amounts_of self.x.now ln_w.now self.m.n }

@@ -147,23 +147,16 @@ struct Feed<'a> {
 
 impl Feed<'_> {
     // Σ w_i, Pa, and Σ w_i (∂ ln γ_i/∂T + d ln p_i^sat/dT), Pa/K, where w = x γ p_sat of each solvent present.
-    // Kept: a loop, here and in dew_slope: a fold's closure gives the sums back in an `else`, and is no plainer.
-    #[tactic(auto, unfolding(crate::specs::Boiling::weight_sum, crate::specs::Boiling::weight_slope, floats::specs::Fold::fold_to))]
     fn weigh(self, lg: &[f64; 8], sl: &[f64; 8], ps: &[f64; 8], dps: &[f64; 8]) -> (f64, f64)
         ensures { Weighed self.entry.z.now lg.now sl.now ps.now dps.now self.entry.m.n result.0 result.1 }
     {
         let x = self.z;
         let gamma = numerics::exps(lg, self.m.n);
-        let mut sum = 0.0;
-        let mut slope = 0.0;
-        for i in 0..self.m.n {
-            if 0.0 < x[i] {
-                let w = x[i] * gamma[i] * ps[i];
-                sum += w;
-                slope += w * (sl[i] + dps[i]);
-            }
-        }
-        (sum, slope)
+        let terms = (0..self.m.n).filter(|&i| 0.0 < x[i]).map(|i| {
+            let w = x[i] * gamma[i] * ps[i];
+            (w, w * (sl[i] + dps[i]))
+        });
+        terms.fold((0.0, 0.0), |s, term| (s.0 + term.0, s.1 + term.1))
     }
 
     // f(T) = ln Σ w_i - ln p, beside ln γ of the feed and the vapor pressures: 13, the activity of the feed (24, 25), then the
