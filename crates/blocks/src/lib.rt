@@ -112,7 +112,10 @@ fn running_sum<F: Fn(usize) -> u64>(word: F) -> u64
 fn lanes_sum(a: &[u64; 4], t: &[u64; 4]) -> u64
     ensures { result ≡ (4 * (word_at t.now 0 + word_at t.now 1 + word_at t.now 2 + word_at t.now 3) + 3 * word_at a.now 0 + 2 * word_at a.now 1 + word_at a.now 2) % 2 ^ 64 }
 {
-    let late = t[0].wrapping_add(t[1]).wrapping_add(t[2]).wrapping_add(t[3]);
+    let late = t[0]
+        .wrapping_add(t[1])
+        .wrapping_add(t[2])
+        .wrapping_add(t[3]);
     let ends = a[0]
         .wrapping_mul(3)
         .wrapping_add(a[1].wrapping_mul(2))

@@ -168,7 +168,11 @@ impl<'a> Tested<'a> {
     fn composition(self, big: &[f64; 8], s: f64) -> [f64; 8]
         ensures { let l = self.entry in result ≡ vec (λ i. cond (lt 0f (at l.x.now i)) (at big.now i ⊘ s) 0f) l.m.n }
     {
-        std::array::from_fn(|i| select_unpredictable(i < self.m.n && self.x[i] > 0.0, big[i] / s, 0.0))
+        std::array::from_fn(|i| select_unpredictable(
+            i < self.m.n && self.x[i] > 0.0,
+            big[i] / s,
+            0.0,
+        ))
     }
 
     // tm = 1 + Σ W_i (ln W_i + ln γ_i(w) - d_i - 1), with the two largest differences.
@@ -201,13 +205,7 @@ impl<'a> Tested<'a> {
     fn next(self, lg: &[f64; 8]) -> [f64; 8]
         ensures { result ≡ next_of self.entry.d.now lg.now self.entry.m.n }
     {
-        std::array::from_fn(|i| {
-            if i < self.m.n {
-                self.d[i] - lg[i]
-            } else {
-                0.0
-            }
-        })
+        std::array::from_fn(|i| { if i < self.m.n { self.d[i] - lg[i] } else { 0.0 } })
     }
 
     // One turn of the trial near solvent j: the trial where it ends here, else the next ln W. The activity of w is asked for once.

@@ -217,7 +217,10 @@ fn ln_fields(field: u64, digits: u64) -> f64
 {
     let m = f64::from_bits(digits + ONE);
     let up = m > SQRT_2;
-    ln_from(count(field + u64::from(up)), select_unpredictable(up, m * 0.5, m))
+    ln_from(
+        count(field + u64::from(up)),
+        select_unpredictable(up, m * 0.5, m),
+    )
 }
 
 // ln of a float below the smallest normal one, which is `digits` times 2^-1074.

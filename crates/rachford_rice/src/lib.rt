@@ -142,9 +142,8 @@ impl<'a> Feed<'a> {
     fn residual(self, beta: f64) -> f64
         ensures { result ≡ residual_of (at self.entry.z.now) (at self.entry.k.now) self.entry.m.n beta }
     {
-        let terms = (0..self.m.n)
-            .filter(|&i| self.z[i] > 0.0)
-            .map(|i| self.z[i] * (self.k[i] - 1.0) / (1.0 + beta * (self.k[i] - 1.0)));
+        let terms = (0..self.m.n).filter(|&i| self.z[i] > 0.0).map(|i| self.z[i] * (self.k[i] - 1.0)
+            / (1.0 + beta * (self.k[i] - 1.0)));
         terms.fold(0.0, |s, term| s + term)
     }
 
@@ -156,7 +155,10 @@ impl<'a> Feed<'a> {
         let terms = (0..self.m.n).filter(|&i| self.z[i] > 0.0).map(|i| {
             let (z, k) = (self.z[i], self.k[i]);
             let over = 1.0 + beta * (k - 1.0);
-            (z * (k - 1.0) / over, z * ((k - 1.0) * (k - 1.0)) / (over * over))
+            (
+                z * (k - 1.0) / over,
+                z * ((k - 1.0) * (k - 1.0)) / (over * over),
+            )
         });
         let (residual, squares) = terms.fold((0.0, 0.0), |s, term| (s.0 + term.0, s.1 + term.1));
         Sums {
@@ -170,7 +172,9 @@ impl<'a> Feed<'a> {
         requires { F.IsAlwaysCallable choose }
         ensures { (f : Float → Float → Float) → ((a b r : Float) → F.post choose a b r → r ≡ f a b) → result ≡ fold_to (active (at self.entry.z.now) (λ i s. f s (at self.entry.k.now i))) first self.entry.m.n }
     {
-        let ratios = (0..self.m.n).filter(|&i| self.z[i] > 0.0).map(|i| self.k[i]);
+        let ratios = (0..self.m.n)
+            .filter(|&i| self.z[i] > 0.0)
+            .map(|i| self.k[i]);
         ratios.fold(first, |s, k| choose(s, k))
     }
 

@@ -312,7 +312,13 @@ pub fn flash_block(t: f64, p: f64, f: ActivityTpFlash) -> AnswerBlock
         trials: f.trials.unwrap_or(liquid_stability::no_trials()).count as u64,
         notes: f.notes,
     };
-    plain_block(phase_number(f.phases), state, f.liquid, f.vapor, f.trials.is_some())
+    plain_block(
+        phase_number(f.phases),
+        state,
+        f.liquid,
+        f.vapor,
+        f.trials.is_some(),
+    )
 }
 
 // Tasks 8 and 9.

@@ -309,18 +309,22 @@ pub fn activity_dew_pressure(
 ) -> Result<ActivitySaturation, Refusal>
     ensures { outcome_of result ≡ dew_task (activity_on table.now s) ps.now (places s.n) o s.t.0 y.now }
 {
-    let d = dew_at(table, s, y, ps, o)?;
-    if !thermo_models::check_pressure(d.pressure) {
+    let DewPoint {
+        pressure,
+        liquid,
+        iterations,
+        residual,
+        ..
+    } = dew_at(table, s, y, ps, o)?;
+    if !thermo_models::check_pressure(pressure) {
         return Err(Refusal::PressureOutside);
     }
-    // Kept: a variable, for the borrow checker doesn't cover an array field that is stored straight.
-    let liquid = d.liquid;
     Ok(ActivitySaturation {
         temperature: s.t.value(),
-        pressure: d.pressure,
+        pressure,
         liquid,
         vapor: *y,
-        residual: d.residual,
-        iterations: d.iterations,
+        residual,
+        iterations,
     })
 }

@@ -17,6 +17,7 @@ returns-then-not-row_right c =
 pub loop-i-preserved : goal.loop-i-preserved
 loop-i-preserved c =
     let fits = (row_ends _ _ c.args.self.few c.loop-i-test.true refl).0 in
-    let count = c.args.self.head.n - c.loop-i.i - 1 in
-    (all_turn _ _ c.loop-i.invariant.0 (sym (c.if-not-row_right.ensures ∙ row_read _ _ _ _ c.args.self.size fits c.loop-i.invariant.1 c.split_at.ensures.front)),
-    c.split_at.ensures.back ∙ rw (c.loop-i.invariant.1, row_next) (drop-drop count _ _))
+    let count = c.args.self.head.n - c.loop-i.i - 1 in (
+      all_turn _ _ c.loop-i.invariant.0 (sym (c.if-not-row_right.ensures ∙ row_read _ _ _ _ c.args.self.size fits c.loop-i.invariant.1 c.split_at.ensures.front)),
+      c.split_at.ensures.back ∙ rw (c.loop-i.invariant.1, row_next) (drop-drop count _ _),
+    )

@@ -13,5 +13,5 @@ pub returns : goal.returns
 returns c =
     let z = at c.args.self.z.now in let k = at c.args.self.k.now in let β = c.args.beta in let n = c.args.self.m.n in
     let e = fold_of_chosen (λ i. lt 0f (z i)) (λ i. (z i ⊗ (k i ⊖ 1f) ⊘ over k β i, z i ⊗ ((k i ⊖ 1f) ⊗ (k i ⊖ 1f)) ⊘ (over k β i ⊗ over k β i))) (λ (s t : Float × Float). (s.0 ⊕ t.0, s.1 ⊕ t.1)) (0f, 0f) n
-            c.filter.ensures.source c.filter.ensures.closure c.map-terms.ensures.source c.map-terms.ensures.closure c.fold-residual.ensures.ran (λ x b q k. search (rules, tests)) (λ x y q k. search rules) (λ a x b q k. search rules) in
+    c.filter.ensures.source c.filter.ensures.closure c.map-terms.ensures.source c.map-terms.ensures.closure c.fold-residual.ensures.ran (λ x b q k. search (rules, tests)) (λ x y q k. search rules) (λ a x b q k. search rules) in
     record { residual_value = residual-is z k β n e; slope_value = slope-is z k β n e }
