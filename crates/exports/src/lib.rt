@@ -143,9 +143,9 @@ pub extern "C" fn zektonk_vapor_pressure(book: &[u8], i: usize, t: f64, out: &mu
         Ok(v) => {
             *front = [
                 v.pressure,
-                v.ln_pressure,
-                v.d_ln_pressure_dt,
-                v.d2_ln_pressure_dt2,
+                v.ln.value,
+                v.ln.slope,
+                v.ln.curvature,
             ];
             0
         }

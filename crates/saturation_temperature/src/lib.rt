@@ -73,6 +73,8 @@ fn collapsed(b: Bracket, t: f64) -> bool
 
 // Safeguarded Newton on f(T) = 0 over the bracket of the options, K: f at both ends before either is returned, 26 where they
 // don't bracket the root, 27 where the bracket has collapsed or the limit is used up. Beside the root stands what f had beside it.
+// Kept: the root is written out three times: a function that gives it as an Option is as long with its contract, and three answers
+// more then say which T stands in the option.
 fn solve_temperature<S: Copy, F: Fn(f64) -> Result<(Point, S), Refusal>>(
     f: F,
     o: ActivityOptions,
@@ -132,6 +134,8 @@ fn solve_temperature<S: Copy, F: Fn(f64) -> Result<(Point, S), Refusal>>(
 }
 
 // ---- the feed
+// Kept: the test of p and the making of a feed, twice: in a function the test wants a law for each way out of it, and a feed's
+// contract is an equation for each of its fields.
 
 // A feed z at a pressure p, Pa, with the book and the parameters of its solvents.
 #[derive(Clone, Copy)]

@@ -24,10 +24,6 @@ use Rattle.thermo_models.specs.Model.{Pures}
 use Rattle.thermo_models.specs.Domain.{vapor_record, vapor_range, density_range, solvent_covers, temperature_in_domain, pures_to}
 
 -- ---- what the loops keep
-pub logarithm_of : {a b : Ancillary} (t : Float) {l d c : Float} → a ≡ b → (l ≡ (vapor_of a t).ln_pressure) × (d ≡ (vapor_of a t).d_ln_pressure_dt) × (c ≡ (vapor_of a t).d2_ln_pressure_dt2)
-    → (l ≡ (vapor_of b t).ln_pressure) × (d ≡ (vapor_of b t).d_ln_pressure_dt) × (c ≡ (vapor_of b t).d2_ln_pressure_dt2)
-logarithm_of t e h = rw (← e) h
-
 pub pressures-turn : (l : List Float) (i : ℕ) {p q : Float} {m : List Float} → (p ≡ exp_of (at l (2 * i))) × (q ≡ exp_of (at l (2 * i + 1))) → m ≡ vec (λ k. exp_of (at l k)) (2 * i)
     → set (set m (2 * i) p) (2 * i + 1) q ≡ vec (λ k. exp_of (at l k)) (2 * (i + 1))
 pressures-turn l i e h =
@@ -45,7 +41,7 @@ module _ (book : List ℕ) (t : Float) where
   liquid i = vapor_of (vapor_record book i) t
 
   abbrev pub filled : ℕ → Pures
-  filled n = record { pressure = vec (λ i. (liquid i).pressure) n; slope = vec (λ i. (liquid i).d_ln_pressure_dt) n }
+  filled n = record { pressure = vec (λ i. (liquid i).pressure) n; slope = vec (λ i. (liquid i).ln.slope) n }
 
   covered : (i : ℕ) → solvent_covers book t i ≡ true → vapor_pressure_of (vapor_record book i) t ≡ need (sound_of (liquid i)) 25 (ok (liquid i))
   unfolding solvent_covers vapor_pressure_of ancillary_of range_of
@@ -62,23 +58,23 @@ module _ (book : List ℕ) (t : Float) where
   pures_are zero h = refl
   pures_are (suc n) h =
       let b = both (all_to (solvent_covers book t) n) (solvent_covers book t n) h in
-      let f : Pures → Vapor → Pures = λ p v. record { pressure = set p.pressure n v.pressure; slope = set p.slope n v.d_ln_pressure_dt } in
+      let f : Pures → Vapor → Pures = λ p v. record { pressure = set p.pressure n v.pressure; slope = set p.slope n v.ln.slope } in
       rw (pures_are n b.0, covered n b.1) (step (all_to (λ i. sound_of (liquid i)) n) (sound_of (liquid n)) (filled n) (liquid n) f)
 
   -- from the arrays that the code filled
-  module _ (n : ℕ) (l : n ≤ 8) (h : all_to (solvent_covers book t) n ≡ true) {ls dps cs ps : List Float} {b : Bool} (el : ls ≡ vec (λ i. (liquid i).ln_pressure) n) (ed : dps ≡ vec (λ i. (liquid i).d_ln_pressure_dt) n)
-      (ec : cs ≡ vec (λ i. (liquid i).d2_ln_pressure_dt2) n) (ep : ps ≡ vec (λ i. exp_of (at ls i)) n)
+  module _ (n : ℕ) (l : n ≤ 8) (h : all_to (solvent_covers book t) n ≡ true) {ls dps cs ps : List Float} {b : Bool} (el : ls ≡ vec (λ i. (liquid i).ln.value) n) (ed : dps ≡ vec (λ i. (liquid i).ln.slope) n)
+      (ec : cs ≡ vec (λ i. (liquid i).ln.curvature) n) (ep : ps ≡ vec (λ i. exp_of (at ls i)) n)
       (eb : b ≡ all_to (λ i. is_finite (at ps i) && is_finite (at ls i) && is_finite (at dps i) && is_finite (at cs i) && not (le (at ps i) 0f)) n) where
     pressures : ps ≡ vec (λ i. (liquid i).pressure) n
     unfolding vapor_of vapor_from
-    pressures = ep ∙ fill_cong (λ i. exp_of (at ls i)) (λ i. (liquid i).pressure) n zeros8 (λ k q. ap exp_of (ap (λ (z : List Float). at z k) el ∙ vec-at (λ i. (liquid i).ln_pressure) n k l q))
+    pressures = ep ∙ fill_cong (λ i. exp_of (at ls i)) (λ i. (liquid i).pressure) n zeros8 (λ k q. ap exp_of (ap (λ (z : List Float). at z k) el ∙ vec-at (λ i. (liquid i).ln.value) n k l q))
 
     tests : b ≡ all_to (λ i. sound_of (liquid i)) n
     tests = eb ∙ all_cong n (λ k q.
         let p : at ps k ≡ (liquid k).pressure = ap (λ (z : List Float). at z k) pressures ∙ vec-at (λ i. (liquid i).pressure) n k l q in
-        let a : at ls k ≡ (liquid k).ln_pressure = ap (λ (z : List Float). at z k) el ∙ vec-at (λ i. (liquid i).ln_pressure) n k l q in
-        let d : at dps k ≡ (liquid k).d_ln_pressure_dt = ap (λ (z : List Float). at z k) ed ∙ vec-at (λ i. (liquid i).d_ln_pressure_dt) n k l q in
-        let c : at cs k ≡ (liquid k).d2_ln_pressure_dt2 = ap (λ (z : List Float). at z k) ec ∙ vec-at (λ i. (liquid i).d2_ln_pressure_dt2) n k l q in
+        let a : at ls k ≡ (liquid k).ln.value = ap (λ (z : List Float). at z k) el ∙ vec-at (λ i. (liquid i).ln.value) n k l q in
+        let d : at dps k ≡ (liquid k).ln.slope = ap (λ (z : List Float). at z k) ed ∙ vec-at (λ i. (liquid i).ln.slope) n k l q in
+        let c : at cs k ≡ (liquid k).ln.curvature = ap (λ (z : List Float). at z k) ec ∙ vec-at (λ i. (liquid i).ln.curvature) n k l q in
         rw (p, a, d, c))
 
     pub pures_refused : b ≡ false → pures_to book t n ≡ no 25

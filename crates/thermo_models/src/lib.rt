@@ -109,9 +109,9 @@ impl Solvents<'_> {
     // Kept: the slopes are the answer's own array; as [Logarithm; 8] they would be copied out of it in a loop more.
     #[tactic(auto, unfolding(floats::specs::Vector::fill))]
     fn fill_logarithms(self, ls: &mut [f64; 8], dps: &mut [f64; 8], cs: &mut [f64; 8])
-        ensures ls_after { let s = self.entry in ls.new ≡ vec (λ i. (vapor_of (vapor_record s.book.now i) s.t).ln_pressure) s.m.n }
-        ensures dps_after { let s = self.entry in dps.new ≡ vec (λ i. (vapor_of (vapor_record s.book.now i) s.t).d_ln_pressure_dt) s.m.n }
-        ensures cs_after { let s = self.entry in cs.new ≡ vec (λ i. (vapor_of (vapor_record s.book.now i) s.t).d2_ln_pressure_dt2) s.m.n }
+        ensures ls_after { let s = self.entry in ls.new ≡ vec (λ i. (vapor_of (vapor_record s.book.now i) s.t).ln.value) s.m.n }
+        ensures dps_after { let s = self.entry in dps.new ≡ vec (λ i. (vapor_of (vapor_record s.book.now i) s.t).ln.slope) s.m.n }
+        ensures cs_after { let s = self.entry in cs.new ≡ vec (λ i. (vapor_of (vapor_record s.book.now i) s.t).ln.curvature) s.m.n }
     {
         *ls = [0.0; 8];
         *dps = [0.0; 8];
