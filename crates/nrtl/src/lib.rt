@@ -28,7 +28,8 @@ use thermo_types::Temperature;
 // ---- lanes: Jets of the solvents side by side, entry i of plane k at k * 8 + i
 
 // Value and slope of the solvent i.
-// Kept: i < 8 and the like are facts of a loop's own index; a type for an index would have to be made at each turn.
+// Kept: i < 8 and the like are facts of a loop's own index; a type for an index would have to be made at each turn. Two functions
+// for two and three planes, here and below: with a const parameter for their count each contract is both of these, by cases.
 fn keep_two(j: Jet, i: usize, l: &mut [f64; 24])
     requires { i < 8 }
     ensures { l.new ≡ lane j i 2 l.old }

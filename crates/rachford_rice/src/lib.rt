@@ -41,13 +41,6 @@ struct Bracket {
     beta: f64,
 }
 
-// g(β) and g'(β).
-#[derive(Clone, Copy)]
-struct Sums {
-    residual: f64,
-    slope: f64,
-}
-
 // ---- validate
 
 // z and K are finite, z not negative, K positive, and z sums to 1.
@@ -96,7 +89,8 @@ fn next_from(newton: f64, lo: f64, hi: f64) -> f64
     }
 }
 
-// One turn: the root where it is the last. The bounds are moved before the step; a change of β by at most 4 ε max(|β|, 1) counts as none.
+// One turn: the root where it is the last. The bounds are moved before the step, and a change of β by at most 4 ε max(|β|, 1)
+// counts as none.
 #[tactic(auto, unfolding(crate::specs::Rachford::turn_of, crate::specs::Rachford::goes))]
 fn turn_from(g: f64, slope: f64, at: Bracket) -> ControlFlow<f64, Bracket>
     ensures { result ≡ goes g at.beta (turn_of g slope at.lo at.hi at.beta) }
@@ -148,9 +142,9 @@ impl<'a> Feed<'a> {
     }
 
     // g(β) and g'(β): the second negates its sum. 1 + β (K - 1) is worked out once for both.
-    fn residual_and_slope(self, beta: f64) -> Sums
-        ensures residual_value { result.residual ≡ residual_of (at self.entry.z.now) (at self.entry.k.now) self.entry.m.n beta }
-        ensures slope_value { result.slope ≡ slope_of (at self.entry.z.now) (at self.entry.k.now) self.entry.m.n beta }
+    fn residual_and_slope(self, beta: f64) -> (f64, f64)
+        ensures residual_value { result.0 ≡ residual_of (at self.entry.z.now) (at self.entry.k.now) self.entry.m.n beta }
+        ensures slope_value { result.1 ≡ slope_of (at self.entry.z.now) (at self.entry.k.now) self.entry.m.n beta }
     {
         let terms = (0..self.m.n).filter(|&i| self.z[i] > 0.0).map(|i| {
             let (z, k) = (self.z[i], self.k[i]);
@@ -161,10 +155,7 @@ impl<'a> Feed<'a> {
             )
         });
         let (residual, squares) = terms.fold((0.0, 0.0), |s, term| (s.0 + term.0, s.1 + term.1));
-        Sums {
-            residual,
-            slope: -squares,
-        }
+        (residual, -squares)
     }
 
     // What `choose` makes of the K, one after the other from `first` on.
@@ -228,7 +219,7 @@ impl<'a> Feed<'a> {
     {
         let mut at = Bracket { lo, hi, beta: 0.5 };
         for done in 0..limit {
-            let Sums { residual, slope } = self.residual_and_slope(at.beta);
+            let (residual, slope) = self.residual_and_slope(at.beta);
             if !floats::is_finite(residual) {
                 return Err(Refusal::ResultNotFinite);
             }

@@ -63,6 +63,7 @@ pub struct Pair {
     pub regression: Option<Interval>,
 }
 
+// Kept: question's floats_from with n = 8 takes 14.3 ns for 12.7: its count and its `from` are any caller's, and it goes by a loop.
 fn eight_floats(s: &[u8], from: usize) -> [f64; 8]
     requires { from ≤ 56 }
     ensures { result ≡ vec (λ k. float (word s.now) (from + k)) 8 }
@@ -303,6 +304,8 @@ impl<'a> PairBlocks<'a> {
     }
 
     // Row i up to the diagonal, and column i.
+    // Kept: jet fills its tables by the same two loops; one public function for both would take closures that write, and require
+    // F.pre, or a trait with a law for each of the two.
     #[tactic(auto, unfolding(floats::specs::Fold::fold_to))]
     fn fill_border(self, i: usize, plane: &mut [f64; 384])
         requires { i < 8 }

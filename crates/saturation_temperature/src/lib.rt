@@ -73,8 +73,8 @@ fn collapsed(b: Bracket, t: f64) -> bool
 
 // Safeguarded Newton on f(T) = 0 over the bracket of the options, K: f at both ends before either is returned, 26 where they
 // don't bracket the root, 27 where the bracket has collapsed or the limit is used up. Beside the root stands what f had beside it.
-// Kept: the root is written out three times: a function that gives it as an Option is as long with its contract, and three answers
-// more then say which T stands in the option.
+// Kept: the root is written out three times: a function that gives it as an Option is as long with its contract, and three
+// answers more then say which T stands in the option.
 fn solve_temperature<S: Copy, F: Fn(f64) -> Result<(Point, S), Refusal>>(
     f: F,
     o: ActivityOptions,

@@ -169,6 +169,8 @@ impl<'a> Feed<'a> {
     }
 
     // max_i |ln(y_i p) - ln(x_i γ_i p_i^sat)| where the feed is positive.
+    // Kept: saturation's largest_gap counts other solvents: one public function for both would take which ones by a closure, and
+    // require F.pre, or by an array filled for it.
     fn split_gap(self, lg: &[f64; 8], x: &[f64; 8], y: &[f64; 8]) -> f64
         ensures { let f = self.entry in result ≡ split_gap f.z.now lg.now f.ps.now f.p.0 x.now y.now (places f.at.n) }
     {
