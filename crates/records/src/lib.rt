@@ -63,7 +63,7 @@ pub struct Pair {
     pub regression: Option<Interval>,
 }
 
-// Kept: question's floats_from with n = 8 takes 14.3 ns for 12.7: its count and its `from` are any caller's, and it goes by a loop.
+// Kept: question's floats_from with n = 8 takes 14.3 ns for 12.7: it has a caller's count, and goes by a loop.
 fn eight_floats(s: &[u8], from: usize) -> [f64; 8]
     requires { from ≤ 56 }
     ensures { result ≡ vec (λ k. float (word s.now) (from + k)) 8 }
