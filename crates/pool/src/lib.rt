@@ -26,7 +26,8 @@ fn added(a: u64, b: u64) -> u64
 }
 
 // 31
-// Kept: `batch::feeds_right` has this body for another question; one line each, and no plainer as a `pub fn` with edits.
+// Kept: `batch::feeds_right` has this body for another question. Shared it is a public function more, with a definition beside the two
+// that docs/FORMAT.md's numbers name; and 65 drums alone, or a drum cut short, could no longer be wrong without the feeds.
 #[tactic(auto, unfolding(crate::specs::Pool::drums_right))]
 fn drums_right(drums: &[u8]) -> bool
     ensures { result ≡ drums_right drums.now }
@@ -80,9 +81,9 @@ pub fn answer(book: &[u8], question: &[u8], drums: &[u8], out: &mut [u8]) -> Res
     ensures { Answers (pooled_of book.now question.now drums.now (length out.old)) (number_in result) out.old out.new }
 {
     let n = book::open_book(book)?.n;
-    if out.len() < ANSWER_ROOM {
+    let Some(room) = out.first_chunk_mut::<ANSWER_ROOM>() else {
         return Err(Refusal::AnswerShort);
-    }
+    };
     read_task(book::rule_of(book), question)?;
     if !drums_right(drums) {
         return Err(Refusal::DrumsLength);
@@ -97,5 +98,5 @@ pub fn answer(book: &[u8], question: &[u8], drums: &[u8], out: &mut [u8]) -> Res
     }
     let x = pool_feed(&counts, m)?;
     let q = read_rest(question, book, n, &x)?;
-    sheet::answer_asked(book, n, q, out)
+    sheet::answer_asked(book, n, q, room)
 }

@@ -8,7 +8,7 @@ use native.Mathlib.Nat.{min-eq_left}
 use native.Mathlib.Omega.{arith}
 use borrow.Author.Tests.{ne_eqb, le-leb, lt-leb}
 use lib.Dec.{eqb}
-use lib.ListN.{length, drop}
+use lib.ListN.{length, drop, length-append, length-drop}
 use lib.Seq.{length-take-le}
 use lib.Ieee.{Float}
 use Rattle.std.specs.Prelude.{Result, Ok, Err}
@@ -219,9 +219,16 @@ roomed {o} {old = old} l h = same_as (need_yes 10 o (le-leb answer_room (length 
 pub room_long : {old mid : List ℕ} → IsFirstChunk old mid answer_room → length mid ≡ answer_room
 room_long {old} f = rw f.same (length-take-le answer_room old f.enough)
 
+pub in_room : {o : Out (List ℕ)} {r : ℕ} {old mid new : List ℕ} → IsFirstChunk old mid answer_room → length new ≡ answer_room → Answers o r mid new
+    → Answers o r old (new ++ drop answer_room old)
+in_room f l h = in_front answer_room f.enough f.same l h
+
 pub fronted : {o : Out (List ℕ)} {r : ℕ} {old mid new : List ℕ} → IsFirstChunk old mid answer_room → length new ≡ answer_room → Answers o r mid new
     → Answers (roomy (length old) o) r old (new ++ drop answer_room old)
-fronted f l h = roomed f.enough (in_front answer_room f.enough f.same l h)
+fronted f l h = roomed f.enough (in_room f l h)
+
+pub front_long : {old mid : List ℕ} (new : List ℕ) → IsFirstChunk old mid answer_room → length new ≡ answer_room → length (new ++ drop answer_room old) ≡ length old
+front_long new f l = rw (length-append, length-drop, l) (omega (arith, f.enough))
 
 pub unroomed : {o : Out (List ℕ)} {r : ℕ} {old new : List ℕ} → answer_room ≤ length old → Answers (roomy (length old) o) r old new → Answers o r old new
 unfolding roomy

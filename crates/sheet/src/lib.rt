@@ -6,6 +6,7 @@ ghost use Rattle.floats.specs.Vector.{places};
 ghost use Rattle.floats.specs.Outcome.{ok, bind};
 ghost use Rattle.outcome.specs.Refused.{outcome_of, number_in};
 ghost use Rattle.thermo_types.specs.Quantities.{positive_of};
+ghost use Rattle.book.specs.Book.{rule_of};
 ghost use Rattle.records.specs.Offered.{with_pair};
 ghost use Rattle.thermo_models.specs.Domain.{pure_liquids_of};
 ghost use Rattle.thermo_models.specs.Mixture.{mixture_with, mixture_of};
@@ -146,6 +147,17 @@ pub fn make_ready(
 // ---- the tasks, each with its blocks at the front of the room for an answer
 
 impl<'a> Asked<'a> {
+    // By the rule of the book.
+    fn of(source: Source<'a>, q: &'a Question) -> Asked<'a>
+        ensures { result ≡ record { rule = rule_of source.entry.book.now; source = source.entry; q = q.entry } }
+    {
+        Asked {
+            rule: book::rule_of(source.book),
+            source,
+            q,
+        }
+    }
+
     // An answer, and its trials in the blocks behind it, as many as word 12 says.
     fn write_answer(
         self,
@@ -341,22 +353,20 @@ pub fn answer_offered(
     q: Question,
     out: &mut [u8],
 ) -> Result<(), Refusal>
-    ensures { Answers (roomy (length out.old) (answer_to (with_pair (places n) book.now offered.now) (places n) q)) (number_in result) out.old out.new }
+    ensures answers { Answers (roomy (length out.old) (answer_to (with_pair (places n) book.now offered.now) (places n) q)) (number_in result) out.old out.new }
+    ensures long { length out.new ≡ length out.old }
 {
     let Some(room) = out.first_chunk_mut::<ANSWER_ROOM>() else {
         return Err(Refusal::AnswerShort);
     };
-    let asked = Asked {
-        rule: book::rule_of(book),
-        source: Source { book, offered, n },
-        q: &q,
-    };
+    let asked = Asked::of(Source { book, offered, n }, &q);
     asked.solve(room)
 }
 
 // The answer to a question that was read, for a book of n solvents with its own pairs: 10, then the task's own numbers.
 pub fn answer_asked(book: &[u8], n: usize, q: Question, out: &mut [u8]) -> Result<(), Refusal>
-    ensures { Answers (roomy (length out.old) (answer_to book.now (places n) q)) (number_in result) out.old out.new }
+    ensures answers { Answers (roomy (length out.old) (answer_to book.now (places n) q)) (number_in result) out.old out.new }
+    ensures long { length out.new ≡ length out.old }
 {
     answer_offered(book, b"", n, q, out)
 }
@@ -371,18 +381,15 @@ pub fn answer_ready(
     q: Question,
     out: &mut [u8],
 ) -> Result<(), Refusal>
-    ensures { needs_temperature q.task ≡ true → Readied (mixture_of book.now (places n)) q.task q.temperature q.pressure made table.now ps.now → Answers (roomy (length out.old) (answer_to book.now (places n) q)) (number_in result) out.old out.new }
+    ensures answers { needs_temperature q.task ≡ true → Readied (mixture_of book.now (places n)) q.task q.temperature q.pressure made table.now ps.now → Answers (roomy (length out.old) (answer_to book.now (places n) q)) (number_in result) out.old out.new }
+    ensures long { length out.new ≡ length out.old }
 {
     let Some(room) = out.first_chunk_mut::<ANSWER_ROOM>() else {
         return Err(Refusal::AnswerShort);
     };
     let at = made?;
     let offered = b"";
-    let asked = Asked {
-        rule: book::rule_of(book),
-        source: Source { book, offered, n },
-        q: &q,
-    };
+    let asked = Asked::of(Source { book, offered, n }, &q);
     asked.task_at(Made { table, at, ps }, room)
 }
 
@@ -395,11 +402,11 @@ pub fn answer_opened(
 ) -> Result<(), Refusal>
     ensures { Answers (sheet_from book.now head.version (places head.n) question.now (length out.old)) (number_in result) out.old out.new }
 {
-    if out.len() < ANSWER_ROOM {
+    let Some(room) = out.first_chunk_mut::<ANSWER_ROOM>() else {
         return Err(Refusal::AnswerShort);
-    }
+    };
     let q = read_question(book::rule_of(book), question, head.version, book, head.n)?;
-    answer_asked(book, head.n, q, out)
+    answer_asked(book, head.n, q, room)
 }
 
 // The answer's blocks at the front of the slice; or the question that was answered no, and the slice as it was.
