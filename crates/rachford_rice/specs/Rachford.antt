@@ -16,6 +16,12 @@ use Rattle.rachford_rice.specs.declared.RachfordRiceOutcome.TheVariants.{LiquidO
 use Rattle.rachford_rice.specs.declared.RachfordRice.{RachfordRice}
 use Rattle.rachford_rice.specs.declared.Bracket.{Bracket}
 
+-- 1 liquid, 2 vapor, 3 both
+abbrev pub outcome_number : RachfordRiceOutcome → ℕ
+outcome_number LiquidOnly = 1
+outcome_number VaporOnly = 2
+outcome_number (TwoPhase β g m) = 3
+
 -- 1 + β (K_i - 1)
 abbrev pub over : (ℕ → Float) → Float → ℕ → Float
 over k β i = 1f ⊕ β ⊗ (k i ⊖ 1f)

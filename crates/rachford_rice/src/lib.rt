@@ -9,7 +9,7 @@ ghost use Rattle.floats.specs.Fold.{fold_to, active};
 ghost use Rattle.floats.specs.Vector.{at, places, vec};
 ghost use Rattle.floats.specs.Outcome.{ok, bind};
 ghost use Rattle.outcome.specs.Refused.{outcome_of};
-ghost use Rattle.rachford_rice.specs.Rachford.{turn_of, goes, residual_of, slope_of, k_max, k_min, validate, liquid_part, solution_at, iterate, between, negative, two_phase, one_phase, constrained};
+ghost use Rattle.rachford_rice.specs.Rachford.{outcome_number, turn_of, goes, residual_of, slope_of, k_max, k_min, validate, liquid_part, solution_at, iterate, between, negative, two_phase, one_phase, constrained};
 
 use floats::Count;
 use outcome::Refusal;
@@ -22,6 +22,19 @@ pub enum RachfordRiceOutcome {
     LiquidOnly,
     VaporOnly,
     TwoPhase(f64, f64, u64),
+}
+
+impl RachfordRiceOutcome {
+    // 1 liquid, 2 vapor, 3 both.
+    pub fn number(self) -> u64
+        ensures { result ≡ outcome_number self }
+    {
+        match self {
+            RachfordRiceOutcome::LiquidOnly => 1,
+            RachfordRiceOutcome::VaporOnly => 2,
+            RachfordRiceOutcome::TwoPhase(..) => 3,
+        }
+    }
 }
 
 // The outcome, with the compositions beside it: zeros where there is one phase.

@@ -132,11 +132,9 @@ fn open_book(stored: &mut Stored) -> Option<()> {
 fn give_rice(stored: &mut Stored, found: Result<RachfordRice, Refusal>) {
     match found {
         Err(refusal) => stored.give(u64::from(refusal).wrapping_add(100)),
-        Ok(s) => match s.outcome {
-            RachfordRiceOutcome::LiquidOnly => stored.give(1),
-            RachfordRiceOutcome::VaporOnly => stored.give(2),
-            RachfordRiceOutcome::TwoPhase(beta, residual, iterations) => {
-                stored.give(3);
+        Ok(s) => {
+            stored.give(s.outcome.number());
+            if let RachfordRiceOutcome::TwoPhase(beta, residual, iterations) = s.outcome {
                 stored.give_float(beta);
                 stored.give_float(residual);
                 // Exact for every count below 2^32.
@@ -144,7 +142,7 @@ fn give_rice(stored: &mut Stored, found: Result<RachfordRice, Refusal>) {
                 stored.give_eight(&s.liquid);
                 stored.give_eight(&s.vapor);
             }
-        },
+        }
     }
 }
 

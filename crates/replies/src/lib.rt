@@ -289,11 +289,7 @@ pub fn stability_block(stable: bool, count: usize) -> AnswerBlock
 fn phase_number(phases: FlashPhases) -> u64
     ensures { result ≡ phase_number phases }
 {
-    match phases {
-        FlashPhases::Liquid => 1,
-        FlashPhases::Vapor => 2,
-        FlashPhases::Both => 3,
-    }
+    phases as u64
 }
 
 // Task 7.
@@ -326,17 +322,14 @@ pub fn flash_block(t: f64, p: f64, f: ActivityTpFlash) -> AnswerBlock
 pub fn rice_block(outcome: RachfordRiceOutcome, liquid: [f64; 8], vapor: [f64; 8]) -> AnswerBlock
     ensures { result ≡ rice_block outcome liquid vapor }
 {
-    match outcome {
-        RachfordRiceOutcome::LiquidOnly => plain_block(1, State::default(), liquid, vapor, false),
-        RachfordRiceOutcome::VaporOnly => plain_block(2, State::default(), liquid, vapor, false),
-        RachfordRiceOutcome::TwoPhase(vapor_fraction, residual, iterations) => {
-            let state = State {
-                vapor_fraction,
-                residual,
-                iterations,
-                ..State::default()
-            };
-            plain_block(3, state, liquid, vapor, false)
-        }
-    }
+    let state = match outcome {
+        RachfordRiceOutcome::TwoPhase(vapor_fraction, residual, iterations) => State {
+            vapor_fraction,
+            residual,
+            iterations,
+            ..State::default()
+        },
+        _ => State::default(),
+    };
+    plain_block(outcome.number(), state, liquid, vapor, false)
 }

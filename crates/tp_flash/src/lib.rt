@@ -19,7 +19,7 @@ use thermo_types::{ActivityOptions, Pressure};
 
 #[derive(Clone, Copy)]
 pub enum FlashPhases {
-    Liquid,
+    Liquid = 1,
     Vapor,
     Both,
 }
