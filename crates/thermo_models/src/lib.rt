@@ -182,6 +182,7 @@ pub fn tables(
     ensures { Stands book.now parameters.now (places n) t result table.old table.new }
 {
     let model = book::model_of(book);
+    // Kept: a match: the definition by cases, here and in `excess`.
     let alphas = match model {
         Model::Nrtl => nrtl_tables::tables(parameters, n, t, table),
         Model::Wilson => {
