@@ -22,8 +22,8 @@ use replies::ANSWER_ROOM;
 use thermo_models::Tabled;
 
 // 33
-// Kept: `pool::drums_right` has this body for another question. Shared it is a public function more, with a definition beside the two
-// that docs/FORMAT.md's numbers name; and 65 feeds alone, or a feed cut short, could no longer be wrong without the drums.
+// Kept: `pool::drums_right` has this body for another question. Shared it is a public function more, with a definition beside
+// the two that 31 and 33 go by; and 65 feeds, or a feed cut short, could no longer be wrong without the drums.
 #[tactic(auto, unfolding(crate::specs::Feeds::feeds_right))]
 fn feeds_right(feeds: &[u8]) -> bool
     ensures { result ≡ feeds_right feeds.now }
@@ -32,6 +32,7 @@ fn feeds_right(feeds: &[u8]) -> bool
 }
 
 // What is kept from feed to feed: what was made ready, once a feed needed it.
+// Kept: `table` and `ps` beside the option: they are the fixed memory that `make_ready` is lent to fill, and not its result.
 #[derive(Clone, Copy)]
 struct Kept {
     made: Option<Result<Tabled, Refusal>>,
@@ -82,6 +83,8 @@ impl<'a> Call<'a> {
     }
 
     // The feed x: its answer's blocks at the front of the slice, and what is kept for the next feed.
+    // Kept: a slice, of a length that is asked for: past the branch of a refusal a proof knows of the array that `first_chunk_mut`
+    // lends of a part its length alone, and not its bytes.
     fn answer_feed(
         self,
         among: Result<(), Refusal>,

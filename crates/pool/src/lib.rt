@@ -26,8 +26,8 @@ fn added(a: u64, b: u64) -> u64
 }
 
 // 31
-// Kept: `batch::feeds_right` has this body for another question. Shared it is a public function more, with a definition beside the two
-// that docs/FORMAT.md's numbers name; and 65 drums alone, or a drum cut short, could no longer be wrong without the feeds.
+// Kept: `batch::feeds_right` has this body for another question. Shared it is a public function more, with a definition beside
+// the two that 31 and 33 go by; and 65 drums, or a drum cut short, could no longer be wrong without the feeds.
 #[tactic(auto, unfolding(crate::specs::Pool::drums_right))]
 fn drums_right(drums: &[u8]) -> bool
     ensures { result ≡ drums_right drums.now }

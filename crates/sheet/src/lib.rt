@@ -1,7 +1,7 @@
 // The core as the desk calls it: a book, a question and an answer slice.
 #![tactic(auto)]
 
-ghost use Rattle.std.specs.Prelude.{◌≡◌, true, List, ℕ, ◌≤◌, ◌<◌, ◌+◌, ◌*◌, length, Float};
+ghost use Rattle.std.specs.Prelude.{◌≡◌, cond, true, List, ℕ, ◌≤◌, ◌<◌, ◌+◌, ◌*◌, length, Float};
 ghost use Rattle.floats.specs.Vector.{places};
 ghost use Rattle.floats.specs.Outcome.{ok, bind};
 ghost use Rattle.outcome.specs.Refused.{outcome_of, number_in};
@@ -10,7 +10,7 @@ ghost use Rattle.book.specs.Book.{rule_of};
 ghost use Rattle.records.specs.Offered.{with_pair};
 ghost use Rattle.thermo_models.specs.Domain.{pure_liquids_of};
 ghost use Rattle.thermo_models.specs.Mixture.{mixture_with, mixture_of};
-ghost use Rattle.question.specs.Inputs.{task_number, needs_temperature};
+ghost use Rattle.question.specs.Inputs.{is_task, task_number, needs_temperature};
 ghost use Rattle.replies.specs.Blocks.{answer_room, answer_bytes};
 ghost use Rattle.sheet.specs.Tasks.{alone, saturated, task1, task6, task7, task_at, task_under, task_of};
 ghost use Rattle.sheet.specs.Ready.{pressures_in, flash_pressures, pressures_for, TableOf, Readied};
@@ -43,7 +43,8 @@ struct Source<'a> {
 }
 
 // Tables, what they stand for, and the vapor pressures that the task reads.
-// Kept: no ghost field says that the tables stand for the mixture. `answer_ready` is asked with any, and only its ensures has that as a premise.
+// Kept: no ghost field says that the tables stand for the mixture: `answer_ready` is asked with any, and only its ensures has that
+// as a premise.
 #[derive(Clone, Copy)]
 struct Made<'a> {
     table: &'a [f64; 512],
@@ -57,6 +58,13 @@ struct Asked<'a> {
     rule: Rule,
     source: Source<'a>,
     q: &'a Question,
+}
+
+// A number that is no task's goes by 7: `make_ready` and `answer_ready` are public, and take any.
+fn task_or_flash(number: u64) -> Task
+    ensures { task_number result ≡ cond (is_task number) number 7 }
+{
+    Task::try_from(number).unwrap_or(Task::Flash)
 }
 
 // ---- what the tasks at a temperature share, whatever the feed
@@ -85,12 +93,12 @@ impl<'a> Source<'a> {
         self.pure_pressures(t)
     }
 
-    // Those that the task reads; a number that is no task's reads those of 7.
-    // Kept: a number, since `make_ready` is public and takes any; so in `ready` and `task_at`.
+    // Those that the task reads.
+    // Kept: a number, here and in `ready`, as `make_ready` has it; and a match, the definition by cases.
     fn pressures_for(self, task: u64, pressure: f64, t: Temperature) -> Result<[f64; 8], Refusal>
         ensures { (P : List Float) (copy : List ℕ) → outcome_of result ≡ pressures_for (mixture_with self.entry.book.now P copy (places self.entry.n)) task pressure t.0 }
     {
-        match Task::try_from(task).unwrap_or(Task::Flash) {
+        match task_or_flash(task) {
             Task::Activity | Task::Stability => Ok([0.0; 8]),
             Task::BubblePressure | Task::DewPressure => self.pure_pressures(t),
             _ => {
@@ -201,6 +209,8 @@ impl<'a> Asked<'a> {
     }
 
     // Tasks 2 to 5, from what their solver found.
+    // Kept: two lines, as `split`: one function over the block's would need clauses that the block's can be called, what it gives
+    // and that this has no trials; and these two still, for their five callers.
     fn saturated(
         self,
         found: Result<ActivitySaturation, Refusal>,
@@ -254,14 +264,15 @@ impl<'a> Asked<'a> {
         Ok(())
     }
 
-    // Tasks 1, 2, 3, 6 and 7; a number that is no task's goes by 7.
+    // Tasks 1, 2, 3, 6 and 7.
+    // Kept: a match, the definition by cases.
     fn task_at(self, made: Made, out: &mut [u8; ANSWER_ROOM]) -> Result<(), Refusal>
         ensures answers { TableOf (mixture_in self.entry.source) made.entry.at made.entry.table.now → pressures_for (mixture_in self.entry.source) self.entry.q.now.task self.entry.q.now.pressure made.entry.at.t.0 ≡ ok made.entry.ps.now → Answers (bytes_for self.entry (task_at (mixture_in self.entry.source) self.entry.q.now made.entry.at.t.0)) (number_in result) out.old out.new }
         ensures long { length out.new ≡ answer_room }
     {
         let Made { table, at, ps } = made;
         let q = self.q;
-        match Task::try_from(q.task).unwrap_or(Task::Flash) {
+        match task_or_flash(q.task) {
             Task::Activity => self.activity(made, out),
             Task::BubblePressure => {
                 self.saturated(activity_bubble_pressure(table, at, &q.fractions, ps), out)
@@ -314,6 +325,7 @@ impl<'a> Asked<'a> {
     }
 
     // Every task; a number that is no task's is refused with 12.
+    // Kept: a match, the definition by cases.
     fn solve(self, out: &mut [u8; ANSWER_ROOM]) -> Result<(), Refusal>
         ensures answers { Answers (bytes_for self.entry (task_of (mixture_in self.entry.source) self.entry.q.now)) (number_in result) out.old out.new }
         ensures long { length out.new ≡ answer_room }

@@ -13,7 +13,7 @@ ghost use Rattle.thermo_types.specs.Composition.{all_finite, none_negative, all_
 use outcome::Refusal;
 
 // Kelvin. The field is private: `new` alone makes one.
-// Kept: two types of one text, so that neither can stand for the other; a type parameter for the unit would want a type for each unit too.
+// Kept: two types of one text, so that neither can stand for the other; one over a unit would want a type for each unit too.
 #[derive(Clone, Copy)]
 pub struct Temperature(f64);
 
