@@ -153,8 +153,8 @@ impl Liquid<'_> {
     }
 
     // ln γ, slopes and energies of the liquid, into arrays that hold 0.0 everywhere.
-    // Kept: ln_gamma and slopes go side by side, as excess's functions take them; a struct of two `&mut` would be taken apart
-    // for each.
+    // Kept: the arrays are the caller's, as in crate excess, which has the figures: by value an activity of two solvents takes
+    // 77 ns for 47.
     fn state(
         self,
         t: Temperature,

@@ -191,7 +191,8 @@ impl Summed<'_> {
 // ---- the state
 
 // ln γ, slopes and energies of the liquid, into arrays that hold 0.0 everywhere.
-// Kept: ln_gamma and slopes go side by side, as excess's functions take them; a struct of two `&mut` would be taken apart for each.
+// Kept: the arrays are the caller's, as in crate excess, which has the figures: by value an activity of two solvents takes 95 ns
+// for 68.
 fn state(
     of: Liquid,
     t: Temperature,
