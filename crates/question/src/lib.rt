@@ -107,17 +107,17 @@ fn needs_ratios(task: u64) -> bool
 }
 
 // The first n floats from word `from` on, 0.0 past them.
-// Kept: a loop to n, here and in `over_masses`: `from_fn` would go over all eight.
-#[tactic(auto, unfolding(floats::specs::Vector::fill))]
 pub fn floats_from(q: &[u8], from: usize, n: usize) -> [f64; 8]
     ensures { result ≡ vec (λ i. float (word q.now) (from + i)) (places n) }
 {
     let m = floats::places(n);
-    let mut x = [0.0; 8];
-    for i in 0..m {
-        x[i] = float_at(q, from.saturating_add(i));
-    }
-    x
+    std::array::from_fn(|i| {
+        if i < m {
+            float_at(q, from.saturating_add(i))
+        } else {
+            0.0
+        }
+    })
 }
 
 // 13
@@ -239,16 +239,17 @@ pub fn kind_right(version: u64, q: &[u8]) -> bool
 }
 
 // Fraction over molar mass (kg/mol): mol of each solvent in a kg of the feed.
-#[tactic(auto, unfolding(floats::specs::Vector::fill))]
 fn over_masses(book: &[u8], n: usize, x: &[f64; 8]) -> [f64; 8]
     ensures { result ≡ vec (λ i. at x.now i ⊘ molar_mass (words book.now) i) (places n) }
 {
     let m = floats::places(n);
-    let mut moles = [0.0; 8];
-    for i in 0..m {
-        moles[i] = x[i] / float_at(blocks::block(book, i + 1), 45);
-    }
-    moles
+    std::array::from_fn(|i| {
+        if i < m {
+            x[i] / float_at(blocks::block(book, i + 1), 45)
+        } else {
+            0.0
+        }
+    })
 }
 
 // The mole fractions of a feed by word 27.
