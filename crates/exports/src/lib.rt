@@ -141,12 +141,7 @@ pub extern "C" fn zektonk_vapor_pressure(book: &[u8], i: usize, t: f64, out: &mu
     };
     match vapor_at(book, i, t) {
         Ok(v) => {
-            *front = [
-                v.pressure,
-                v.ln.value,
-                v.ln.slope,
-                v.ln.curvature,
-            ];
+            *front = [v.pressure, v.ln.value, v.ln.slope, v.ln.curvature];
             0
         }
         Err(refusal) => u64::from(refusal),

@@ -27,7 +27,7 @@ unfolding sheet_from roomy bind need
 returns-in_err-q c = let u = c.rule_of-rule.ensures in
     let f = c.in-Some.ensures.cases in
     in_room f (room_long f) (quits _ _ c.from_residual-in_err-q.ensures.1
-      (rw (opened _ _ _ _ c.in_ok-head.ensures u c.in_ok-open_offered.ensures, le-leb _ _ f.enough, copy-question, ← u, sym c.in_err-q.ensures)))
+    (rw (opened _ _ _ _ c.in_ok-head.ensures u c.in_ok-open_offered.ensures, le-leb _ _ f.enough, copy-question, ← u, sym c.in_err-q.ensures)))
 
 pub returns : goal.returns
 unfolding sheet_from roomy bind need
@@ -35,4 +35,4 @@ returns c = let u = c.rule_of-rule.ensures in
     let f = c.in-Some.ensures.cases in
     let a = c.answer_offered.ensures in
     in_room f (a.long ∙ room_long f) (same_as
-      (rw (opened _ _ _ _ c.in_ok-head.ensures u c.in_ok-open_offered.ensures, le-leb _ _ f.enough, copy-question, ← u, sym c.in_ok-q.ensures)) (unroomed (omega (arith, room_long f)) a.answers))
+    (rw (opened _ _ _ _ c.in_ok-head.ensures u c.in_ok-open_offered.ensures, le-leb _ _ f.enough, copy-question, ← u, sym c.in_ok-q.ensures)) (unroomed (omega (arith, room_long f)) a.answers))
