@@ -54,7 +54,7 @@ impl<'a> Call<'a> {
     fn check_task(self) -> Result<(), Refusal>
         ensures { outcome_of result ≡ bind (task_among self.entry.book.now self.entry.head.version self.entry.question.now) (λ task. ok tt) }
     {
-        // Kept: the task's number again below, since `needs_temperature` is public and takes any.
+        // Kept: the task's number again below: a method of Task that says the same would be public too, for this one call.
         let task = read_task(book::rule_of(self.book), self.question)?;
         if !question::needs_temperature(u64::from(task)) {
             return Err(Refusal::Task);

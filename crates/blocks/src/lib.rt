@@ -144,7 +144,7 @@ fn running_rows(s: &[u8]) -> u64
 
 // The sum of a block's words 0 to 62 by a rule. A whole block has loops of its own: with `word`'s test in it the sum takes
 // four times as long.
-// Kept: `match rule` is the definition by cases.
+// Kept: a match, since each rule has a loop of its own for a whole block, of 504 and of 512 bytes.
 #[tactic(auto, unfolding(crate::specs::Words::word, crate::specs::Words::sum_by))]
 fn block_sum(rule: Rule, s: &[u8]) -> u64
     ensures { result ≡ sum_by rule (word s.now) }

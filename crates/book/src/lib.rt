@@ -72,7 +72,7 @@ fn carry(bits: u64) -> u64
     bits ^ bits.wrapping_add(0x0010000000000000)
 }
 
-// No early way out, and no test in the loop: over a known count it is unrolled, two words to a step.
+// Kept: a `for`: no early way out, and no test in the loop, which over a known count is unrolled, two words to a step.
 #[tactic(auto, unfolding(crate::specs::Book::floats_finite, floats::specs::Fold::all_to))]
 fn floats_finite(s: &[u8; 512], from: usize, count: usize) -> bool
     requires { from + count ≤ 64 }
@@ -91,6 +91,7 @@ fn checks_right(rule: Rule, blocks: &[[u8; 512]]) -> bool
     blocks.iter().all(|s| blocks::check_right(rule, s))
 }
 
+// Kept: kinds of blocks and models by the format's numbers, here and below: each is read in one test of its own.
 // Kind 1 has version 1 to 3.
 #[tactic(auto, unfolding(crate::specs::Book::version_right))]
 fn version_right(s: &[u8; 512]) -> bool

@@ -150,6 +150,7 @@ pub extern "C" fn zektonk_vapor_pressure(book: &[u8], i: usize, t: f64, out: &mu
 
 // ---- excess
 
+// Kept: entries by number, as C reads them.
 fn store_energies(e: Energies, a: Assessment, out: &mut [f64; 23])
     ensures { out.new ≡ energies_stored e a out.old }
 {

@@ -188,7 +188,8 @@ pub fn pair(parameters: &[f64; 384], i: usize, j: usize) -> [f64; 6]
     std::array::from_fn(|k| parameters[e + k])
 }
 
-// Kept: i, j and e are a loop's own; a type for them would be made at each turn.
+// Kept: by index, here and below: the cells of a pair lie 64 apart in a flat table, the caller's memory. i, j and e are a loop's
+// own; a type for them would be made at each turn.
 #[tactic(auto, unfolding(floats::specs::Fold::fold_to))]
 fn keep<const M: usize>(cells: [f64; M], e: usize, table: &mut [f64; 512])
     requires { (M ≤ 8) × (e < 64) }

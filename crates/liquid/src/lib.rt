@@ -58,7 +58,8 @@ fn add_term(z: Sums, t_r: f64, n: f64, e: f64, p: f64, q: f64, r: f64) -> Sums
 }
 
 // Two terms to a step, so that their powers are worked out side by side; of an odd count not the last.
-// Kept: (n, e, t_r, theta, m) go through two functions alone, so a struct of them saves nothing.
+// Kept: `Ancillary` has four of the five, but its count is a `usize`: each of the two functions would make the Count again. Two
+// terms to a step, then the odd one, as in thermo_models and wilson, where other things are done with the two.
 fn sum_pairs(n: &[f64; 8], e: &[f64; 8], t_r: f64, theta: f64, l: f64, m: Count) -> Sums
     requires { l ≡ ln_of theta }
     ensures { result ≡ sums_of n.now e.now t_r theta (2 * (m.n / 2)) }

@@ -28,8 +28,9 @@ use thermo_types::Temperature;
 // ---- lanes: Jets of the solvents side by side, entry i of plane k at k * 8 + i
 
 // Value and slope of the solvent i.
-// Kept: i < 8 and the like are facts of a loop's own index; a type for an index would have to be made at each turn. Two functions
-// for two and three planes, here and below: with a const parameter for their count each contract is both of these, by cases.
+// Kept: flat planes of eight, in which the lanes of W solvents are neighbors. i < 8 and the like are facts of a loop's own index;
+// a type for an index would have to be made at each turn. Two functions for two and three planes, here and below: with a const
+// parameter for their count each contract is both of these, by cases.
 fn keep_two(j: Jet, i: usize, l: &mut [f64; 24])
     requires { i < 8 }
     ensures { l.new ≡ lane j i 2 l.old }
@@ -68,8 +69,8 @@ fn jet_in(l: &[f64; 24], i: usize) -> Jet
 
 // ---- the table and the composition
 
-// Kept: wilson has a jet_at, a two_at, a keep_lns and a Liquid too. One pub fn for both has no `requires`, and would mask each
-// index of these loops; b is a plane's begin, a constant.
+// Kept: wilson has a jet_at, a two_at and a keep_lns too. One pub fn for both has no `requires`, and would mask each index of
+// these loops; b is a plane's begin, a constant. `Liquid` and `Summed` are there too: their methods are each model's own.
 #[tactic(auto, unfolding(jet::specs::Planes::jet_at))]
 fn jet_at(table: &[f64; 512], b: usize, e: usize) -> Jet
     requires { (b ≤ 320) × (e < 64) }
@@ -107,6 +108,7 @@ impl Liquid<'_> {
     }
 
     // The sums of W columns from i on.
+    // Kept: `for`s over the lanes, here and below: each turn adds to the W entries of one array, and `from_fn` would make it anew.
     #[tactic(auto, unfolding(crate::specs::Columns::col_s, floats::specs::Fold::fold_to))]
     fn columns<const W: usize>(self, b: usize, i: usize) -> [Jet; W]
         requires { (b ≤ 320) × (i + W ≤ 8) }

@@ -36,7 +36,7 @@ fn drums_right(drums: &[u8]) -> bool
 }
 
 // The sum over the drums of their counts of solvent i.
-// Kept: `i < 8` is the index of a row of eight.
+// Kept: `i < 8` is a closure's own index; a type for it would be made at each turn.
 fn pool_count(drums: &[u8], i: usize) -> u64
     requires { i < 8 }
     ensures { result ≡ min (pool_count drums.now i) (2 ^ 53 + 1) }

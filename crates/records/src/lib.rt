@@ -31,7 +31,7 @@ pub struct Ancillary {
 }
 
 // The temperatures that a correlation holds between, in K, the lower first.
-// Kept: a public type, read as .0 and .1.
+// Kept: two ends, read in one line of thermo_models: with names that line is no shorter, and its laws change.
 #[derive(Clone, Copy)]
 pub struct Range(pub f64, pub f64);
 
@@ -63,7 +63,8 @@ pub struct Pair {
     pub regression: Option<Interval>,
 }
 
-// Kept: question's floats_from with n = 8 takes 14.3 ns for 12.7: it has a caller's count, and goes by a loop.
+// Kept: question's floats_from has a caller's count, and asks of each of eight whether it is past it; as one function it would
+// be book's, with a contract and edits, for one line each.
 fn eight_floats(s: &[u8], from: usize) -> [f64; 8]
     requires { from ≤ 56 }
     ensures { result ≡ vec (λ k. float (word s.now) (from + k)) 8 }
@@ -145,7 +146,8 @@ fn pair_place(m: Count, i: usize, j: usize) -> usize
 // ---- a pair offered in the place of the book's own
 
 // The block in whose place it stands, where it is for a pair of the book's first n solvents.
-// Kept: the empty slice is "nothing offered" (a public caller's slice).
+// Kept: an empty slice for nothing offered: the definitions say `with_pair n book []`, and an Option would be taken apart at each
+// call.
 pub fn offered_place(book: &[u8], offered: &[u8], n: usize) -> Option<usize>
     ensures { result ≡ offered_place (places n) book.now offered.now }
 {
@@ -260,7 +262,7 @@ fn set_terms(plane: &mut [f64; 384], from: usize, t: Terms)
     plane[from + 5] = t.a1;
 }
 
-// Kept: `i < 8` is the index of a row of eight, here and in the three below.
+// Kept: `i < 8` is a loop's own index, here and below; a type for it would be made at each turn.
 fn diagonal(i: usize, plane: &mut [f64; 384])
     requires { i < 8 }
     ensures { plane.new ≡ fill_from (λ _. 0f) ((i * 8 + i) * 6) 6 plane.old }
@@ -269,7 +271,8 @@ fn diagonal(i: usize, plane: &mut [f64; 384])
 }
 
 // The pair blocks of a book, where a block is offered for the pair at `place`.
-// Kept: `thermo_models::Present` has four of these fields and looks at a drum; shared it would be public, and its methods here.
+// Kept: `thermo_models::Present` has four of these fields, with T and x, and reads pairs by `pair_record`; shared the struct
+// would be public, and its methods too. It is made twice, here and in `parameters`: a constructor's contract is six equations.
 #[derive(Clone, Copy)]
 struct PairBlocks<'a> {
     model: Model,

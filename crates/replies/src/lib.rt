@@ -61,7 +61,7 @@ pub struct AnswerBlock {
 // ---- the words of a block
 
 // 0 unassessed, 1 within, 2 extrapolated.
-// Kept: a function, as `phase_number`: `From` would have to stand in the type's own crate, where nothing else needs it.
+// Kept: a cast, here and in exports: a `From` in the type's own crate is longer than both.
 fn status_number(status: ValidityStatus) -> u64
     ensures { result ≡ status_number status }
 {
@@ -229,7 +229,7 @@ fn plain_block(
 }
 
 // Task 1.
-// Kept: the energies' five fields one by one: `ModelState` is public, and has them flat as the block has.
+// Kept: the energies' five fields one by one: nested, the block's words and their definition would read one name more each.
 pub fn excess_block(
     t: f64,
     e: Energies,

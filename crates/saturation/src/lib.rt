@@ -153,6 +153,7 @@ pub fn residual_with(
 
 // ---- dew point: p = 1 / Σ y_i / (γ_i p_i^sat), by successive substitution on ln γ of the incipient liquid
 
+// Kept: liquid_stability and tp_flash hold a table and its Tabled in a struct too: each with what its own solver reads beside them.
 // A vapor y whose dew point is sought, with the tables and the vapor pressures of a temperature.
 #[derive(Clone, Copy)]
 struct Vapor<'a> {

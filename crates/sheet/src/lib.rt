@@ -94,7 +94,8 @@ impl<'a> Source<'a> {
     }
 
     // Those that the task reads.
-    // Kept: a number, here and in `ready`, as `make_ready` has it; and a match, the definition by cases.
+    // Kept: a number, here and in `ready`: `Readied` speaks of one, and of those that are no task's. A match is the definition by
+    // cases.
     fn pressures_for(self, task: u64, pressure: f64, t: Temperature) -> Result<[f64; 8], Refusal>
         ensures { (P : List Float) (copy : List ℕ) → outcome_of result ≡ pressures_for (mixture_with self.entry.book.now P copy (places self.entry.n)) task pressure t.0 }
     {
@@ -135,6 +136,7 @@ impl<'a> Source<'a> {
     }
 }
 
+// Kept: tables and pressures are the caller's memory, which batch keeps from feed to feed, here and in `ready`.
 // What the tasks at a temperature share for a book of n solvents, as `answer_ready` takes it: the tables and vapor pressures that
 // the task reads. What the tables stand for; or 13, 14, 22, 23, or 25 of a vapor pressure.
 pub fn make_ready(

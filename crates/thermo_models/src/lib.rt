@@ -199,8 +199,8 @@ pub fn tables(
 }
 
 // ln γ, slopes and energies of x, from a table and what it stands for.
-// Kept: table and Tabled stand apart in public functions: the 512 cells are the caller's memory, and a Tabled is copied. ln γ and
-// slopes go into the caller's arrays, as in the models: as a result by value they take 26 ns more, half of an activity of two.
+// Kept: a table and what it stands for are two parameters of each public call, since `tables` fills the one and gives the other.
+// ln γ and slopes go into the caller's arrays, as in the models: by value they take 26 ns more here, half of an activity of two.
 #[tactic(auto, unfolding(crate::specs::Activity::excess_on, crate::specs::Activity::model_on))]
 pub fn excess(
     table: &[f64; 512],
@@ -277,7 +277,7 @@ fn note(interval: Option<Interval>, t: f64, s: Seen) -> Seen
 }
 
 // The pairs of a book, at a temperature and a composition; one offered stands in the place of the book's own.
-// Kept: records has book, offered, place and m as a struct of its own, a private one, whose blocks it reads; here its public function does.
+// Kept: records has book, offered, place and m in a private struct of its own, which reads blocks; shared it would be public.
 #[derive(Clone, Copy)]
 struct Present<'a> {
     book: &'a [u8],
@@ -303,6 +303,7 @@ impl Present<'_> {
         }
     }
 
+    // Kept: a `for` that hands on what was seen, here and in `see_all`: a fold's closure would be this body.
     fn see_row(self, i: usize, mut s: Seen) -> Seen
         requires { i < self.m.n }
         ensures { let p = self.entry in result ≡ row_seen (with_pair p.m.n p.book.now p.offered.now) p.m.n p.t p.x.now i p.m.n s }

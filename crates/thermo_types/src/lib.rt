@@ -139,6 +139,7 @@ pub fn with_fractions(x: &[f64; 8], n: usize) -> Result<(), Refusal>
 }
 
 // Each of the first n entries over s; 0.0 past them.
+// Kept: `from_fn` with this test stands in fifteen bodies: one function over a closure would require that it can be called.
 pub fn divided(x: &[f64; 8], s: f64, n: usize) -> [f64; 8]
     ensures { result ≡ vec (λ i. at x.now i ⊘ s) (places n) }
 {

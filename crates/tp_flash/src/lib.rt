@@ -141,7 +141,7 @@ struct Feed<'a> {
 impl<'a> Feed<'a> {
     // ---- the split at T and p
 
-    // Kept: `places(self.at.n)`, with no Count beside `at`, for trials and dew point take `at` and their contracts say `places at.n`.
+    // Kept: `places(self.at.n)`, four times: a Count beside `at` would want a ghost field that it is `places at.n`.
     // K_i = γ_i p_i^sat / p where the feed is positive, else 1.0, which no sum of Rachford-Rice reads.
     fn k_values(self, lg: &[f64; 8]) -> [f64; 8]
         ensures { let f = self.entry in result ≡ k_values f.z.now f.ps.now f.p.0 lg.now (places f.at.n) }

@@ -22,8 +22,8 @@ use thermo_types::Temperature;
 
 // ---- the sums S and ln S
 
-// Kept: nrtl has a jet_at, a two_at, a keep_lns and a Liquid too; one pub fn for both has no `requires`, and would mask each
-// index.
+// Kept: nrtl has a jet_at, a two_at and a keep_lns too; one pub fn for both has no `requires`, and would mask each index.
+// `Liquid` and `Summed` are there too: their methods are each model's own.
 // Kept: the bounds of indices (`e < 64`, `i < 8`): each is a loop's own, and a type for it would be made at each turn.
 fn jet_at(table: &[f64; 512], e: usize) -> Jet
     requires { e < 64 }
@@ -53,6 +53,8 @@ struct Liquid<'a> {
 
 impl Liquid<'_> {
     // S_i.
+    // Kept: `for`s, here and below, as in nrtl: each turn adds to a sum or to the entries of one array. Sums are flat, four floats of
+    // solvent i from i * 4 on, as the definitions read them.
     #[tactic(auto, unfolding(crate::specs::Sums::row_s, floats::specs::Fold::fold_to))]
     fn row_sum(self, i: usize) -> Jet
         requires { i < 8 }
