@@ -30,22 +30,25 @@ use Rattle.book.proofs.Accepted.{accepted}
 use Rattle.thermo_models.specs.declared.Tabled.{Tabled}
 use Rattle.thermo_models.specs.Mixture.{Mixture}
 use Rattle.question.specs.declared.Question.{Question}
-use Rattle.question.specs.declared.Task.{Task}
-use Rattle.question.specs.Inputs.{needs_temperature, task_found}
+use Rattle.question.specs.Inputs.{needs_temperature}
 use Rattle.question.specs.Asked.{task_in, inputs_right, moles_of, limits_right, question_from, rest_of}
 use Rattle.replies.specs.Blocks.{answer_room, refusal_bytes}
 use Rattle.sheet.specs.Ready.{Readied}
-use Rattle.sheet.specs.Sheet.{Answers, number_of, written, reply_of}
+use Rattle.sheet.specs.Sheet.{answer_to, Answers, number_of, written, reply_of}
 use Rattle.refusals.specs.Numbered.{Numbered}
 use Rattle.refusals.proofs.Laws.{never, numbers}
 use Rattle.refusals.proofs.Theorem.{num_task_in, num_rest, num_answer}
 use Rattle.batch.specs.Feeds.{feed_count, feeds_right, feed_at, task_among, feed_to, feed_reply, parts_to, feeds_of, slice_of, Keeps}
 use Rattle.batch.proofs.Parts.{parts-turn, refusal-put}
 
--- the refusal that `read_task(..)?` met is the one that is returned
-pub met-task : (e : Refusal) (r : Result Task Refusal) → IsErrAnd r (λ y. y ≡ e) → task_found r ≡ no (number e)
-met-task e (Err y) h = rw h
-met-task e (Ok t) h = absurd h
+-- whether there is a task: what comes after it doesn't read it
+abbrev passed : Out ℕ → Out (Unit {0})
+passed o = bind o (λ task. ok tt)
+
+whatever_task : {B : Type 0} (o : Out ℕ) {r : Out (Unit {0})} (p : Out B) → r ≡ passed o → bind o (λ task. p) ≡ bind r (λ u. p)
+unfolding bind
+whatever_task (ok k) p e = rw e
+whatever_task (no k) p e = rw e
 
 -- ---- what the solvers read of the question's words, whatever the feed
 record Reads (w : ℕ → ℕ) (q : Question) : Type 0 where
@@ -70,10 +73,11 @@ task-read rule question {k} e =
     let d = need_inv _ 12 _ c.1 in
     cc d.1
 
-among-warm : (book : List ℕ) (version : ℕ) (question : List ℕ) {k : ℕ} → ok k ≡ task_among book version question → needs_temperature (word question 1) ≡ true
+among-warm : (book : List ℕ) (version : ℕ) (question : List ℕ) → ok tt ≡ passed (task_among book version question) → needs_temperature (word question 1) ≡ true
 unfolding task_among
 among-warm book version question e =
-    let a = bind_inv (task_in (rule_of book) question) _ (sym e) in
+    let t = bind_inv (task_among book version question) _ (sym e) in
+    let a = bind_inv (task_in (rule_of book) question) _ t.1 in
     let b = need_inv (needs_temperature a.0) 12 _ a.2 in
     rw (task-read (rule_of book) question a.1) at (is_true (needs_temperature a.0) b.0)
 
@@ -100,7 +104,16 @@ unfolding feed_to task_among
 numbered book version n question x = search (numbers, num_task_in, num_rest, num_answer) depth 8
 
 module _ (book : List ℕ) (version n : ℕ) (question : List ℕ) (x : List Float) where
-  module _ {k : ℕ} (v : ok k ≡ task_among book version question) {q : Question} (e : ok q ≡ rest_of question (molar_mass (words book)) n x) where
+  pub feed_stopped : {r : ℕ} → no r ≡ passed (task_among book version question) → feed_to book version n question x ≡ no r
+  unfolding feed_to bind
+  feed_stopped v = whatever_task _ _ v
+
+  pub feed_asked : ok tt ≡ passed (task_among book version question)
+      → feed_to book version n question x ≡ bind (rest_of question (molar_mass (words book)) n x) (answer_to book n)
+  unfolding feed_to bind
+  feed_asked v = whatever_task _ _ v
+
+  module _ (v : ok tt ≡ passed (task_among book version question)) {q : Question} (e : ok q ≡ rest_of question (molar_mass (words book)) n x) where
     asks : Reads (word question) q
     asks = (reads question (molar_mass (words book)) n x).each q (sym e)
 

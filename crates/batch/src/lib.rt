@@ -5,9 +5,9 @@
 ghost use Rattle.std.specs.Prelude.{◌≡◌, ◌≤◌, ◌*◌, length};
 ghost use Rattle.floats.specs.Small.{float};
 ghost use Rattle.floats.specs.Vector.{places};
-ghost use Rattle.outcome.specs.Refused.{number_in};
+ghost use Rattle.floats.specs.Outcome.{ok, bind};
+ghost use Rattle.outcome.specs.Refused.{outcome_of, number_in};
 ghost use Rattle.blocks.specs.Words.{word};
-ghost use Rattle.question.specs.Inputs.{task_found};
 ghost use Rattle.thermo_models.specs.Mixture.{mixture_of};
 ghost use Rattle.replies.specs.Blocks.{answer_room};
 ghost use Rattle.sheet.specs.Ready.{Readied};
@@ -15,14 +15,15 @@ ghost use Rattle.sheet.specs.Sheet.{Answers, number_of};
 ghost use Rattle.batch.specs.Feeds.{feed_count, feeds_right, task_among, feed_to, parts_to, feeds_of, slice_of, Keeps};
 
 use blocks::word;
-use book::Head;
+use book::{Head, float_at};
 use outcome::Refusal;
-use question::{Task, floats_from, read_rest, read_task};
+use question::{floats_from, read_rest, read_task};
 use replies::ANSWER_ROOM;
 use thermo_models::Tabled;
 
 // 33
-// Kept: one line, as pool's for drums; shared it would be a public function of its own, and no plainer.
+// Kept: `pool::drums_right` has this body for another question. Shared it is a public function more, with a definition beside
+// the two that 31 and 33 go by; and 65 feeds, or a feed cut short, could no longer be wrong without the drums.
 #[tactic(auto, unfolding(crate::specs::Feeds::feeds_right))]
 fn feeds_right(feeds: &[u8]) -> bool
     ensures { result ≡ feeds_right feeds.now }
@@ -31,6 +32,7 @@ fn feeds_right(feeds: &[u8]) -> bool
 }
 
 // What is kept from feed to feed: what was made ready, once a feed needed it.
+// Kept: `table` and `ps` beside the option: they are the fixed memory that `make_ready` is lent to fill, and not its result.
 #[derive(Clone, Copy)]
 struct Kept {
     made: Option<Result<Tabled, Refusal>>,
@@ -48,10 +50,11 @@ struct Call<'a> {
 
 impl<'a> Call<'a> {
     // 11, 12 and 36, which are the same for every feed.
-    fn task_among(self) -> Result<Task, Refusal>
-        ensures { task_found result ≡ task_among self.entry.book.now self.entry.head.version self.entry.question.now }
+    #[tactic(auto, using(outcome::proofs::Exits::met), unfolding(crate::specs::Feeds::task_among, floats::specs::Outcome::bind, floats::specs::Outcome::need))]
+    fn check_task(self) -> Result<(), Refusal>
+        ensures { outcome_of result ≡ bind (task_among self.entry.book.now self.entry.head.version self.entry.question.now) (λ task. ok tt) }
     {
-        // Kept: the task's number again below, since `needs_temperature` is public and takes any.
+        // Kept: the task's number again below: a method of Task that says the same would be public too, for this one call.
         let task = read_task(book::rule_of(self.book), self.question)?;
         if !question::needs_temperature(u64::from(task)) {
             return Err(Refusal::Task);
@@ -59,7 +62,7 @@ impl<'a> Call<'a> {
         if !question::kind_right(self.head.version, self.question) {
             return Err(Refusal::FeedKind);
         }
-        Ok(task)
+        Ok(())
     }
 
     fn kept_or_made(self, kept: &mut Kept) -> Result<Tabled, Refusal>
@@ -71,8 +74,8 @@ impl<'a> Call<'a> {
                 self.book,
                 self.head.n,
                 word(self.question, 1),
-                floats::float_of(word(self.question, 2)),
-                floats::float_of(word(self.question, 3)),
+                float_at(self.question, 2),
+                float_at(self.question, 3),
                 &mut kept.table,
                 &mut kept.ps,
             ),
@@ -80,14 +83,16 @@ impl<'a> Call<'a> {
     }
 
     // The feed x: its answer's blocks at the front of the slice, and what is kept for the next feed.
+    // Kept: a slice, of a length that is asked for: past the branch of a refusal a proof knows of the array that `first_chunk_mut`
+    // lends of a part its length alone, and not its bytes.
     fn answer_feed(
         self,
-        among: Result<Task, Refusal>,
+        among: Result<(), Refusal>,
         x: &[f64; 8],
         kept: &mut Kept,
         out: &mut [u8],
     ) -> Result<(), Refusal>
-        requires { (answer_room ≤ length out.old) × (task_found among ≡ task_among self.book.now self.head.version self.question.now) × Keeps (mixture_of self.book.now (places self.head.n)) self.question.now kept.old.made kept.old.table kept.old.ps }
+        requires { (answer_room ≤ length out.old) × (outcome_of among ≡ bind (task_among self.book.now self.head.version self.question.now) (λ task. ok tt)) × Keeps (mixture_of self.book.now (places self.head.n)) self.question.now kept.old.made kept.old.table kept.old.ps }
         ensures keeps { Keeps (mixture_of self.entry.book.now (places self.entry.head.n)) self.entry.question.now kept.new.made kept.new.table kept.new.ps }
         ensures answers { Answers (feed_to self.entry.book.now self.entry.head.version (places self.entry.head.n) self.entry.question.now x.now) (number_in result) out.old out.new }
     {
@@ -100,12 +105,13 @@ impl<'a> Call<'a> {
     }
 
     // A refusal is a block too. What one feed needs is kept for the others: the tables and vapor pressures are worked out once.
+    #[tactic(auto, unfolding(crate::specs::Feeds::parts_to, floats::specs::Fold::fold_to))]
     fn answer_feeds(self, feeds: &[u8], out: &mut [u8])
         requires { (feed_count feeds.now ≤ 64) × (answer_room * feed_count feeds.now ≤ length out.old) }
         ensures { out.new ≡ parts_to self.entry.book.now self.entry.head.version (places self.entry.head.n) self.entry.question.now feeds.now out.old (feed_count feeds.now) }
     {
         let rule = book::rule_of(self.book);
-        let among = self.task_among();
+        let among = self.check_task();
         let mut kept = Kept {
             made: None,
             table: [0.0; 512],

@@ -4,6 +4,7 @@ use lib.ListN.{get_or-eq_default}
 use borrow.Author.Tests.{lt-leb}
 use lib.Seq.{take-nil, drop-append-add}
 use borrow.Rule.Slice.PartMut.{put_mid}
+use Rattle.std.specs.Simd.{first_chunks}
 use Rattle.std.specs.Int.{w64, from_le_bytes, to_le_bytes}
 use Rattle.std.proofs.lemmas.Nat.{from_le_bytes-to_le_bytes_8}
 use Rattle.blocks.specs.Words.{check_sum, running_sum, sum_by, byte, word_from, word, block}
@@ -22,10 +23,6 @@ runs-turn f k e v h = rw add-one (h ∙ rw (e, v, add-one))
 pub length_block : (s : List ℕ) (k : ℕ) → 512 * k + 512 ≤ length s → length (block s k) ≡ 512
 unfolding block
 length_block s k h = simp (length-take, length-drop) (omega arith)
-
-pub part-block : (s : List ℕ) (k : ℕ) → take (512 * k + 512 - 512 * k) (drop (512 * k) s) ≡ block s k
-unfolding block
-part-block s k = let e : 512 * k + 512 - 512 * k ≡ 512 = omega arith in rw e
 
 pub word-past : (s : List ℕ) (k : ℕ) → length s / 8 < k → 0 ≡ word s k
 unfolding word
@@ -51,19 +48,21 @@ pub block_none : (s : List ℕ) (k : ℕ) → length s ≤ 512 * k → block s k
 unfolding block
 block_none s k l = rw (drop_of_length-le s l, take-nil)
 
-pub block-past : (s : List ℕ) (k : ℕ) → length s / 512 < k → take (length s - length s) (drop (length s) s) ≡ block s k
+-- of the whole blocks one by one, and of what is left behind them
+pub block-whole : (n : ℕ) (s : List ℕ) (k : ℕ) → k < n → get_or (first_chunks 512 n s) k [] ≡ block s k
 unfolding block
-block-past s k h =
-    let l : length s ≤ 512 * k = omega arith in
-    let m : length s ≤ length s = omega arith in
-    rw (drop_of_length-le s l, drop_of_length-le s m, take-nil)
+block-whole zero s k l = absurd (omega arith)
+block-whole (suc n) s zero l = refl
+block-whole (suc n) s (suc k) l =
+    let e : 512 + 512 * k ≡ 512 * suc k = omega arith in
+    block-whole n (drop 512 s) k (omega arith) ∙ ap (take 512) (drop-drop (512 * k) 512 s ∙ ap (λ m. drop m s) e)
 
-pub block-end-part : (s : List ℕ) (k : ℕ) → k ≡ length s / 512 → take (length s - 512 * k) (drop (512 * k) s) ≡ block s k
+pub block-rest : (s : List ℕ) (k : ℕ) → k ≡ length s / 512 → drop (length s / 512 * 512) s ≡ block s k
 unfolding block
-block-end-part s k h =
-    let a : length (drop (512 * k) s) ≤ length s - 512 * k = simp length-drop (omega arith) in
+block-rest s k h =
+    let e : length s / 512 * 512 ≡ 512 * k = omega arith in
     let b : length (drop (512 * k) s) ≤ 512 = simp length-drop (omega arith) in
-    take_all (length s - 512 * k) (drop (512 * k) s) a ∙ sym (take_all 512 (drop (512 * k) s) b)
+    rw e (sym (take_all 512 (drop (512 * k) s) b))
 
 pub length_bytes : (w : ℕ) → length (bytes w) ≡ 8
 unfolding bytes

@@ -1,5 +1,8 @@
 -- Check sums and running sums as sums of natural numbers modulo 2^64, and the running sums of a whole block in four lanes. Assumes nothing.
-use Rattle.std.proofs.Common.{◌≡◌, ℕ, zero, suc, ◌+◌, ◌*◌, ◌/◌, ◌%◌, ◌^◌, ◌≤◌, List, sym, refl, ap, ◌∙◌, add-one, arith}
+use Rattle.std.proofs.Common.{◌≡◌, ℕ, zero, suc, ◌+◌, ◌*◌, ◌/◌, ◌%◌, ◌^◌, ◌<◌, ◌≤◌, List, length, ⊎_elim, eq-or-lt_of_le, sym, refl, ap, ◌∙◌, add-one, arith}
+use lib.ListN.{set, replicate, length-set, get_or-replicate}
+use lib.Seq.{get_or-set_same, get_or-set_other}
+use Rattle.blocks.specs.Bytes.{word_at}
 use Rattle.blocks.specs.Words.{word_from, word, check_sum, running_sum}
 
 -- w 0 to w (n - 1), and the running sums after each
@@ -47,22 +50,49 @@ pub late-turn : (w : ℕ → ℕ) (c r : ℕ) {a t y : ℕ} → t ≡ late w c r
 unfolding late
 late-turn w c r e v h = rw add-one (h ∙ rw (e, v) (carry-both (late w c r) (lane w c r)))
 
--- the eight sums after r rows
-pub record Lanes (w : ℕ → ℕ) (a0 a1 a2 a3 t0 t1 t2 t3 r : ℕ) : Type 0 where
-  pub rows : r ≤ 16
-  pub lane0 : a0 ≡ lane w 0 r % 2 ^ 64
-  pub lane1 : a1 ≡ lane w 1 r % 2 ^ 64
-  pub lane2 : a2 ≡ lane w 2 r % 2 ^ 64
-  pub lane3 : a3 ≡ lane w 3 r % 2 ^ 64
-  pub late0 : t0 ≡ late w 0 r % 2 ^ 64
-  pub late1 : t1 ≡ late w 1 r % 2 ^ 64
-  pub late2 : t2 ≡ late w 2 r % 2 ^ 64
-  pub late3 : t3 ≡ late w 3 r % 2 ^ 64
+-- four numbers, those before c those of g already, the others of f still
+pub record Turning (f g : ℕ → ℕ) (c : ℕ) (l : List ℕ) : Type 0 where
+  pub long : length l ≡ 4
+  pub turned : (k : ℕ) → k < c → word_at l k ≡ g k % 2 ^ 64
+  pub left : (k : ℕ) → c ≤ k → k < 4 → word_at l k ≡ f k % 2 ^ 64
 
-pub lanes_start : (w : ℕ → ℕ) → Lanes w 0 0 0 0 0 0 0 0 0
+module _ {f g : ℕ → ℕ} {l : List ℕ} where
+  turning-next : (c : ℕ) {y : ℕ} → c < 4 → y ≡ g c % 2 ^ 64 → Turning f g c l → Turning f g (c + 1) (set l c y)
+  turning-next c {y} h e t = record {
+    long = length-set l c y ∙ t.long;
+    turned = λ k q. ⊎_elim
+        (λ (p : k ≡ c). rw p (get_or-set_same l c y 0 (omega (arith, t.long)) ∙ e))
+        (λ (p : k < c). get_or-set_other l c k y 0 (omega arith) ∙ t.turned k p)
+        (eq-or-lt_of_le (omega arith));
+    left = λ k q r. get_or-set_other l c k y 0 (omega arith) ∙ t.left k (omega arith) r;
+  }
+
+  turning-done : {h : ℕ → ℕ} (c : ℕ) → 4 ≤ c → Turning f g c l → Turning g h 0 l
+  turning-done c z t = record { long = t.long; turned = λ k q. absurd (omega arith); left = λ k _ q. t.turned k (omega arith) }
+
+-- the eight sums after r rows and c words of the next
+pub record Lanes (w : ℕ → ℕ) (r c : ℕ) (a t : List ℕ) : Type 0 where
+  pub sums : Turning (λ k. lane w k r) (λ k. lane w k (r + 1)) c a
+  pub earlier : Turning (λ k. late w k r) (λ k. late w k (r + 1)) c t
+
+pub lanes_start : (w : ℕ → ℕ) → Lanes w 0 0 (replicate 4 0) (replicate 4 0)
 unfolding lane late
-lanes_start w =
-    record { rows = omega arith; lane0 = refl; lane1 = refl; lane2 = refl; lane3 = refl; late0 = refl; late1 = refl; late2 = refl; late3 = refl }
+lanes_start w = record {
+  sums = record { long = refl; turned = λ k q. absurd (omega arith); left = λ k _ q. get_or-replicate 4 k 0 0 q };
+  earlier = record { long = refl; turned = λ k q. absurd (omega arith); left = λ k _ q. get_or-replicate 4 k 0 0 q };
+}
+
+pub lanes-turn : (w : ℕ → ℕ) (r c : ℕ) {a t : List ℕ} {x y z : ℕ} → c < 4 → x ≡ w (4 * r + c) → y ≡ (word_at t c + word_at a c) % 2 ^ 64 → z ≡ (word_at a c + x) % 2 ^ 64
+    → Lanes w r c a t → Lanes w r (c + 1) (set a c z) (set t c y)
+lanes-turn w r c h e ey ez l =
+    let n : c ≤ c = omega arith in
+    record {
+      sums = turning-next c h (lane-turn w c r (l.sums.left c n h) e ez) l.sums;
+      earlier = turning-next c h (late-turn w c r (l.earlier.left c n h) (l.sums.left c n h) ey) l.earlier;
+    }
+
+pub lanes_done : (w : ℕ → ℕ) (r c : ℕ) {a t : List ℕ} → 4 ≤ c → Lanes w r c a t → Lanes w (r + 1) 0 a t
+lanes_done w r c h l = record { sums = turning-done c h l.sums; earlier = turning-done c h l.earlier }
 
 pub row_word : (s : List ℕ) (r c : ℕ) {at x : ℕ} → at ≡ 8 * (4 * r + c) → x ≡ word_from s at → x ≡ word s (4 * r + c)
 unfolding word
@@ -109,9 +139,10 @@ modulo x y z u a b c =
     omega (arith, e x, e y, e z, e u, e a, e b, e c) in
     sym (ap (λ (k : ℕ). k % 2 ^ 64) g ∙ dropped _ _)
 
-pub lanes-sum : (w : ℕ → ℕ) {r a0 a1 a2 a3 t0 t1 t2 t3 v : ℕ} → Lanes w a0 a1 a2 a3 t0 t1 t2 t3 r → 16 ≤ r
-    → v ≡ (4 * (t0 + t1 + t2 + t3) + 3 * a0 + 2 * a1 + a2) % 2 ^ 64 → v ≡ running_sum w 63
-lanes-sum w {r} l e h =
-    let n : r ≡ 16 = omega arith in
-    h ∙ rw (l.lane0, l.lane1, l.lane2, l.late0, l.late1, l.late2, l.late3, n, running-runs, lanes_end)
+pub lanes-sum : (w : ℕ → ℕ) {r v : ℕ} {a t : List ℕ} → Lanes w r 0 a t → r ≡ 16
+    → v ≡ (4 * (word_at t 0 + word_at t 1 + word_at t 2 + word_at t 3) + 3 * word_at a 0 + 2 * word_at a 1 + word_at a 2) % 2 ^ 64 → v ≡ running_sum w 63
+lanes-sum w {r} l n h =
+    let s = λ (k : ℕ) (q : k < 4). l.sums.left k (omega arith) q in
+    let e = λ (k : ℕ) (q : k < 4). l.earlier.left k (omega arith) q in
+    h ∙ rw (s 0 (omega arith), s 1 (omega arith), s 2 (omega arith), e 0 (omega arith), e 1 (omega arith), e 2 (omega arith), e 3 (omega arith), n, running-runs, lanes_end)
     (modulo (late w 0 16) (late w 1 16) (late w 2 16) (late w 3 16) (lane w 0 16) (lane w 1 16) (lane w 2 16))

@@ -1,13 +1,13 @@
 -- A book as a slice of blocks: tests of every block of a part, and the questions put to the parts. Assumes nothing.
-use Rattle.std.proofs.Common.{◌≡◌, ℕ, zero, suc, ◌+◌, ◌-◌, ◌*◌, ◌/◌, ◌%◌, ◌<◌, ◌≤◌, Bool, not, ◌&&◌, ◌||◌, eqb, List, [], ◌∷◌, length, get_or, take, drop, refl, sym, ap, ◌∙◌, arith, length-take, length-drop, get_or-take, get_or-drop, take_all, drop-drop, drop_of_length-le, ltb, true, false, ltb-true, ltb-false, lt-ltb, eq-eqb}
+use Rattle.std.proofs.Common.{◌≡◌, ℕ, zero, suc, ◌+◌, ◌-◌, ◌*◌, ◌/◌, ◌%◌, ◌<◌, ◌≤◌, Bool, not, ◌&&◌, ◌||◌, eqb, List, [], ◌∷◌, length, get_or, take, drop, refl, sym, ap, ◌∙◌, arith, length-take, length-drop, get_or-take, get_or-drop, take_all, ltb, true, false, ltb-true, ltb-false, lt-ltb, eq-eqb}
 use mathlib.Core.Path.{fun_ext}
 use lib.ListN.{get_or-eq_default}
-use lib.Seq.{take-nil}
 use Rattle.std.specs.List.{list_all}
 use Rattle.std.specs.Simd.{first_chunks}
 use Rattle.std.proofs.lemmas.List.Folds.{list_all_more}
 use Rattle.blocks.specs.declared.Rule.{Rule}
 use Rattle.blocks.specs.Words.{word, block, check_right}
+use Rattle.blocks.proofs.Laws.{block-whole, block_none}
 use Rattle.floats.specs.Small.{positive, float}
 use Rattle.floats.specs.Fold.{all_to}
 use Rattle.floats.specs.Outcome.{Out, ok, need}
@@ -81,35 +81,26 @@ each_pair book n p h =
     each_item p s [] ∙ ap (all_to (λ d. p (get_or s d []))) e
     ∙ all_cong (pair_count n) (λ d l. ap p (get_or-take (length book - (1 + n)) (drop (1 + n) book) d [] (omega arith) ∙ get_or-drop (1 + n) book d []))
 
--- a row of them
-pub row_read : (book : List (List ℕ)) (i from count n : ℕ) → length book ≡ block_count n → from + count ≤ block_count n
-    → all_to (λ d. pair_right (words_in (take (from + count - from) (drop from book)) d) i (i + 1 + d)) (length (take (from + count - from) (drop from book)))
-    ≡ row_right (words_in book) i from count
+-- a row of them, at the front of what is left, and what is left behind it
+pub row_read : (book : List (List ℕ)) (n i from : ℕ) {rest row : List (List ℕ)} → length book ≡ block_count n → from + (n - i - 1) ≤ block_count n → rest ≡ drop from book → row ≡ take (n - i - 1) rest
+    → all_to (λ d. pair_right (words_in row d) i (i + 1 + d)) (length row) ≡ row_right (words_in book) i from (n - i - 1)
 unfolding row_right
-row_read book i from count n z h =
-    let s = take (from + count - from) (drop from book) in
+row_read book n i from {rest} {row} z h r w =
+    let count = n - i - 1 in
+    let s = take count (drop from book) in
     let e : length s ≡ count = simp (length-take, length-drop) (omega arith) in
-    ap (all_to (λ d. pair_right (words_in s d) i (i + 1 + d))) e
-    ∙ all_cong count (λ d l. ap (λ b. pair_right (word b) i (i + 1 + d)) (get_or-take (from + count - from) (drop from book) d [] (omega arith) ∙ get_or-drop from book d []))
+    rw (w, r) (ap (all_to (λ d. pair_right (words_in s d) i (i + 1 + d))) e
+    ∙ all_cong count (λ d l. ap (λ b. pair_right (word b) i (i + 1 + d)) (get_or-take count (drop from book) d [] l ∙ get_or-drop from book d [])))
 
 -- ---- a book's bytes
-chunk_at : (k : ℕ) (s : List ℕ) (j : ℕ) → j < k → get_or (first_chunks 512 k s) j [] ≡ take 512 (drop (512 * j) s)
-chunk_at zero s j l = absurd (omega arith)
-chunk_at (suc k) s zero l = refl
-chunk_at (suc k) s (suc j) l =
-    let e : 512 + 512 * j ≡ 512 * suc j = omega arith in
-    chunk_at k (drop 512 s) j (omega arith) ∙ ap (take 512) (drop-drop (512 * j) 512 s ∙ ap (λ m. drop m s) e)
-
 pub whole : {s : List ℕ} {blocks : List (List ℕ)} → blocks ≡ first_chunks 512 (length s / 512) s → length blocks ≡ length s / 512 → length s ≡ 512 * length blocks → 0 < length blocks → Whole s blocks
-unfolding block
 whole {s} {blocks} e m z p = record { some = p; size = z; same = λ j. go j (ltb j (length blocks)) refl }
   where
-    go : (j : ℕ) (b : Bool) → ltb j (length blocks) ≡ b → get_or blocks j [] ≡ take 512 (drop (512 * j) s)
-    go j true q = rw e (chunk_at (length s / 512) s j (omega (arith, m, ltb-true j (length blocks) q)))
+    go : (j : ℕ) (b : Bool) → ltb j (length blocks) ≡ b → get_or blocks j [] ≡ block s j
+    go j true q = rw e (block-whole (length s / 512) s j (omega (arith, m, ltb-true j (length blocks) q)))
     go j false q =
         let l : length blocks ≤ j = ltb-false j (length blocks) q in
-        let f : length s ≤ 512 * j = omega (arith, z) in
-        get_or-eq_default blocks [] l ∙ sym (rw (drop_of_length-le s f, take-nil))
+        get_or-eq_default blocks [] l ∙ sym (block_none s j (omega (arith, z)))
 
 pub words_whole : {s : List ℕ} {blocks : List (List ℕ)} → Whole s blocks → words_in blocks ≡ words s
 words_whole w = fun_ext (λ j. ap word (w.same j))

@@ -41,7 +41,8 @@ fn whole_blocks(book: &[u8]) -> Option<&[[u8; 512]]>
 }
 
 // A word of a whole block, read with no test for its end.
-// Kept: shared with `blocks` it would be a `pub fn` with a `requires`, and `float_at` is one line. `k < 64` is the place of a word, here and below.
+// Kept: shared with `blocks` it would be a `pub fn` with a `requires`, and `float_in` is one line. `k < 64` is the place of a word, here and below.
+#[tactic(auto, unfolding(blocks::specs::Words::word))]
 fn word(s: &[u8; 512], k: usize) -> u64
     requires { k < 64 }
     ensures { result ≡ word s.now k }
@@ -50,7 +51,14 @@ fn word(s: &[u8; 512], k: usize) -> u64
     u64::from_le_bytes(s[from..from + 8].try_into().unwrap())
 }
 
-fn float_at(s: &[u8; 512], k: usize) -> f64
+// Word k of a slice as a float.
+pub fn float_at(s: &[u8], k: usize) -> f64
+    ensures { result ≡ float (word s.now) k }
+{
+    floats::float_of(blocks::word(s, k))
+}
+
+fn float_in(s: &[u8; 512], k: usize) -> f64
     requires { k < 64 }
     ensures { result ≡ float (word s.now) k }
 {
@@ -64,7 +72,8 @@ fn carry(bits: u64) -> u64
     bits ^ bits.wrapping_add(0x0010000000000000)
 }
 
-// No early way out, and no test in the loop: over a known count it is unrolled, two words to a step.
+// Kept: a `for`: no early way out, and no test in the loop, which over a known count is unrolled, two words to a step.
+#[tactic(auto, unfolding(crate::specs::Book::floats_finite, floats::specs::Fold::all_to))]
 fn floats_finite(s: &[u8; 512], from: usize, count: usize) -> bool
     requires { from + count ≤ 64 }
     ensures { result ≡ floats_finite (word s.now) from count }
@@ -82,7 +91,9 @@ fn checks_right(rule: Rule, blocks: &[[u8; 512]]) -> bool
     blocks.iter().all(|s| blocks::check_right(rule, s))
 }
 
+// Kept: kinds of blocks and models by the format's numbers, here and below: each is read in one test of its own.
 // Kind 1 has version 1 to 3.
+#[tactic(auto, unfolding(crate::specs::Book::version_right))]
 fn version_right(s: &[u8; 512]) -> bool
     ensures { result ≡ version_right (word s.now) }
 {
@@ -90,6 +101,7 @@ fn version_right(s: &[u8; 512]) -> bool
     word(s, 0) != 1 || (1..=3).contains(&version)
 }
 
+#[tactic(auto, unfolding(crate::specs::Book::head_right))]
 fn head_right(s: &[u8; 512]) -> bool
     ensures { result ≡ head_right (word s.now) }
 {
@@ -97,6 +109,7 @@ fn head_right(s: &[u8; 512]) -> bool
 }
 
 // 0, NRTL; or 1, Wilson, from version 2 on.
+#[tactic(auto, unfolding(crate::specs::Book::model_right))]
 fn model_right(s: &[u8; 512]) -> bool
     ensures { result ≡ model_right (word s.now) }
 {
@@ -129,6 +142,7 @@ fn pair_count(m: Count) -> usize
 }
 
 // Kind 2, its own index, a CAS number, term counts 1 to 8.
+#[tactic(auto, unfolding(crate::specs::Book::solvent_right))]
 fn solvent_right(s: &[u8; 512], i: u64) -> bool
     ensures { result ≡ solvent_right (word s.now) i }
 {
@@ -146,23 +160,28 @@ fn solvent_right(s: &[u8; 512], i: u64) -> bool
 fn solvents_right(solvents: &[[u8; 512]]) -> bool
     ensures { result ≡ all_to (λ i. solvent_right (words_in solvents.now i) i) (length solvents.now) }
 {
-    (0..solvents.len()).all(|i| solvent_right(&solvents[i], i as u64))
+    solvents
+        .iter()
+        .enumerate()
+        .all(|(i, s)| solvent_right(s, i as u64))
 }
 
 // 0 < low ≤ high < t_r (K), the reducing value positive.
 // Kept: `f` is a word's place, with room for the record behind it (`record_right` too); as an enum of two records it would be turned into 3 or 24 here.
+#[tactic(auto, unfolding(crate::specs::Book::range_right))]
 fn range_right(s: &[u8; 512], f: usize) -> bool
     requires { f ≤ 24 }
     ensures { result ≡ range_right (word s.now) f }
 {
-    let t_r = float_at(s, f);
-    let reducing_value = float_at(s, f + 1);
-    let low = float_at(s, f + 2);
-    let high = float_at(s, f + 3);
+    let t_r = float_in(s, f);
+    let reducing_value = float_in(s, f + 1);
+    let low = float_in(s, f + 2);
+    let high = float_in(s, f + 3);
     (0.0 < low) & (low <= high) & (high < t_r) & (0.0 < reducing_value)
 }
 
 // The record from word f on.
+#[tactic(auto, unfolding(crate::specs::Book::record_right))]
 fn record_right(s: &[u8; 512], f: usize) -> bool
     requires { f ≤ 24 }
     ensures { result ≡ record_right (word s.now) f }
@@ -175,6 +194,7 @@ fn record_right(s: &[u8; 512], f: usize) -> bool
 }
 
 // Vapor pressure and liquid density. As a rule the unused places are finite too, so one scan does for both records.
+#[tactic(auto, unfolding(crate::specs::Book::records_right))]
 fn records_right(s: &[u8; 512]) -> bool
     ensures { result ≡ records_right (word s.now) }
 {
@@ -201,7 +221,7 @@ pub fn has_masses(version: u64) -> bool
 fn masses_positive(solvents: &[[u8; 512]]) -> bool
     ensures { result ≡ list_all (λ s. positive (float (word s) 45)) solvents.now }
 {
-    solvents.iter().all(|s| floats::positive(float_at(s, 45)))
+    solvents.iter().all(|s| floats::positive(float_in(s, 45)))
 }
 
 // Word 45 of version 1 is not read.
@@ -220,10 +240,14 @@ fn cas_new(own: u64, before: &[[u8; 512]]) -> bool
 fn cas_distinct(solvents: &[[u8; 512]]) -> bool
     ensures { result ≡ all_to (λ i. list_all (λ s. not (word s 2 == words_in solvents.now i 2)) (take i solvents.now)) (length solvents.now) }
 {
-    (0..solvents.len()).all(|i| cas_new(word(&solvents[i], 2), &solvents[..i]))
+    solvents
+        .iter()
+        .enumerate()
+        .all(|(i, s)| cas_new(word(s, 2), &solvents[..i]))
 }
 
 // Kind 3, due i and j, flags 0 or 1.
+#[tactic(auto, unfolding(crate::specs::Book::pair_right))]
 fn pair_right(s: &[u8; 512], i: u64, j: u64) -> bool
     ensures { result ≡ pair_right (word s.now) i j }
 {
@@ -238,10 +262,13 @@ fn row_right(i: usize, row: &[[u8; 512]]) -> bool
     requires { i + length row.now ≤ 8 }
     ensures { result ≡ all_to (λ d. pair_right (words_in row.now d) i (i + 1 + d)) (length row.now) }
 {
-    (0..row.len()).all(|d| pair_right(&row[d], i as u64, (i + 1 + d) as u64))
+    row.iter()
+        .enumerate()
+        .all(|(d, s)| pair_right(s, i as u64, (i + 1 + d) as u64))
 }
 
 // The bounds of an interval are read only if it is flagged.
+#[tactic(auto, unfolding(crate::specs::Book::bounds_finite))]
 fn bounds_finite(s: &[u8; 512]) -> bool
     ensures { result ≡ bounds_finite (word s.now) }
 {
@@ -251,6 +278,7 @@ fn bounds_finite(s: &[u8; 512]) -> bool
 // Kept: each `match self` is a definition by cases, with a constant in each: a count that is known lets the loop unroll.
 impl Model {
     // Four taus and two alphas each way, or a and b.
+    #[tactic(auto, unfolding(crate::specs::Book::parameters_finite))]
     fn parameters_finite(self, s: &[u8; 512]) -> bool
         ensures { result ≡ parameters_finite self (word s.now) }
     {
@@ -260,6 +288,7 @@ impl Model {
         }
     }
 
+    #[tactic(auto, unfolding(crate::specs::Book::pair_finite))]
     fn pair_finite(self, s: &[u8; 512]) -> bool
         ensures { result ≡ pair_finite self (word s.now) }
     {
@@ -289,10 +318,11 @@ impl Model {
     }
 }
 
+#[tactic(auto, unfolding(crate::specs::Book::alphas_equal))]
 fn alphas_equal(s: &[u8; 512]) -> bool
     ensures { result ≡ alphas_equal Model.Nrtl (word s.now) }
 {
-    (float_at(s, 11) == float_at(s, 13)) & (float_at(s, 12) == float_at(s, 14))
+    (float_in(s, 11) == float_in(s, 13)) & (float_in(s, 12) == float_in(s, 14))
 }
 
 // Questions 8 and 9 in one reading. As a rule the alphas are the same words, and unflagged bounds are finite too.
@@ -316,21 +346,23 @@ struct Book<'a> {
 }
 
 impl<'a> Book<'a> {
+    #[tactic(auto, unfolding(floats::specs::Fold::all_to, crate::specs::Places::row_from))]
     fn pairs_right(self) -> bool
         ensures { result ≡ all_to (λ i. row_right (words_in self.entry.blocks.now) i (row_from self.entry.head.n i) (self.entry.head.n - i - 1)) self.entry.head.n }
     {
         let n = self.head.n;
-        let mut from = 1 + n;
+        let mut pairs = &self.blocks[1 + n..];
         for i in 0..n {
-            let count = n - i - 1;
-            if !row_right(i, &self.blocks[from..from + count]) {
+            let (row, behind) = pairs.split_at(n - i - 1);
+            if !row_right(i, row) {
                 return false;
             }
-            from += count;
+            pairs = behind;
         }
         true
     }
 
+    #[tactic(auto, unfolding(crate::specs::Book::pairs_of, floats::specs::Outcome::need))]
     fn open_pairs(self) -> Result<Head, Refusal>
         ensures { outcome_of result ≡ pairs_of (words_in self.entry.blocks.now) self.entry.head }
     {
@@ -370,6 +402,7 @@ impl<'a> Book<'a> {
     }
 }
 
+#[tactic(auto, unfolding(crate::specs::Book::head_of, floats::specs::Outcome::need, crate::specs::Book::head_in, crate::specs::Book::model_in))]
 fn open_head(blocks: &[[u8; 512]]) -> Result<Head, Refusal>
     requires { 0 < length blocks.now }
     ensures { outcome_of result ≡ head_of (words_in blocks.now) (length blocks.now) }

@@ -28,7 +28,7 @@ vapor_at book i t = bind (book_of book) (λ h. vapor_from book i t)
 
 -- p, ln p and its two derivatives in the first four entries; a refusal leaves the slice as it was
 unfoldable pub vapor_written : Out Vapor → List Float → List Float
-vapor_written (ok v) old = set (set (set (set old 0 v.pressure) 1 v.ln_pressure) 2 v.d_ln_pressure_dt) 3 v.d2_ln_pressure_dt2
+vapor_written (ok v) old = set (set (set (set old 0 v.pressure) 1 v.ln.value) 2 v.ln.slope) 3 v.ln.curvature
 vapor_written (no r) old = old
 
 pub record VaporGives (o : Out Vapor) (r : ℕ) (old new : List Float) : Type 0 where

@@ -141,12 +141,7 @@ pub extern "C" fn zektonk_vapor_pressure(book: &[u8], i: usize, t: f64, out: &mu
     };
     match vapor_at(book, i, t) {
         Ok(v) => {
-            *front = [
-                v.pressure,
-                v.ln_pressure,
-                v.d_ln_pressure_dt,
-                v.d2_ln_pressure_dt2,
-            ];
+            *front = [v.pressure, v.ln.value, v.ln.slope, v.ln.curvature];
             0
         }
         Err(refusal) => u64::from(refusal),
@@ -155,6 +150,7 @@ pub extern "C" fn zektonk_vapor_pressure(book: &[u8], i: usize, t: f64, out: &mu
 
 // ---- excess
 
+// Kept: entries by number, as C reads them.
 fn store_energies(e: Energies, a: Assessment, out: &mut [f64; 23])
     ensures { out.new ≡ energies_stored e a out.old }
 {
@@ -263,10 +259,8 @@ pub extern "C" fn zektonk_open_book(book: &[u8]) -> u64
 fn repeat(table: &[f64; 512], s: Tabled, x: &[f64; 8], count: u64) -> u64
     ensures { result ≡ count }
 {
-    let mut lg = [0.0; 8];
-    let mut sl = [0.0; 8];
     for _ in 0..count {
-        let _ = thermo_models::activity(table, s, x, &mut lg, &mut sl);
+        let _ = thermo_models::activity(table, s, x);
     }
     count
 }

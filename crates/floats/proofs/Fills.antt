@@ -37,6 +37,11 @@ module _ {A : Type 0} where
       (λ (q : k < n). get_or-set_other (fill f n m) n k (f n) d (omega arith) ∙ fill-at f n m d k (omega arith) q)
       (eq-or-lt_of_le (omega arith))
 
+  pub fill_past : (f : ℕ → A) (n : ℕ) (m : List A) (d : A) (e : ℕ) → n ≤ e → get_or (fill f n m) e d ≡ get_or m e d
+  unfolding fill
+  fill_past f zero m d e h = refl
+  fill_past f (suc n) m d e h = get_or-set_other (fill f n m) n e (f n) d (omega arith) ∙ fill_past f n m d e (omega arith)
+
   pub fill_from_length : (f : ℕ → A) (b n : ℕ) (m : List A) → length (fill_from f b n m) ≡ length m
   unfolding fill_from
   fill_from_length f b zero m = refl

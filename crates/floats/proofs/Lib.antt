@@ -6,3 +6,5 @@ pub mod Outcomes
 pub mod Squares
 pub mod Chains
 pub mod Copies
+pub mod Made
+pub mod Chosen

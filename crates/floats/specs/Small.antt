@@ -1,8 +1,8 @@
--- The small functions on floats: finite and positive tests, max, min, abs, bits. Assumes nothing.
+-- The small functions on floats: finite and positive tests, max, min, abs, a middle, bits. Assumes nothing.
 use Rattle.std.specs.Prelude.{ℕ, Bool, true, false, cond, ◌&&◌, Float}
 use Rattle.std.specs.Float.{nan, inf, fin, binary64}
 use Rattle.std.specs.Float.Ieee.{lt, le, is_nan, of_bits, to_bits}
-use Rattle.floats.specs.Arithmetic.{◌⊖◌, 0f}
+use Rattle.floats.specs.Arithmetic.{◌⊕◌, ◌⊖◌, ◌⊘◌, 0f, 2f}
 
 -- neither a NaN nor infinite
 unfoldable pub is_finite : Float → Bool
@@ -24,6 +24,10 @@ min_of a b = cond (is_nan a) b (cond (lt b a) b a)
 -- |x|: 0 - x is exact, and +0 at both zeros
 abbrev pub abs_of : Float → Float
 abs_of x = cond (le x 0f) (0f ⊖ x) x
+
+-- bisection: halfway from lo to hi
+abbrev pub middle : Float → Float → Float
+middle lo hi = lo ⊕ (hi ⊖ lo) ⊘ 2f
 
 -- the bits of x; `to_bits` writes a NaN as 0x7ff8000000000000
 abbrev pub bits_of : Float → ℕ

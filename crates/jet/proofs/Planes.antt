@@ -97,9 +97,6 @@ square-next f m k old {l₀} k8 p q r =
     (λ i j a b s i8 j8 a8 b8 n. spread_comm (f i j) (f a b) (i * 8 + j) (a * 8 + b) m m s (omega arith) (omega arith) n) k old k8
     ∙ ap (λ n. plane_rows f m n n old) e)
 
-pub square_done : (f : ℕ → ℕ → ℕ → Float) (m k n : ℕ) (old : List Float) {l : List Float} → k ≡ n → l ≡ plane_rows f m k k old → l ≡ plane_rows f m n n old
-square_done f m k n old e p = p ∙ ap (λ n. plane_rows f m n n old) e
-
 -- ---- other cells that are the same
 pub spread_cong : {f g : ℕ → Float} (e m : ℕ) (l : List Float) → ((k : ℕ) → k < m → f k ≡ g k) → spread f e m l ≡ spread g e m l
 spread_cong e m l h = fold_cong l m (λ k a q. ap (set a (k * 64 + e)) (h k q))

@@ -1,11 +1,13 @@
-// A value with its first and second temperature derivatives (the Rust's `Jet`); each method equals its definition in specs/Jets.antt.
-// Tables of ordered pairs: planes of 64, entry (i, j) of plane k at k * 64 + i * 8 + j.
+// A value with its first and second temperature derivatives (the Rust's `Jet`): methods and operators equal their
+// definitions in specs/Jets.antt. Tables of ordered pairs: planes of 64, entry (i, j) of plane k at k * 64 + i * 8 + j.
 #![tactic(auto)]
 
 ghost use Rattle.std.specs.Prelude.{◌≡◌, ℕ, ◌≤◌, ◌<◌, ◌+◌, ◌*◌, ◌%◌, List, Float};
 ghost use Rattle.floats.specs.Vector.{at, places};
 ghost use Rattle.jet.specs.Jets.{const_j, two_j, add_j, sub_j, neg_j, mul_j, scale_j, div_j, exp_with, exp_j, ln_with, ln_j};
 ghost use Rattle.jet.specs.Planes.{Holds, six, cell_of, spread, plane_pairs, plane_rows};
+
+use std::ops::{Add, Div, Mul, Neg, Sub};
 
 // A quantity with its derivatives by the temperature, 1/K and 1/K².
 #[derive(Clone, Copy)]
@@ -36,50 +38,6 @@ impl Jet {
         }
     }
 
-    #[tactic(auto, unfolding(crate::specs::Jets::add_j))]
-    pub fn add(self, o: Jet) -> Jet
-        ensures { result ≡ add_j self o }
-    {
-        Jet {
-            v: self.v + o.v,
-            d: self.d + o.d,
-            dd: self.dd + o.dd,
-        }
-    }
-
-    #[tactic(auto, unfolding(crate::specs::Jets::sub_j))]
-    pub fn sub(self, o: Jet) -> Jet
-        ensures { result ≡ sub_j self o }
-    {
-        Jet {
-            v: self.v - o.v,
-            d: self.d - o.d,
-            dd: self.dd - o.dd,
-        }
-    }
-
-    #[tactic(auto, unfolding(crate::specs::Jets::neg_j))]
-    pub fn neg(self) -> Jet
-        ensures { result ≡ neg_j self }
-    {
-        Jet {
-            v: -self.v,
-            d: -self.d,
-            dd: -self.dd,
-        }
-    }
-
-    #[tactic(auto, unfolding(crate::specs::Jets::mul_j))]
-    pub fn mul(self, o: Jet) -> Jet
-        ensures { result ≡ mul_j self o }
-    {
-        Jet {
-            v: self.v * o.v,
-            d: self.d * o.v + self.v * o.d,
-            dd: self.dd * o.v + 2.0 * self.d * o.d + self.v * o.dd,
-        }
-    }
-
     #[tactic(auto, unfolding(crate::specs::Jets::scale_j))]
     pub fn scale(self, x: f64) -> Jet
         ensures { result ≡ scale_j self x }
@@ -89,16 +47,6 @@ impl Jet {
             d: self.d * x,
             dd: self.dd * x,
         }
-    }
-
-    #[tactic(auto, unfolding(crate::specs::Jets::div_j))]
-    pub fn div(self, o: Jet) -> Jet
-        ensures { result ≡ div_j self o }
-    {
-        let q = self.v / o.v;
-        let d = (self.d - q * o.d) / o.v;
-        let dd = (self.dd - 2.0 * d * o.d - q * o.dd) / o.v;
-        Jet { v: q, d, dd }
     }
 
     // exp of self, where e is exp of its value.
@@ -138,6 +86,80 @@ impl Jet {
     }
 }
 
+impl Add for Jet {
+    type Output = Jet;
+
+    ghost add_gives = { λ a b r. r ≡ add_j a b };
+
+    #[tactic(auto, unfolding(crate::specs::Jets::add_j))]
+    fn add(self, o: Jet) -> Jet {
+        Jet {
+            v: self.v + o.v,
+            d: self.d + o.d,
+            dd: self.dd + o.dd,
+        }
+    }
+}
+
+impl Sub for Jet {
+    type Output = Jet;
+
+    ghost sub_gives = { λ a b r. r ≡ sub_j a b };
+
+    #[tactic(auto, unfolding(crate::specs::Jets::sub_j))]
+    fn sub(self, o: Jet) -> Jet {
+        Jet {
+            v: self.v - o.v,
+            d: self.d - o.d,
+            dd: self.dd - o.dd,
+        }
+    }
+}
+
+impl Mul for Jet {
+    type Output = Jet;
+
+    ghost mul_gives = { λ a b r. r ≡ mul_j a b };
+
+    #[tactic(auto, unfolding(crate::specs::Jets::mul_j))]
+    fn mul(self, o: Jet) -> Jet {
+        Jet {
+            v: self.v * o.v,
+            d: self.d * o.v + self.v * o.d,
+            dd: self.dd * o.v + 2.0 * self.d * o.d + self.v * o.dd,
+        }
+    }
+}
+
+impl Div for Jet {
+    type Output = Jet;
+
+    ghost div_gives = { λ a b r. r ≡ div_j a b };
+
+    #[tactic(auto, unfolding(crate::specs::Jets::div_j))]
+    fn div(self, o: Jet) -> Jet {
+        let q = self.v / o.v;
+        let d = (self.d - q * o.d) / o.v;
+        let dd = (self.dd - 2.0 * d * o.d - q * o.dd) / o.v;
+        Jet { v: q, d, dd }
+    }
+}
+
+impl Neg for Jet {
+    type Output = Jet;
+
+    ghost neg_gives = { λ a r. r ≡ neg_j a };
+
+    #[tactic(auto, unfolding(crate::specs::Jets::neg_j))]
+    fn neg(self) -> Jet {
+        Jet {
+            v: -self.v,
+            d: -self.d,
+            dd: -self.dd,
+        }
+    }
+}
+
 // ---- tables of ordered pairs
 
 // What a table keeps of each ordered pair, in M planes.
@@ -163,16 +185,12 @@ pub fn pair(parameters: &[f64; 384], i: usize, j: usize) -> [f64; 6]
     ensures { result ≡ six parameters.now (i % 8 * 8 + j % 8) }
 {
     let e = (i % 8 * 8 + j % 8) * 6;
-    [
-        parameters[e],
-        parameters[e + 1],
-        parameters[e + 2],
-        parameters[e + 3],
-        parameters[e + 4],
-        parameters[e + 5],
-    ]
+    std::array::from_fn(|k| parameters[e + k])
 }
 
+// Kept: by index, here and below: the cells of a pair lie 64 apart in a flat table, the caller's memory. i, j and e are a loop's
+// own; a type for them would be made at each turn.
+#[tactic(auto, unfolding(floats::specs::Fold::fold_to))]
 fn keep<const M: usize>(cells: [f64; M], e: usize, table: &mut [f64; 512])
     requires { (M ≤ 8) × (e < 64) }
     ensures { table.new ≡ spread (at cells.entry) e M table.old }
@@ -183,6 +201,7 @@ fn keep<const M: usize>(cells: [f64; M], e: usize, table: &mut [f64; 512])
 }
 
 // Row i up to the diagonal, and column i.
+#[tactic(auto, unfolding(floats::specs::Fold::fold_to))]
 fn fill_border<const M: usize, P: Pairs<M>>(
     pairs: &P,
     parameters: &[f64; 384],
@@ -200,6 +219,7 @@ fn fill_border<const M: usize, P: Pairs<M>>(
 }
 
 // All ordered pairs of n solvents; the table's other places stay as they are.
+#[tactic(auto, unfolding(floats::specs::Fold::fold_to))]
 pub fn fill_pairs<const M: usize, P: Pairs<M>>(
     pairs: &P,
     parameters: &[f64; 384],

@@ -13,8 +13,9 @@ use Rattle.floats.specs.Outcome.{Out, ok, need}
 use Rattle.floats.proofs.Folds.{sum-turn}
 use Rattle.numerics.specs.Numerics.{exp_of, ln_of}
 use Rattle.records.specs.declared.Ancillary.{Ancillary}
+use Rattle.liquid.specs.declared.Logarithm.{Logarithm}
 use Rattle.liquid.specs.declared.Sums.{Sums}
-use Rattle.liquid.specs.Vapor.{Vapor, vapor, term, slope_term, curvature_term, sums_of, vapor_from, vapor_of, representable}
+use Rattle.liquid.specs.Vapor.{Vapor, term, slope_term, curvature_term, sums_of, vapor_from, vapor_of, representable}
 
 abbrev pub sums : Float → Float → Float → Sums
 sums s ds d2s = record { s = s; ds = ds; d2s = d2s }
@@ -59,21 +60,19 @@ module _ (n e : List Float) (tr θ : Float) where
   terms_done k count p h = h ∙ ap (sums_of n e tr θ) p
 
 -- ln p and its derivatives, from the sums
-pub logarithm_is : (a : Ancillary) (t : Float) {m : ℕ} {S : Sums} {l d c : Float} → m ≡ places a.count → S ≡ sums_of a.n a.t a.t_r (1f ⊖ t ⊘ a.t_r) m
-    → (let v = vapor_from a.t_r a.reducing_value t S in (l ≡ v.ln_pressure) × (d ≡ v.d_ln_pressure_dt) × (c ≡ v.d2_ln_pressure_dt2))
-    → (l ≡ (vapor_of a t).ln_pressure) × (d ≡ (vapor_of a t).d_ln_pressure_dt) × (c ≡ (vapor_of a t).d2_ln_pressure_dt2)
+pub logarithm_is : (a : Ancillary) (t : Float) {m : ℕ} {S : Sums} {l : Logarithm} → m ≡ places a.count → S ≡ sums_of a.n a.t a.t_r (1f ⊖ t ⊘ a.t_r) m
+    → l ≡ (vapor_from a.t_r a.reducing_value t S).ln → l ≡ (vapor_of a t).ln
 unfolding vapor_of
 logarithm_is a t em es h = rw (← em, ← es) h
 
--- the four numbers of the answer, from the logarithm
-pub vapor_is : (a : Ancillary) (t : Float) {p l d c : Float} → p ≡ exp_of l
-    → (l ≡ (vapor_of a t).ln_pressure) × (d ≡ (vapor_of a t).d_ln_pressure_dt) × (c ≡ (vapor_of a t).d2_ln_pressure_dt2) → vapor_of a t ≡ vapor p l d c
+-- the answer, from the logarithm
+pub vapor_is : (a : Ancillary) (t : Float) {p : Float} {l : Logarithm} → p ≡ exp_of l.value → l ≡ (vapor_of a t).ln → vapor_of a t ≡ record { pressure = p; ln = l }
 unfolding vapor_of vapor_from
-vapor_is a t ep h = rw (ep, h.0, h.1, h.2)
+vapor_is a t ep h = rw (ep, h)
 
 -- ---- the tests of the four numbers
 abbrev pub sound_of : Vapor → Bool
-sound_of v = is_finite v.pressure && is_finite v.ln_pressure && is_finite v.d_ln_pressure_dt && is_finite v.d2_ln_pressure_dt2 && not (le v.pressure 0f)
+sound_of v = is_finite v.pressure && is_finite v.ln.value && is_finite v.ln.slope && is_finite v.ln.curvature && not (le v.pressure 0f)
 
 -- two needs with one number are one
 both_needed : {A : Type 0} (a b : Bool) (r : ℕ) (o : Out A) → need a r (need b r o) ≡ need (a && b) r o
@@ -83,4 +82,4 @@ both_needed false b r o = refl
 
 pub sound_is : (v : Vapor) → representable v ≡ need (sound_of v) 25 (ok v)
 unfolding representable
-sound_is v = both_needed (is_finite v.pressure && is_finite v.ln_pressure && is_finite v.d_ln_pressure_dt && is_finite v.d2_ln_pressure_dt2) (not (le v.pressure 0f)) 25 (ok v)
+sound_is v = both_needed (is_finite v.pressure && is_finite v.ln.value && is_finite v.ln.slope && is_finite v.ln.curvature) (not (le v.pressure 0f)) 25 (ok v)

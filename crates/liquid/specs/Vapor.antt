@@ -21,7 +21,7 @@ abbrev pub Vapor : Type 0
 Vapor = VaporPressure
 
 abbrev pub vapor : Float → Float → Float → Float → Vapor
-vapor p lnP d d2 = record { pressure = p; ln_pressure = lnP; d_ln_pressure_dt = d; d2_ln_pressure_dt2 = d2 }
+vapor p lnP d d2 = record { pressure = p; ln = record { value = lnP; slope = d; curvature = d2 } }
 
 -- the terms of S, and of its first and second derivative by T (dθ/dT = -1 / T_r), from n_k and t_k
 unfoldable pub term : Float → Float → Float → Float
@@ -57,7 +57,7 @@ vapor_of a t = vapor_from a.t_r a.reducing_value t (sums_of a.n a.t a.t_r (1f �
 -- all four finite and the pressure positive, else 25
 unfoldable pub representable : Vapor → Out Vapor
 representable v =
-    need (is_finite v.pressure && is_finite v.ln_pressure && is_finite v.d_ln_pressure_dt && is_finite v.d2_ln_pressure_dt2) 25
+    need (is_finite v.pressure && is_finite v.ln.value && is_finite v.ln.slope && is_finite v.ln.curvature) 25
     (need (not (le v.pressure 0f)) 25
     (ok v))
 

@@ -15,17 +15,7 @@ use outcome::Refusal;
 use records::Ancillary;
 use thermo_types::Temperature;
 
-// p in Pa, ln p, d ln p/dT in 1/K, d² ln p/dT² in 1/K².
-#[derive(Clone, Copy)]
-pub struct VaporPressure {
-    pub pressure: f64,
-    pub ln_pressure: f64,
-    pub d_ln_pressure_dt: f64,
-    pub d2_ln_pressure_dt2: f64,
-}
-
 // ln p, p in Pa, with its derivatives by T in 1/K and 1/K².
-// Kept: this and Sums have a Jet's three fields, but are public types, and the definitions in specs/ name their own.
 #[derive(Clone, Copy)]
 pub struct Logarithm {
     pub value: f64,
@@ -33,15 +23,23 @@ pub struct Logarithm {
     pub curvature: f64,
 }
 
+// p in Pa, beside its logarithm.
+#[derive(Clone, Copy)]
+pub struct VaporPressure {
+    pub pressure: f64,
+    pub ln: Logarithm,
+}
+
 // S = Σ n_k θ^t_k and its first two derivatives by T.
 #[derive(Clone, Copy)]
-pub struct Sums {
-    pub s: f64,
-    pub ds: f64,
-    pub d2s: f64,
+struct Sums {
+    s: f64,
+    ds: f64,
+    d2s: f64,
 }
 
 // In a closed range.
+#[tactic(auto, unfolding(crate::specs::Vapor::in_range))]
 pub fn in_range(low: f64, high: f64, t: f64) -> bool
     ensures { result ≡ in_range low high t }
 {
@@ -60,7 +58,8 @@ fn add_term(z: Sums, t_r: f64, n: f64, e: f64, p: f64, q: f64, r: f64) -> Sums
 }
 
 // Two terms to a step, so that their powers are worked out side by side; of an odd count not the last.
-// Kept: (n, e, t_r, theta, m) go through two functions alone, so a struct of them saves nothing.
+// Kept: `Ancillary` has four of the five, but its count is a `usize`: each of the two functions would make the Count again. Two
+// terms to a step, then the odd one, as in thermo_models and wilson, where other things are done with the two.
 fn sum_pairs(n: &[f64; 8], e: &[f64; 8], t_r: f64, theta: f64, l: f64, m: Count) -> Sums
     requires { l ≡ ln_of theta }
     ensures { result ≡ sums_of n.now e.now t_r theta (2 * (m.n / 2)) }
@@ -111,7 +110,7 @@ pub fn is_representable(pressure: f64, ln_p: f64, d1: f64, d2: f64) -> bool
 // ln p from S, and its two derivatives by T.
 #[tactic(auto, unfolding(crate::specs::Vapor::vapor_from))]
 fn from_sums(t_r: f64, reducing_value: f64, t: f64, sums: Sums) -> Logarithm
-    ensures { (result.value ≡ (vapor_from t_r reducing_value t sums).ln_pressure) × (result.slope ≡ (vapor_from t_r reducing_value t sums).d_ln_pressure_dt) × (result.curvature ≡ (vapor_from t_r reducing_value t sums).d2_ln_pressure_dt2) }
+    ensures { result ≡ (vapor_from t_r reducing_value t sums).ln }
 {
     let Sums { s, ds, d2s } = sums;
     let q = t_r / t;
@@ -126,7 +125,7 @@ fn from_sums(t_r: f64, reducing_value: f64, t: f64, sums: Sums) -> Logarithm
 
 // ln p at T, in the correlation's range or not: p is its exponential.
 pub fn ln_pressure(a: Ancillary, t: f64) -> Logarithm
-    ensures { (result.value ≡ (vapor_of a t).ln_pressure) × (result.slope ≡ (vapor_of a t).d_ln_pressure_dt) × (result.curvature ≡ (vapor_of a t).d2_ln_pressure_dt2) }
+    ensures { result ≡ (vapor_of a t).ln }
 {
     let theta = 1.0 - t / a.t_r;
     let sums = sum_terms(&a.n, &a.t, a.t_r, theta, Count::of(a.count));
@@ -142,15 +141,10 @@ pub fn vapor_pressure(a: Ancillary, t: Temperature) -> Result<VaporPressure, Ref
     if !in_range(a.low, a.high, v) {
         return Err(Refusal::TemperatureOutside);
     }
-    let l = ln_pressure(a, v);
-    let pressure = numerics::exp(l.value);
-    if !is_representable(pressure, l.value, l.slope, l.curvature) {
+    let ln = ln_pressure(a, v);
+    let pressure = numerics::exp(ln.value);
+    if !is_representable(pressure, ln.value, ln.slope, ln.curvature) {
         return Err(Refusal::ResultNotFinite);
     }
-    Ok(VaporPressure {
-        pressure,
-        ln_pressure: l.value,
-        d_ln_pressure_dt: l.slope,
-        d2_ln_pressure_dt2: l.curvature,
-    })
+    Ok(VaporPressure { pressure, ln })
 }

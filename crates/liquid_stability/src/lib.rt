@@ -15,6 +15,7 @@ ghost use Rattle.liquid_stability.specs.Steps.{amounts_of, TrialTurn};
 
 use floats::Count;
 use outcome::Refusal;
+use std::hint::select_unpredictable;
 use std::ops::ControlFlow;
 use thermo_models::Tabled;
 use thermo_types::ActivityOptions;
@@ -56,17 +57,10 @@ struct Measured {
 }
 
 // How many of the first n fractions are positive.
-#[tactic(auto, unfolding(crate::specs::Stability::present_count, floats::specs::Fold::fold_to))]
 pub fn present_count(x: &[f64; 8], n: usize) -> usize
     ensures { result ≡ present_count x.now (places n) }
 {
-    let mut count = 0;
-    for i in 0..floats::places(n) {
-        if 0.0 < x[i] {
-            count += 1;
-        }
-    }
-    count
+    x[..floats::places(n)].iter().filter(|v| 0.0 < **v).count()
 }
 
 // ln γ of x; its slopes aren't used here.
@@ -74,10 +68,8 @@ pub fn present_count(x: &[f64; 8], n: usize) -> usize
 fn ln_gamma(table: &[f64; 512], tabled: Tabled, x: &[f64; 8]) -> Result<[f64; 8], Refusal>
     ensures { outcome_of result ≡ bind (activity_on table.now tabled x.now) (λ a. ok a.ln_gamma) }
 {
-    let mut lg = [0.0; 8];
-    let mut sl = [0.0; 8];
-    thermo_models::activity(table, tabled, x, &mut lg, &mut sl)?;
-    Ok(lg)
+    let activity = thermo_models::activity(table, tabled, x)?;
+    Ok(activity.ln_gamma)
 }
 
 // An entry that no trial has filled.
@@ -107,20 +99,16 @@ pub fn no_trials() -> LiquidStability
 }
 
 // d_i = ln x_i + ln γ_i(x) of the solvents present.
-// Kept: a loop to the count, here and below: `array::from_fn` works out all eight.
-#[tactic(auto, unfolding(crate::specs::Stability::tangent, floats::specs::Vector::fill))]
 fn tangent(x: &[f64; 8], lg: &[f64; 8], m: Count) -> [f64; 8]
     ensures { result ≡ tangent x.now lg.now m.n }
 {
-    let mut d = [0.0; 8];
-    for i in 0..m.n {
-        d[i] = if x[i] > 0.0 {
+    std::array::from_fn(|i| {
+        if i < m.n && x[i] > 0.0 {
             numerics::ln(x[i]) + lg[i]
         } else {
             0.0
-        };
-    }
-    d
+        }
+    })
 }
 
 // At the start this is shared by the solvents that the trial isn't near.
@@ -147,59 +135,49 @@ struct Tested<'a> {
 
 impl<'a> Tested<'a> {
     // ln W at the start of the trial near solvent j.
-    #[tactic(auto, unfolding(crate::specs::Stability::start_from, floats::specs::Vector::fill))]
     fn start(self, j: usize) -> [f64; 8]
         ensures { result ≡ start_of self.entry.x.now self.entry.m.n j }
     {
         let near = numerics::ln(1.0 - START_REST);
         let far = numerics::ln(START_REST / self.others);
-        let mut ln_w = [0.0; 8];
-        for i in 0..self.m.n {
-            ln_w[i] = floats::pick(i == j, near, far);
-        }
-        ln_w
+        std::array::from_fn(|i| {
+            if i < self.m.n {
+                select_unpredictable(i == j, near, far)
+            } else {
+                0.0
+            }
+        })
     }
 
     // W_i = exp ln W_i of the solvents present.
-    #[tactic(auto, unfolding(crate::specs::Steps::amounts_of, floats::specs::Vector::fill))]
     fn amounts(self, ln_w: &[f64; 8]) -> [f64; 8]
         ensures { result ≡ amounts_of self.entry.x.now ln_w.now self.entry.m.n }
     {
         let all = numerics::exps(ln_w, self.m.n);
-        let mut big = [0.0; 8];
-        for i in 0..self.m.n {
-            big[i] = floats::pick(self.x[i] > 0.0, all[i], 0.0);
-        }
-        big
+        std::array::from_fn(|i| select_unpredictable(i < self.m.n && self.x[i] > 0.0, all[i], 0.0))
     }
 
-    // Kept: a loop, here and in measure: a fold's closure gives the sums back in an `else`, and is no plainer.
-    #[tactic(auto, unfolding(floats::specs::Fold::fold_to))]
     fn total(self, big: &[f64; 8]) -> f64
         ensures { result ≡ fold_to (active (at self.entry.x.now) (λ i s. s ⊕ at big.now i)) 0f self.entry.m.n }
     {
-        let mut s = 0.0;
-        for i in 0..self.m.n {
-            if self.x[i] > 0.0 {
-                s += big[i];
-            }
-        }
-        s
+        let present = (0..self.m.n).filter(|&i| self.x[i] > 0.0).map(|i| big[i]);
+        present.fold(0.0, |s, w| s + w)
     }
 
     // w_i = W_i / Σ W.
-    #[tactic(auto, unfolding(floats::specs::Vector::fill))]
     fn composition(self, big: &[f64; 8], s: f64) -> [f64; 8]
         ensures { let l = self.entry in result ≡ vec (λ i. cond (lt 0f (at l.x.now i)) (at big.now i ⊘ s) 0f) l.m.n }
     {
-        let mut w = [0.0; 8];
-        for i in 0..self.m.n {
-            w[i] = floats::pick(self.x[i] > 0.0, big[i] / s, 0.0);
-        }
-        w
+        std::array::from_fn(|i| select_unpredictable(
+            i < self.m.n && self.x[i] > 0.0,
+            big[i] / s,
+            0.0,
+        ))
     }
 
     // tm = 1 + Σ W_i (ln W_i + ln γ_i(w) - d_i - 1), with the two largest differences.
+    // Kept: a loop, which moves three numbers of a struct in place; a fold would hand on a tuple, and the struct be made of it.
+    #[tactic(auto, unfolding(crate::specs::Stability::distance_of, crate::specs::Stability::change_of, crate::specs::Stability::apart_of, floats::specs::Fold::fold_to))]
     fn measure(self, ln_w: &[f64; 8], big: &[f64; 8], lg: &[f64; 8], w: &[f64; 8]) -> Measured
         requires { big.now ≡ amounts_of self.x.now ln_w.now self.m.n }
         ensures { let l = self.entry in
@@ -224,15 +202,10 @@ impl<'a> Tested<'a> {
     }
 
     // ln W_i = d_i - ln γ_i(w).
-    #[tactic(auto, unfolding(crate::specs::Stability::next_of, floats::specs::Vector::fill))]
     fn next(self, lg: &[f64; 8]) -> [f64; 8]
         ensures { result ≡ next_of self.entry.d.now lg.now self.entry.m.n }
     {
-        let mut ln_w = [0.0; 8];
-        for i in 0..self.m.n {
-            ln_w[i] = self.d[i] - lg[i];
-        }
-        ln_w
+        std::array::from_fn(|i| { if i < self.m.n { self.d[i] - lg[i] } else { 0.0 } })
     }
 
     // One turn of the trial near solvent j: the trial where it ends here, else the next ln W. The activity of w is asked for once.
@@ -267,6 +240,7 @@ impl<'a> Tested<'a> {
     }
 
     // The trial near solvent j: 24, 25, and 27 at its limit.
+    #[tactic(auto, unfolding(floats::specs::Outcome::bind, crate::specs::Steps::after))]
     fn trial(self, j: usize) -> Result<LiquidStabilityTrial, Refusal>
         ensures { let l = self.entry in
             outcome_of result ≡ trial_from (activity_on l.table.now l.tabled) l.o.tm_threshold l.m.n l.x.now l.d.now j l.o.max_iterations 0 (start_of l.x.now l.m.n j) }
@@ -282,6 +256,7 @@ impl<'a> Tested<'a> {
     }
 
     // One trial near each solvent present. All of them run: a later trial's refusal stands before an unstable one's answer.
+    #[tactic(auto, unfolding(crate::specs::Stability::no_trials, crate::specs::Stability::trials_to, crate::specs::Stability::with_trial))]
     fn trials(self) -> Result<LiquidStability, Refusal>
         ensures { let l = self.entry in outcome_of result ≡ trials_to (activity_on l.table.now l.tabled) l.m.n l.o l.x.now l.d.now l.m.n }
     {

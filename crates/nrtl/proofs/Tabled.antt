@@ -18,7 +18,7 @@ use Rattle.jet.proofs.Sums.{sum_jet_cong}
 use Rattle.jet.proofs.Planes.{rows_at, jet_is, two_is, first-near, twos-near}
 use Rattle.jet.proofs.Near.{◌≃◌, two-near, scale-near, div-near, sub-near, mul-near, sum_near}
 use Rattle.nrtl_tables.specs.Pair.{tau_at, g_at, alphas_right}
-use Rattle.nrtl_tables.specs.Table.{g_plane, h_plane, tau_plane, kept_of, table_rows, table_of, table_verdict}
+use Rattle.nrtl_tables.specs.Table.{g_plane, h_plane, tau_plane, kept_of, table_rows, table_of, alphas_of}
 use Rattle.excess.specs.State.{state_from}
 use Rattle.excess.proofs.Ways.{state-near}
 use Rattle.nrtl.specs.Columns.{col_s, col_c, ratio, term_j, ln_from, gibbs_from, ln_gamma_j, reduced_j}
@@ -90,6 +90,6 @@ module _ (P : List Float) (n : ℕ) (t : Float) (old : List Float) (len : length
   inner false = refl
 
   -- the law: a table and a result of `tables` carry the parameters
-  pub nrtl_filled : nrtl_on (table_of P n t old) (table_verdict P n t) n t x ≡ nrtl_of P n t x
-  unfolding nrtl_on nrtl_of table_of table_verdict
+  pub nrtl_filled : nrtl_on (table_of P n t old) (alphas_of P n t) n t x ≡ nrtl_of P n t x
+  unfolding nrtl_on nrtl_of table_of alphas_of
   nrtl_filled = rw (inner (alphas_right P t n))

@@ -28,7 +28,9 @@ use thermo_types::Temperature;
 // ---- lanes: Jets of the solvents side by side, entry i of plane k at k * 8 + i
 
 // Value and slope of the solvent i.
-// Kept: i < 8 and the like are facts of a loop's own index; a type for an index would have to be made at each turn.
+// Kept: flat planes of eight, in which the lanes of W solvents are neighbors. i < 8 and the like are facts of a loop's own index;
+// a type for an index would have to be made at each turn. Two functions for two and three planes, here and below: with a const
+// parameter for their count each contract is both of these, by cases.
 fn keep_two(j: Jet, i: usize, l: &mut [f64; 24])
     requires { i < 8 }
     ensures { l.new ≡ lane j i 2 l.old }
@@ -67,7 +69,8 @@ fn jet_in(l: &[f64; 24], i: usize) -> Jet
 
 // ---- the table and the composition
 
-// Kept: wilson has a jet_at, a two_at, a keep_lns and a Liquid too. One pub fn for both has no `requires`, and would mask each index of these loops; b is a plane's begin, a constant.
+// Kept: wilson has a jet_at, a two_at and a keep_lns too. One pub fn for both has no `requires`, and would mask each index of
+// these loops; b is a plane's begin, a constant. `Liquid` and `Summed` are there too: their methods are each model's own.
 #[tactic(auto, unfolding(jet::specs::Planes::jet_at))]
 fn jet_at(table: &[f64; 512], b: usize, e: usize) -> Jet
     requires { (b ≤ 320) × (e < 64) }
@@ -105,6 +108,8 @@ impl Liquid<'_> {
     }
 
     // The sums of W columns from i on.
+    // Kept: `for`s over the lanes, here and below: each turn adds to the W entries of one array, and `from_fn` would make it anew.
+    #[tactic(auto, unfolding(crate::specs::Columns::col_s, floats::specs::Fold::fold_to))]
     fn columns<const W: usize>(self, b: usize, i: usize) -> [Jet; W]
         requires { (b ≤ 320) × (i + W ≤ 8) }
         ensures { let q = self.entry in Side (col_s (jets q.table.now b) (at q.x.now) q.m.n) i W result }
@@ -112,13 +117,14 @@ impl Liquid<'_> {
         let mut s = [Jet::constant(0.0); W];
         for k in 0..self.m.n {
             for w in 0..W {
-                s[w] = s[w].add(self.part(b, k, i + w));
+                s[w] = s[w] + self.part(b, k, i + w);
             }
         }
         s
     }
 
     // S and R = C / S of W solvents from i on.
+    #[tactic(auto, unfolding(floats::specs::Fold::fold_to))]
     fn sums_from<const W: usize>(self, i: usize, sums: &mut [f64; 24], ratios: &mut [f64; 24])
         requires { i + W ≤ 8 }
         ensures s { let q = self.entry in sums.new ≡ lanes_from (s_on q.table.now (at q.x.now) q.m.n) 2 i W sums.old }
@@ -128,7 +134,7 @@ impl Liquid<'_> {
         let c = self.columns::<W>(H_PLANE, i);
         for w in 0..W {
             keep_two(s[w], i + w, sums);
-            keep_jet(c[w].div(s[w]), i + w, ratios);
+            keep_jet(c[w] / s[w], i + w, ratios);
         }
     }
 
@@ -136,7 +142,8 @@ impl Liquid<'_> {
         ensures s { let q = self.entry in sums.new ≡ lanes (s_on q.table.now (at q.x.now) q.m.n) 2 (evened q.m.n) sums.old }
         ensures r { let q = self.entry in ratios.new ≡ lanes (r_on q.table.now (at q.x.now) q.m.n) 3 (evened q.m.n) ratios.old }
     {
-        // Kept: as a `for` over the fours an activity of four solvents takes 1 to 3 % longer, and with the choice in its body one of two a fifth.
+        // Kept: as a `for` over the fours an activity of four solvents takes 1 to 3 % longer, and with the choice in its body
+        // one of two a fifth.
         let mut i = 0;
         while i + 2 < self.m.n {
             self.sums_from::<4>(i, sums, ratios);
@@ -148,7 +155,8 @@ impl Liquid<'_> {
     }
 
     // ln γ, slopes and energies of the liquid, into arrays that hold 0.0 everywhere.
-    // Kept: ln_gamma and slopes go side by side, as excess's functions take them; a struct of two `&mut` would be taken apart for each.
+    // Kept: the arrays are the caller's, as in crate excess, which has the figures: by value an activity of two solvents takes
+    // 77 ns for 47.
     fn state(
         self,
         t: Temperature,
@@ -183,12 +191,13 @@ struct Summed<'a> {
 
 impl Summed<'_> {
     // g^E/RT
+    #[tactic(auto, unfolding(crate::specs::Columns::gibbs_from, floats::specs::Fold::fold_to))]
     fn reduced(self) -> Jet
         ensures { let q = self.entry in result ≡ gibbs_from (jet_in q.ratios.now) (at q.of.x.now) q.of.m.n }
     {
         let mut e = Jet::constant(0.0);
         for i in 0..self.of.m.n {
-            e = e.add(jet_in(self.ratios, i).scale(self.of.x[i]));
+            e = e + jet_in(self.ratios, i).scale(self.of.x[i]);
         }
         e
     }
@@ -200,14 +209,13 @@ impl Summed<'_> {
         ensures { let q = self.entry in result ≡ term_j (twos q.of.table.now tau_plane i j) (twos q.of.table.now g_plane i j) (two_in q.sums.now j) (two_in q.ratios.now j) (at q.of.x.now j) }
     {
         let e = i * 8 + j;
+        let g = two_at(self.of.table, G_PLANE, e);
         let tau = two_at(self.of.table, TAU_PLANE, e);
-        two_at(self.of.table, G_PLANE, e)
-            .scale(self.of.x[j])
-            .div(two_in(self.sums, j))
-            .mul(tau.sub(two_in(self.ratios, j)))
+        g.scale(self.of.x[j]) / two_in(self.sums, j) * (tau - two_in(self.ratios, j))
     }
 
     // ln γ of W solvents from i on.
+    #[tactic(auto, unfolding(crate::specs::Columns::ln_from, floats::specs::Fold::fold_to))]
     fn lns_from<const W: usize>(self, i: usize) -> [Jet; W]
         requires { i + W ≤ 8 }
         ensures { let q = self.entry in Side (ln_in q.of.table.now q.sums.now q.ratios.now (at q.of.x.now) q.of.m.n) i W result }
@@ -218,12 +226,13 @@ impl Summed<'_> {
         }
         for j in 0..self.of.m.n {
             for w in 0..W {
-                l[w] = l[w].add(self.term(i + w, j));
+                l[w] = l[w] + self.term(i + w, j);
             }
         }
         l
     }
 
+    #[tactic(auto, unfolding(floats::specs::Vector::fill))]
     fn fill_lns(self, ln_gamma: &mut [f64; 8], slopes: &mut [f64; 8])
         ensures { let q = self.entry in GammasTo (ln_in q.of.table.now q.sums.now q.ratios.now (at q.of.x.now) q.of.m.n) (evened q.of.m.n) ln_gamma.old slopes.old ln_gamma.new slopes.new }
     {
@@ -242,6 +251,7 @@ impl Summed<'_> {
 }
 
 // One array after the other: that way neighbors of one are one store.
+#[tactic(auto, unfolding(floats::specs::Vector::fill_from))]
 fn keep_lns<const W: usize>(l: [Jet; W], i: usize, ln_gamma: &mut [f64; 8], slopes: &mut [f64; 8])
     requires { i + W ≤ 8 }
     ensures values { ln_gamma.new ≡ fill_from (λ w. (jet_of l.entry w).v) i W ln_gamma.old }

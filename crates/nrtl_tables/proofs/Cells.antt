@@ -16,7 +16,7 @@ use Rattle.jet.specs.Planes.{six, cell_of, plane_rows}
 use Rattle.jet.proofs.Planes.{rows_cong}
 use Rattle.nrtl_tables.specs.declared.Basis.{Basis}
 use Rattle.nrtl_tables.specs.Pair.{basis_of, tau_j, alpha_j, exponent_j, tau_ij, g_ij, all_right}
-use Rattle.nrtl_tables.specs.Table.{kept_of, table_of, table_verdict, Filled}
+use Rattle.nrtl_tables.specs.Table.{kept_of, table_of, alphas_of, Filled}
 
 T-true : {b : Bool} → b ≡ true → T b
 T-true e = rw e tt
@@ -67,9 +67,9 @@ cell_is P b i j k = go (eqb i j) refl
 
 module _ (P : List Float) (n : ℕ) (t : Float) (old : List Float) {b : Basis} (e : b ≡ basis_of t) where
   pub filled-no : false ≡ all_right P b n → Filled P n t (Err AlphaNotPositive) old old
-  unfolding table_verdict table_of
-  filled-no q = record { verdict = rw (← e, ← q); table = rw (← e, ← q) }
+  unfolding alphas_of table_of
+  filled-no q = record { alphas = rw (← e, ← q); table = rw (← e, ← q) }
 
   pub filled_yes : {new : List Float} → true ≡ all_right P b n → new ≡ plane_rows (cell_of (cells b) own_cells P) 8 n n old → Filled P n t (Ok tt) old new
-  unfolding table_verdict table_of
-  filled_yes q p = record { verdict = rw (← e, ← q); table = rw (← e, ← q) (p ∙ rows_cong 8 n n old (cell_is P b)) }
+  unfolding alphas_of table_of
+  filled_yes q p = record { alphas = rw (← e, ← q); table = rw (← e, ← q) (p ∙ rows_cong 8 n n old (cell_is P b)) }

@@ -31,10 +31,10 @@ unfoldable pub table_of : List Float → ℕ → Float → List Float → List F
 table_of P n t old = cond (alphas_right P t n) (table_rows (tau_at P t) (g_at P t) n n old) old
 
 -- question 24 as a result
-unfoldable pub table_verdict : List Float → ℕ → Float → Result (Unit {0}) Refusal
-table_verdict P n t = cond (alphas_right P t n) (Ok tt) (Err AlphaNotPositive)
+unfoldable pub alphas_of : List Float → ℕ → Float → Result (Unit {0}) Refusal
+alphas_of P n t = cond (alphas_right P t n) (Ok tt) (Err AlphaNotPositive)
 
 -- what a call of `tables` gives
 pub record Filled (P : List Float) (n : ℕ) (t : Float) (r : Result (Unit {0}) Refusal) (old new : List Float) : Type 0 where
-  pub verdict : r ≡ table_verdict P n t
+  pub alphas : r ≡ alphas_of P n t
   pub table : new ≡ table_of P n t old

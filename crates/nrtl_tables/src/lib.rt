@@ -58,17 +58,14 @@ fn basis_at(t: f64) -> Basis
 fn tau_of(p: [f64; 6], b: Basis) -> Jet
     ensures { result ≡ tau_j p b 0 }
 {
-    Jet::constant(p[0])
-        .add(b.inv.scale(p[1]))
-        .add(b.lnt.scale(p[2]))
-        .add(b.tj.scale(p[3]))
+    Jet::constant(p[0]) + b.inv.scale(p[1]) + b.lnt.scale(p[2]) + b.tj.scale(p[3])
 }
 
 #[tactic(auto, unfolding(crate::specs::Pair::alpha_j))]
 fn alpha_of(p: [f64; 6], b: Basis) -> Jet
     ensures { result ≡ alpha_j p b 0 }
 {
-    Jet::constant(p[4]).add(b.tj.scale(p[5]))
+    Jet::constant(p[4]) + b.tj.scale(p[5])
 }
 
 // −α τ.
@@ -76,7 +73,7 @@ fn alpha_of(p: [f64; 6], b: Basis) -> Jet
 fn exponent(p: [f64; 6], b: Basis) -> Jet
     ensures { result ≡ exponent_j p b 0 }
 {
-    alpha_of(p, b).mul(tau_of(p, b)).neg()
+    -(alpha_of(p, b) * tau_of(p, b))
 }
 
 // The eight planes' cells.
@@ -84,7 +81,7 @@ fn exponent(p: [f64; 6], b: Basis) -> Jet
 fn kept(tau: Jet, g: Jet) -> [f64; 8]
     ensures { (k : ℕ) → at result k ≡ kept_of tau g k }
 {
-    let h = tau.mul(g);
+    let h = tau * g;
     [g.v, g.d, g.dd, h.v, h.d, h.dd, tau.v, tau.d]
 }
 

@@ -12,6 +12,7 @@ ghost use Rattle.numerics.specs.declared.Near.{Near};
 ghost use Rattle.numerics.specs.Numerics.{ln_of, ln_from, ln_split, mantissa, exponent, exp_of, exp_from, exp_shift, powf_of, pow2, whole};
 
 use std::f64::consts::{LOG2_E as C, SQRT_2};
+use std::hint::select_unpredictable;
 
 // ln 2, in two parts: A has few digits, so that a small whole number times A is exact.
 const A: f64 = 0.6931471803691238;
@@ -20,6 +21,18 @@ const B: f64 = 1.9082149292705877e-10;
 
 // One in the field of a float's exponent.
 const FIELD: u64 = 1 << 52;
+
+// The bits of 1.0, of 0.5 and of 2^52.
+const ONE: u64 = 1023 * FIELD;
+
+const HALF: u64 = 1022 * FIELD;
+
+const WHOLE: u64 = 1075 * FIELD;
+
+// 2^52 + 1023, and 1.5 * 2^52 + 1023.
+const WHOLE_BIASED: f64 = 4503599627371519.0;
+
+const ROUNDING: f64 = 6755399441056767.0;
 
 // 2 ^ a, made of its exponent's field.
 fn power(a: i64) -> f64
@@ -30,6 +43,7 @@ fn power(a: i64) -> f64
 }
 
 // C * v plus 0.5, or minus, if v < 0.
+#[tactic(auto, unfolding(crate::specs::Numerics::exp_shift))]
 fn exp_shift(v: f64) -> f64
     ensures { result ≡ exp_shift v }
 {
@@ -80,7 +94,7 @@ fn count(u: u64) -> f64
     requires { u < 2048 }
     ensures { result ≡ whole (minus u 1023) }
 {
-    f64::from_bits(u + 4841369599423283200) - 4503599627371519.0
+    f64::from_bits(u + WHOLE) - WHOLE_BIASED
 }
 
 // A value, and whether it is the definition's: for exp, where v is near 0 and the whole number next to C * v is its k.
@@ -96,9 +110,9 @@ fn exp_near(v: f64) -> Near
     ensures { IsTrue result.ok → result.y ≡ exp_of v }
 {
     let near = (-700.0 <= v) & (v <= 700.0);
-    let w = floats::pick(near, v, 0.0);
+    let w = select_unpredictable(near, v, 0.0);
     let p = C * w;
-    let u = (p + 6755399441056767.0).to_bits() % 2048;
+    let u = (p + ROUNDING).to_bits() % 2048;
     let f = count(u);
     let d = p - f;
     Near {
@@ -142,10 +156,11 @@ fn side_by_side<N: Fn(f64) -> Near, S: Fn(f64) -> f64>(
 pub fn exp_two(a: f64, b: f64) -> (f64, f64)
     ensures { (result.0 ≡ exp_of a) × (result.1 ≡ exp_of b) }
 {
-    side_by_side(|v| exp_near(v), |v| exp_far(v), a, b)
+    side_by_side(exp_near, exp_far, a, b)
 }
 
 // exp of the first n entries, two at a time. Nothing is said of the entries past n.
+#[tactic(auto, unfolding(floats::specs::Vector::fill))]
 pub fn exps(v: &[f64; 8], n: usize) -> [f64; 8]
     ensures { (k : ℕ) → k < places n → at result k ≡ exp_of (at v.now k) }
 {
@@ -164,6 +179,7 @@ fn shift_up(digits: u64) -> u32
     digits.leading_zeros() - 11
 }
 
+#[tactic(auto, unfolding(crate::specs::Numerics::ln_from))]
 fn ln_from(k: f64, m: f64) -> f64
     ensures { result ≡ ln_from k m }
 {
@@ -181,6 +197,7 @@ fn ln_from(k: f64, m: f64) -> f64
     k * A - ((h - (s * (h + l) + k * B)) - f)
 }
 
+#[tactic(auto, unfolding(crate::specs::Numerics::ln_split))]
 fn ln_split(k: i64, m: f64) -> f64
     requires { mag k < 1999 }
     ensures { result ≡ ln_split k m }
@@ -198,9 +215,12 @@ fn ln_fields(field: u64, digits: u64) -> f64
     requires { (field < 2047) × (digits < 4503599627370496) }
     ensures { result ≡ ln_split (minus field 1023) (from_bits binary64 (digits + 4607182418800017408)) }
 {
-    let m = f64::from_bits(digits + 4607182418800017408);
+    let m = f64::from_bits(digits + ONE);
     let up = m > SQRT_2;
-    ln_from(count(field + u64::from(up)), floats::pick(up, m * 0.5, m))
+    ln_from(
+        count(field + u64::from(up)),
+        select_unpredictable(up, m * 0.5, m),
+    )
 }
 
 // ln of a float below the smallest normal one, which is `digits` times 2^-1074.
@@ -209,10 +229,7 @@ fn ln_subnormal(digits: u64, v: f64) -> f64
     ensures { result ≡ ln_split (exponent v) (mantissa v) }
 {
     let j = shift_up(digits);
-    ln_split(
-        -((j + 1022) as i64),
-        f64::from_bits((digits << j) + 4602678819172646912),
-    )
+    ln_split(-((j + 1022) as i64), f64::from_bits((digits << j) + HALF))
 }
 
 fn ln_positive(v: f64) -> f64
@@ -229,6 +246,7 @@ fn ln_positive(v: f64) -> f64
     }
 }
 
+#[tactic(auto, unfolding(crate::specs::Numerics::ln_of))]
 pub fn ln(v: f64) -> f64
     ensures { result ≡ ln_of v }
 {
@@ -250,7 +268,7 @@ fn ln_near(v: f64) -> Near
     ensures { IsTrue result.ok → result.y ≡ ln_of v }
 {
     let above = (0.0 < v) & (v < f64::INFINITY);
-    let bits = floats::pick(above, v, 1.0).to_bits();
+    let bits = select_unpredictable(above, v, 1.0).to_bits();
     let field = bits / FIELD;
     Near {
         y: ln_fields(field, bits % FIELD),
@@ -262,7 +280,7 @@ fn ln_near(v: f64) -> Near
 pub fn ln_two(a: f64, b: f64) -> (f64, f64)
     ensures { (result.0 ≡ ln_of a) × (result.1 ≡ ln_of b) }
 {
-    side_by_side(|v| ln_near(v), |v| ln(v), a, b)
+    side_by_side(ln_near, ln, a, b)
 }
 
 // b to the power e, for b > 0.

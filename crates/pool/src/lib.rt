@@ -26,7 +26,8 @@ fn added(a: u64, b: u64) -> u64
 }
 
 // 31
-// Kept: `batch::feeds_right` has this body for another question; one line each, and no plainer as a `pub fn` with edits.
+// Kept: `batch::feeds_right` has this body for another question. Shared it is a public function more, with a definition beside
+// the two that 31 and 33 go by; and 65 drums, or a drum cut short, could no longer be wrong without the feeds.
 #[tactic(auto, unfolding(crate::specs::Pool::drums_right))]
 fn drums_right(drums: &[u8]) -> bool
     ensures { result ≡ drums_right drums.now }
@@ -35,7 +36,7 @@ fn drums_right(drums: &[u8]) -> bool
 }
 
 // The sum over the drums of their counts of solvent i.
-// Kept: `i < 8` is the index of a row of eight.
+// Kept: `i < 8` is a closure's own index; a type for it would be made at each turn.
 fn pool_count(drums: &[u8], i: usize) -> u64
     requires { i < 8 }
     ensures { result ≡ min (pool_count drums.now i) (2 ^ 53 + 1) }
@@ -44,15 +45,10 @@ fn pool_count(drums: &[u8], i: usize) -> u64
 }
 
 // Of the solvents that count, 0 past them.
-// Kept: a loop to n, here and in `amounts`: `from_fn` would go over all eight.
 fn pool_counts(drums: &[u8], m: Count) -> [u64; 8]
     ensures { result ≡ fill (λ i. min (pool_count drums.now i) (2 ^ 53 + 1)) m.n (replicate 8 0) }
 {
-    let mut counts = [0; 8];
-    for i in 0..m.n {
-        counts[i] = pool_count(drums, i);
-    }
-    counts
+    std::array::from_fn(|i| if i < m.n { pool_count(drums, i) } else { 0 })
 }
 
 // 32
@@ -68,11 +64,7 @@ fn amounts(counts: &[u64; 8], m: Count) -> [f64; 8]
     requires { (i : ℕ) → i < m.n → word_at counts.now i ≤ 2 ^ 53 }
     ensures { result ≡ vec (λ i. amount (word_at counts.now i)) m.n }
 {
-    let mut x = [0.0; 8];
-    for i in 0..m.n {
-        x[i] = counts[i] as f64;
-    }
-    x
+    std::array::from_fn(|i| if i < m.n { counts[i] as f64 } else { 0.0 })
 }
 
 // The mole fractions of a pool.
@@ -89,9 +81,9 @@ pub fn answer(book: &[u8], question: &[u8], drums: &[u8], out: &mut [u8]) -> Res
     ensures { Answers (pooled_of book.now question.now drums.now (length out.old)) (number_in result) out.old out.new }
 {
     let n = book::open_book(book)?.n;
-    if out.len() < ANSWER_ROOM {
+    let Some(room) = out.first_chunk_mut::<ANSWER_ROOM>() else {
         return Err(Refusal::AnswerShort);
-    }
+    };
     read_task(book::rule_of(book), question)?;
     if !drums_right(drums) {
         return Err(Refusal::DrumsLength);
@@ -106,5 +98,5 @@ pub fn answer(book: &[u8], question: &[u8], drums: &[u8], out: &mut [u8]) -> Res
     }
     let x = pool_feed(&counts, m)?;
     let q = read_rest(question, book, n, &x)?;
-    sheet::answer_asked(book, n, q, out)
+    sheet::answer_asked(book, n, q, room)
 }

@@ -19,9 +19,9 @@ pub fn answer(book: &[u8], offered: &[u8], question: &[u8], out: &mut [u8]) -> R
     let head = book::open_book(book)?;
     let rule = book::rule_of(book);
     book::open_offered(rule, head, offered)?;
-    if out.len() < ANSWER_ROOM {
+    let Some(room) = out.first_chunk_mut::<ANSWER_ROOM>() else {
         return Err(Refusal::AnswerShort);
-    }
+    };
     let q = read_question(rule, question, head.version, book, head.n)?;
-    sheet::answer_offered(book, offered, head.n, q, out)
+    sheet::answer_offered(book, offered, head.n, q, room)
 }

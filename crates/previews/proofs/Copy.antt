@@ -1,11 +1,11 @@
 -- A preview is the call on the copy of the book that holds the offered block: the copy's questions are the offered block's, then both calculate alike.
 -- Assumes nothing.
+use Rattle.std.specs.Prelude.{Some}
 use Prim.Native.Nat.{ℕ, ◌+◌, ◌-◌, ◌*◌, ◌/◌, ◌%◌, ◌≤◌, ◌<◌}
 use mathlib.Core.Path.{◌≡◌, refl, sym, ap, ◌∙◌, subst}
-use mathlib.Core.Logic.{◌≢◌, inl, inr}
+use mathlib.Core.Logic.{◌≢◌}
 use mathlib.Core.Bool.{Bool, true, not, ◌&&◌}
 use mathlib.Core.List.{List}
-use native.Mathlib.Nat.{eq-zero-or-pos}
 use native.Mathlib.Omega.{arith}
 use borrow.Author.Tests.{eq-eqb, ne_eqb, lt-ltb, le-leb, eqb-true, ltb-true}
 use lib.Dec.{eqb, ltb, leb}
@@ -103,24 +103,20 @@ module _ (book offered : List ℕ) (o : Offer book offered) where
   unfolding with_pair
   with-copy = rw offers-it
 
-  placed : offered_place n book offered ≡ place
+  placed : offered_place n book offered ≡ Some place
   unfolding offered_place
   placed = rw offers-it
 
   -- its blocks
   pub copy-here : words copy place ≡ word offered
   copy-here =
-      let above = place-above n (word offered 1) (word offered 2) in
-      let e : block copy place ≡ pair_at book offered place place = rw placed at (copy-block n book offered place (omega arith)) in
+      let e : block copy place ≡ pair_at book offered (Some place) place = rw placed at (copy-block n book offered place) in
       ap word (e ∙ rw (eq-eqb place place refl))
 
   pub copy_else : (k : ℕ) → k ≢ place → words copy k ≡ words book k
-  copy_else k d = elim (eq-zero-or-pos k) [
-    | inl z ↦ rw z (copy-words n book offered 0 (omega arith))
-    | inr l ↦
-        let e : block copy k ≡ pair_at book offered place k = rw placed at (copy-block n book offered k l) in
-        ap word (e ∙ rw (ne_eqb k place d))
-  ]
+  copy_else k d =
+      let e : block copy k ≡ pair_at book offered (Some place) k = rw placed at (copy-block n book offered k) in
+      ap word (e ∙ rw (ne_eqb k place d))
 
   copy-solvent : (i : ℕ) → i < n → words copy (i + 1) ≡ words book (i + 1)
   copy-solvent i l = copy-words n book offered (i + 1) (omega arith)

@@ -15,11 +15,12 @@ ghost use Rattle.question.specs.Inputs.{is_task, task_number, task_found, needs_
 ghost use Rattle.question.specs.Asked.{task_in, kind_right, feed_of, temperature_right, pressure_right, inputs_finite, ratios_positive, inputs_right, tolerance_right, options_right, limited, limits_some, limits_few, limits_right, moles_of, options_in, question_from, rest_of, question_of};
 
 use blocks::{Rule, word};
+use book::float_at;
 use outcome::Refusal;
 use thermo_types::ActivityOptions;
 
 // What is asked, by the number in word 1.
-#[derive(Clone, Copy, PartialEq, Eq)]
+#[derive(Clone, Copy)]
 pub enum Task {
     Activity = 1,
     BubblePressure,
@@ -105,24 +106,18 @@ fn needs_ratios(task: u64) -> bool
     matches!(task, 8..=9)
 }
 
-// Kept: as in records; one line each; shared it is longer, and no plainer.
-fn float_at(q: &[u8], k: usize) -> f64
-    ensures { result ≡ float (word q.now) k }
-{
-    floats::float_of(word(q, k))
-}
-
 // The first n floats from word `from` on, 0.0 past them.
-// Kept: a loop to n, here and in `over_masses`: `from_fn` would go over all eight.
 pub fn floats_from(q: &[u8], from: usize, n: usize) -> [f64; 8]
     ensures { result ≡ vec (λ i. float (word q.now) (from + i)) (places n) }
 {
     let m = floats::places(n);
-    let mut x = [0.0; 8];
-    for i in 0..m {
-        x[i] = float_at(q, from.saturating_add(i));
-    }
-    x
+    std::array::from_fn(|i| {
+        if i < m {
+            float_at(q, from.saturating_add(i))
+        } else {
+            0.0
+        }
+    })
 }
 
 // 13
@@ -248,11 +243,13 @@ fn over_masses(book: &[u8], n: usize, x: &[f64; 8]) -> [f64; 8]
     ensures { result ≡ vec (λ i. at x.now i ⊘ molar_mass (words book.now) i) (places n) }
 {
     let m = floats::places(n);
-    let mut moles = [0.0; 8];
-    for i in 0..m {
-        moles[i] = x[i] / float_at(blocks::block(book, i + 1), 45);
-    }
-    moles
+    std::array::from_fn(|i| {
+        if i < m {
+            x[i] / float_at(blocks::block(book, i + 1), 45)
+        } else {
+            0.0
+        }
+    })
 }
 
 // The mole fractions of a feed by word 27.

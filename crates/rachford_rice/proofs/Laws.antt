@@ -1,11 +1,13 @@
 -- The sums over the feed, the tests of `validate` in a row, and the turns of the iteration. Assumes nothing.
 use Prim.Native.Nat.{ℕ, suc, ◌+◌, ◌-◌, ◌<◌, ◌≤◌}
-use mathlib.Core.Path.{◌≡◌, refl, ◌∙◌, ap}
+use mathlib.Core.Path.{◌≡◌, refl, sym, ◌∙◌, ap}
 use mathlib.Core.Bool.{Bool, true, false, cond}
 use mathlib.Core.List.{List}
 use native.Mathlib.Numerals.{add-one}
 use native.Mathlib.Omega.{arith}
-use lib.Ieee.{Float, neg, lt, eq}
+use lib.Ieee.{Float, neg, lt}
+use Rattle.std.specs.declared.ops.ControlFlow.{ControlFlow}
+use Rattle.std.specs.declared.ops.ControlFlow.TheVariants.{Break, Continue}
 use Rattle.floats.specs.Arithmetic.{◌⊕◌, ◌⊖◌, ◌⊗◌, ◌⊘◌, 0f, 1f}
 use Rattle.floats.specs.Small.{is_finite, abs_of}
 use Rattle.floats.specs.Fold.{fold_to, active}
@@ -16,10 +18,10 @@ use Rattle.floats.proofs.Fills.{vec-at}
 use Rattle.floats.proofs.Outcomes.{need_then}
 use Rattle.thermo_types.specs.Composition.{shares_of}
 use Rattle.thermo_types.proofs.Normalizing.{shares_cong}
+use Rattle.rachford_rice.specs.declared.Bracket.{Bracket}
 use Rattle.rachford_rice.specs.declared.RachfordRice.{RachfordRice}
 use Rattle.rachford_rice.specs.declared.RachfordRiceOutcome.TheVariants.{TwoPhase}
-use Rattle.rachford_rice.specs.declared.Turn.{Turn}
-use Rattle.rachford_rice.specs.Rachford.{over, Solution, turn_of, residual_of, slope_of, validate, liquid_part, vapor_part, solution_at, iterate, two_phase}
+use Rattle.rachford_rice.specs.Rachford.{over, Solution, turn_of, goes, residual_of, slope_of, validate, liquid_part, vapor_part, solution_at, iterate, two_phase}
 
 -- ---- g(β) and the sum that g'(β) negates, added up side by side
 cond_map : {A B : Type 0} (f : A → B) (b : Bool) (x y : A) → f (cond b x y) ≡ cond b (f x) (f y)
@@ -83,12 +85,25 @@ module _ (z k : ℕ → Float) (n limit done : ℕ) (lo hi β : Float) {W : Out 
     unfolding iterate need bind
     loop_stops h = rw (← left, ← pg, ← pf, h)
 
-    module _ (h : f ≡ true) {d : Float} (pd : d ≡ slope_of z k n β) {t : Turn} (pt : t ≡ turn_of g d lo hi β) where
-      pub loop_last : t.last ≡ true → {b : Float} → b ≡ cond (eq g 0f) β t.next → {r : RachfordRice} → r ≡ two_phase (solution_at z k n b (done + 1))
-          → ok r ≡ bind W (λ s. ok (two_phase s))
-      unfolding iterate need choose bind
-      loop_last q {b} pb {r} e = rw (← left, ← pg, ← pf, h, ← pd, ← pt, q, ← pb, ← add-one, e)
+    module _ (h : f ≡ true) {d : Float} (pd : d ≡ slope_of z k n β) where
+      -- the rest of the run, as the turn says
+      abbrev rest : ControlFlow Float Bracket → Out Solution
+      rest (Break root) = ok (solution_at z k n root (done + 1))
+      rest (Continue b) = iterate z k n (limit - (done + 1)) (done + 1) b.lo b.hi b.beta
 
-      pub loop_more : t.last ≡ false → iterate z k n (limit - (done + 1)) (done + 1) t.lo t.hi t.next ≡ W
-      unfolding iterate need choose
-      loop_more q = rw (← pg, ← pf, h, ← pd, ← pt, q, ← add-one done) at left
+      by_last : (last : Bool) (root : Float) (b : Bracket) → choose last (rest (Break root)) (rest (Continue b)) ≡ rest (cond last (Break root) (Continue b))
+      unfolding choose
+      by_last true root b = refl
+      by_last false root b = refl
+
+      after : {c : ControlFlow Float Bracket} → c ≡ goes g β (turn_of g d lo hi β) → rest c ≡ W
+      unfolding iterate need goes
+      after e = rw e (sym (by_last _ _ _) ∙ (rw (← pg, ← pf, h, ← pd, ← add-one done) at left))
+
+      module _ {c : ControlFlow Float Bracket} (pc : c ≡ goes g β (turn_of g d lo hi β)) where
+        pub loop_last : {root : Float} → c ≡ Break root → {r : RachfordRice} → r ≡ two_phase (solution_at z k n root (done + 1)) → ok r ≡ bind W (λ s. ok (two_phase s))
+        unfolding bind
+        loop_last q e = rw (← after pc, q, e)
+
+        pub loop_more : {b : Bracket} → c ≡ Continue b → iterate z k n (limit - (done + 1)) (done + 1) b.lo b.hi b.beta ≡ W
+        loop_more q = ap rest (sym q) ∙ after pc

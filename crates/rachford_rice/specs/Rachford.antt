@@ -3,8 +3,10 @@
 -- Newton's method with bisection as its safeguard. Assumes nothing.
 use Rattle.std.specs.Prelude.{ℕ, zero, suc, Bool, not, cond, ◌&&◌, ◌||◌, List, Float}
 use Rattle.std.specs.Float.Ieee.{neg, lt, le, eq}
-use Rattle.floats.specs.Arithmetic.{◌⊕◌, ◌⊖◌, ◌⊗◌, ◌⊘◌, 0f, ½, 1f, 2f, 4ε, ∞, -∞}
-use Rattle.floats.specs.Small.{is_finite, max_of, min_of, abs_of}
+use Rattle.std.specs.declared.ops.ControlFlow.{ControlFlow}
+use Rattle.std.specs.declared.ops.ControlFlow.TheVariants.{Break, Continue}
+use Rattle.floats.specs.Arithmetic.{◌⊕◌, ◌⊖◌, ◌⊗◌, ◌⊘◌, 0f, ½, 1f, 4ε, ∞, -∞}
+use Rattle.floats.specs.Small.{is_finite, max_of, min_of, abs_of, middle}
 use Rattle.floats.specs.Fold.{fold_to, sum_to, active}
 use Rattle.floats.specs.Vector.{vec, zeros8}
 use Rattle.floats.specs.Outcome.{Out, ok, no, bind, need, choose}
@@ -12,7 +14,13 @@ use Rattle.thermo_types.specs.Composition.{all_finite, none_negative, all_positi
 use Rattle.rachford_rice.specs.declared.RachfordRiceOutcome.{RachfordRiceOutcome}
 use Rattle.rachford_rice.specs.declared.RachfordRiceOutcome.TheVariants.{LiquidOnly, VaporOnly, TwoPhase}
 use Rattle.rachford_rice.specs.declared.RachfordRice.{RachfordRice}
-use Rattle.rachford_rice.specs.declared.Turn.{Turn}
+use Rattle.rachford_rice.specs.declared.Bracket.{Bracket}
+
+-- 1 liquid, 2 vapor, 3 both
+abbrev pub outcome_number : RachfordRiceOutcome → ℕ
+outcome_number LiquidOnly = 1
+outcome_number VaporOnly = 2
+outcome_number (TwoPhase β g m) = 3
 
 -- 1 + β (K_i - 1)
 abbrev pub over : (ℕ → Float) → Float → ℕ → Float
@@ -26,15 +34,18 @@ pub record Solution : Type 0 where
   pub residual : Float
   pub iterations : ℕ
 
--- bisection
-abbrev pub middle : Float → Float → Float
-middle lo hi = lo ⊕ (hi ⊖ lo) ⊘ 2f
-
 -- the step is at most 4 ε times max(|β|, 1)
 abbrev pub small : Float → Float → Bool
 small next β = le (abs_of (next ⊖ β)) (4ε ⊗ max_of (abs_of β) 1f)
 
--- one turn (the code's struct: the bounds, the next β, whether it is the last) from g(β) and its derivative: the bounds are moved before the step
+-- a turn: the bounds, the next β, whether it is the last
+pub record Turn : Type 0 where
+  pub lo : Float
+  pub hi : Float
+  pub next : Float
+  pub last : Bool
+
+-- one turn from g(β) and its derivative: the bounds are moved before the step
 unfoldable pub turn_of : Float → Float → Float → Float → Float → Turn
 turn_of g slope lo₀ hi₀ β =
     let lo = cond (lt 0f g) β lo₀ in
@@ -46,6 +57,10 @@ turn_of g slope lo₀ hi₀ β =
 -- the β that the last turn returns
 abbrev pub root_of : Float → Float → Float → Float
 root_of g β next = cond (eq g 0f) β next
+
+-- what the code does after a turn from β: it ends with the root, or goes on from the bounds and the next β
+unfoldable pub goes : Float → Float → Turn → ControlFlow Float Bracket
+goes g β turn = cond turn.last (Break (root_of g β turn.next)) (Continue (record { lo = turn.lo; hi = turn.hi; beta = turn.next }))
 
 -- ---- over the feed z and the ratios K, n of each
 module _ (z k : ℕ → Float) (n : ℕ) where

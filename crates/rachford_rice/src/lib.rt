@@ -4,15 +4,17 @@
 ghost use Rattle.std.specs.Prelude.{◌≡◌, cond, ◌&&◌, Float};
 ghost use Rattle.std.specs.Float.Ieee.{lt};
 ghost use Rattle.floats.specs.Arithmetic.{◌⊕◌, ◌⊗◌, ◌⊘◌, ◌⊖◌, 0f, 1f, ½};
-ghost use Rattle.floats.specs.Small.{is_finite};
+ghost use Rattle.floats.specs.Small.{is_finite, middle};
 ghost use Rattle.floats.specs.Fold.{fold_to, active};
 ghost use Rattle.floats.specs.Vector.{at, places, vec};
 ghost use Rattle.floats.specs.Outcome.{ok, bind};
 ghost use Rattle.outcome.specs.Refused.{outcome_of};
-ghost use Rattle.rachford_rice.specs.Rachford.{middle, turn_of, residual_of, slope_of, k_max, k_min, validate, liquid_part, solution_at, iterate, between, negative, two_phase, one_phase, constrained};
+ghost use Rattle.rachford_rice.specs.Rachford.{outcome_number, turn_of, goes, residual_of, slope_of, k_max, k_min, validate, liquid_part, solution_at, iterate, between, negative, two_phase, one_phase, constrained};
 
 use floats::Count;
 use outcome::Refusal;
+use std::hint::select_unpredictable;
+use std::ops::ControlFlow;
 
 // Constrained or negative: vapor fraction, residual |g(β)| and count of a split.
 #[derive(Clone, Copy)]
@@ -20,6 +22,19 @@ pub enum RachfordRiceOutcome {
     LiquidOnly,
     VaporOnly,
     TwoPhase(f64, f64, u64),
+}
+
+impl RachfordRiceOutcome {
+    // 1 liquid, 2 vapor, 3 both.
+    pub fn number(self) -> u64
+        ensures { result ≡ outcome_number self }
+    {
+        match self {
+            RachfordRiceOutcome::LiquidOnly => 1,
+            RachfordRiceOutcome::VaporOnly => 2,
+            RachfordRiceOutcome::TwoPhase(..) => 3,
+        }
+    }
 }
 
 // The outcome, with the compositions beside it: zeros where there is one phase.
@@ -31,21 +46,12 @@ pub struct RachfordRice {
     pub vapor: [f64; 8],
 }
 
-// One turn: the bounds moved, the next β, and whether it is the last.
-// Kept: a flag and no ControlFlow, since `next` is read either way: as the root where it is the last turn, else as the next β.
+// The bounds, and the β that the next turn starts from.
 #[derive(Clone, Copy)]
-struct Turn {
+struct Bracket {
     lo: f64,
     hi: f64,
-    next: f64,
-    last: bool,
-}
-
-// g(β) and g'(β).
-#[derive(Clone, Copy)]
-struct Sums {
-    residual: f64,
-    slope: f64,
+    beta: f64,
 }
 
 // ---- validate
@@ -92,26 +98,29 @@ fn next_from(newton: f64, lo: f64, hi: f64) -> f64
     if newton > lo && newton < hi && floats::is_finite(newton) {
         newton
     } else {
-        lo + (hi - lo) / 2.0
+        floats::middle(lo, hi)
     }
 }
 
-// The bounds are moved before the step. A change of β by at most 4 ε max(|β|, 1) counts as none.
-#[tactic(auto, unfolding(crate::specs::Rachford::turn_of))]
-fn turn_from(g: f64, slope: f64, lo: f64, hi: f64, beta: f64) -> Turn
-    ensures { result ≡ turn_of g slope lo hi beta }
+// One turn: the root where it is the last. The bounds are moved before the step, and a change of β by at most 4 ε max(|β|, 1)
+// counts as none.
+#[tactic(auto, unfolding(crate::specs::Rachford::turn_of, crate::specs::Rachford::goes))]
+fn turn_from(g: f64, slope: f64, at: Bracket) -> ControlFlow<f64, Bracket>
+    ensures { result ≡ goes g at.beta (turn_of g slope at.lo at.hi at.beta) }
 {
-    let low = floats::pick(g > 0.0, beta, lo);
-    let high = floats::pick(g > 0.0, hi, beta);
-    let next = next_from(beta - g / slope, low, high);
+    let beta = at.beta;
+    let lo = select_unpredictable(g > 0.0, beta, at.lo);
+    let hi = select_unpredictable(g > 0.0, at.hi, beta);
+    let next = next_from(beta - g / slope, lo, hi);
     let least = floats::FOUR_EPSILON * floats::max(floats::abs(beta), 1.0);
     let small = floats::abs(next - beta) <= least;
-    Turn {
-        lo: low,
-        hi: high,
-        next,
-        last: (g == 0.0) | small | (next == low) | (next == high),
+    if g == 0.0 {
+        return ControlFlow::Break(beta);
     }
+    if small | (next == lo) | (next == hi) {
+        return ControlFlow::Break(next);
+    }
+    ControlFlow::Continue(Bracket { lo, hi, beta: next })
 }
 
 // ---- a feed and its ratios
@@ -140,37 +149,26 @@ impl<'a> Feed<'a> {
     fn residual(self, beta: f64) -> f64
         ensures { result ≡ residual_of (at self.entry.z.now) (at self.entry.k.now) self.entry.m.n beta }
     {
-        (0..self.m.n).fold(0.0, |s, i| {
-            if self.z[i] > 0.0 {
-                s + self.z[i] * (self.k[i] - 1.0) / (1.0 + beta * (self.k[i] - 1.0))
-            } else {
-                s
-            }
-        })
+        let terms = (0..self.m.n).filter(|&i| self.z[i] > 0.0).map(|i| self.z[i] * (self.k[i] - 1.0)
+            / (1.0 + beta * (self.k[i] - 1.0)));
+        terms.fold(0.0, |s, term| s + term)
     }
 
     // g(β) and g'(β): the second negates its sum. 1 + β (K - 1) is worked out once for both.
-    fn residual_and_slope(self, beta: f64) -> Sums
-        ensures residual_value { result.residual ≡ residual_of (at self.entry.z.now) (at self.entry.k.now) self.entry.m.n beta }
-        ensures slope_value { result.slope ≡ slope_of (at self.entry.z.now) (at self.entry.k.now) self.entry.m.n beta }
+    fn residual_and_slope(self, beta: f64) -> (f64, f64)
+        ensures residual_value { result.0 ≡ residual_of (at self.entry.z.now) (at self.entry.k.now) self.entry.m.n beta }
+        ensures slope_value { result.1 ≡ slope_of (at self.entry.z.now) (at self.entry.k.now) self.entry.m.n beta }
     {
-        let (residual, squares) = (0..self.m.n).fold((0.0, 0.0), |(residual, squares), i| {
-            let z = self.z[i];
-            if z > 0.0 {
-                let k = self.k[i];
-                let over = 1.0 + beta * (k - 1.0);
-                (
-                    residual + z * (k - 1.0) / over,
-                    squares + z * ((k - 1.0) * (k - 1.0)) / (over * over),
-                )
-            } else {
-                (residual, squares)
-            }
+        let terms = (0..self.m.n).filter(|&i| self.z[i] > 0.0).map(|i| {
+            let (z, k) = (self.z[i], self.k[i]);
+            let over = 1.0 + beta * (k - 1.0);
+            (
+                z * (k - 1.0) / over,
+                z * ((k - 1.0) * (k - 1.0)) / (over * over),
+            )
         });
-        Sums {
-            residual,
-            slope: -squares,
-        }
+        let (residual, squares) = terms.fold((0.0, 0.0), |s, term| (s.0 + term.0, s.1 + term.1));
+        (residual, -squares)
     }
 
     // What `choose` makes of the K, one after the other from `first` on.
@@ -178,13 +176,10 @@ impl<'a> Feed<'a> {
         requires { F.IsAlwaysCallable choose }
         ensures { (f : Float → Float → Float) → ((a b r : Float) → F.post choose a b r → r ≡ f a b) → result ≡ fold_to (active (at self.entry.z.now) (λ i s. f s (at self.entry.k.now i))) first self.entry.m.n }
     {
-        (0..self.m.n).fold(first, |s, i| {
-            if self.z[i] > 0.0 {
-                choose(s, self.k[i])
-            } else {
-                s
-            }
-        })
+        let ratios = (0..self.m.n)
+            .filter(|&i| self.z[i] > 0.0)
+            .map(|i| self.k[i]);
+        ratios.fold(first, |s, k| choose(s, k))
     }
 
     fn k_max(self) -> f64
@@ -199,28 +194,23 @@ impl<'a> Feed<'a> {
         self.k_chosen(floats::min, f64::INFINITY)
     }
 
-    // Kept: a loop to n, here and below: `from_fn` would go over all eight.
-    #[tactic(auto, unfolding(floats::specs::Vector::fill, crate::specs::Rachford::liquid_part))]
     fn liquid_parts(self, beta: f64) -> [f64; 8]
         ensures { result ≡ vec (liquid_part (at self.entry.z.now) (at self.entry.k.now) self.entry.m.n beta) self.entry.m.n }
     {
-        let mut x = [0.0; 8];
-        for i in 0..self.m.n {
-            x[i] = liquid_part(self.z[i], self.k[i], beta);
-        }
-        x
+        std::array::from_fn(|i| {
+            if i < self.m.n {
+                liquid_part(self.z[i], self.k[i], beta)
+            } else {
+                0.0
+            }
+        })
     }
 
     // From the liquid that is not yet divided by its sum.
-    #[tactic(auto, unfolding(floats::specs::Vector::fill))]
     fn vapor_parts(self, x: &[f64; 8]) -> [f64; 8]
         ensures { result ≡ vec (λ i. at x.now i ⊗ at self.entry.k.now i) self.entry.m.n }
     {
-        let mut y = [0.0; 8];
-        for i in 0..self.m.n {
-            y[i] = x[i] * self.k[i];
-        }
-        y
+        std::array::from_fn(|i| if i < self.m.n { x[i] * self.k[i] } else { 0.0 })
     }
 
     fn solution(self, beta: f64, iterations: u64) -> RachfordRice
@@ -237,21 +227,19 @@ impl<'a> Feed<'a> {
     }
 
     // From β = 0.5 between the bounds; refused where g(β) isn't finite, and where no turn is left.
-    fn iterate(self, limit: u64, mut lo: f64, mut hi: f64) -> Result<RachfordRice, Refusal>
+    fn iterate(self, limit: u64, lo: f64, hi: f64) -> Result<RachfordRice, Refusal>
         ensures { outcome_of result ≡ bind (iterate (at self.entry.z.now) (at self.entry.k.now) self.entry.m.n limit 0 lo hi ½) (λ s. ok (two_phase s)) }
     {
-        let mut beta = 0.5;
+        let mut at = Bracket { lo, hi, beta: 0.5 };
         for done in 0..limit {
-            let Sums { residual, slope } = self.residual_and_slope(beta);
+            let (residual, slope) = self.residual_and_slope(at.beta);
             if !floats::is_finite(residual) {
                 return Err(Refusal::ResultNotFinite);
             }
-            let turn = turn_from(residual, slope, lo, hi, beta);
-            if turn.last {
-                let root = floats::pick(residual == 0.0, beta, turn.next);
-                return Ok(self.solution(root, done + 1));
+            match turn_from(residual, slope, at) {
+                ControlFlow::Break(root) => return Ok(self.solution(root, done + 1)),
+                ControlFlow::Continue(next) => at = next,
             }
-            (lo, hi, beta) = (turn.lo, turn.hi, turn.next);
         }
         Err(Refusal::NotConverged)
     }

@@ -1,6 +1,7 @@
 -- The copy of a book that holds an offered pair: which of its blocks are the book's, for all bytes. Assumes nothing.
 use mathlib.Core.Path.{◌≡◌, refl, sym, ap, ◌∙◌, fun_ext}
 use mathlib.Core.List.{List, [], ◌++◌, append_assoc}
+use Rattle.std.specs.Prelude.{Option, Some, None}
 use mathlib.Core.Bool.{Bool, true, false, cond, ◌&&◌, true≢false}
 use Prim.Native.Nat.{ℕ, ◌+◌, ◌-◌, ◌*◌, ◌/◌, ◌≤◌, ◌<◌}
 use native.Mathlib.Omega.{arith}
@@ -68,7 +69,7 @@ module _ (l bs : List ℕ) (p : ℕ) (whole : length bs ≡ 512) (fits : 512 * p
       pick true h = put_before k (ltb-true k p h)
       pick false h = put-behind k (omega (arith, ltb-false k p h))
 
-  put-at : (k : ℕ) → block (put l (512 * p) bs) k ≡ pair_at l bs p k
+  put-at : (k : ℕ) → block (put l (512 * p) bs) k ≡ pair_at l bs (Some p) k
   put-at k = pick (eqb k p) refl
     where
       pick : (b : Bool) → eqb k p ≡ b → block (put l (512 * p) bs) k ≡ cond b bs (block l k)
@@ -113,15 +114,15 @@ module _ (n : ℕ) (book offered : List ℕ) where
       pick true e = let o = stands e in put_length book offered (place_named n offered) o.whole o.fits
       pick false e = refl
 
-  -- block k, but block 0
-  pub copy-block : (k : ℕ) → 0 < k → block (with_pair n book offered) k ≡ pair_at book offered (offered_place n book offered) k
+  -- block k
+  pub copy-block : (k : ℕ) → block (with_pair n book offered) k ≡ pair_at book offered (offered_place n book offered) k
   unfolding with_pair offered_place
-  copy-block k h = pick (offers n book offered) refl
+  copy-block k = pick (offers n book offered) refl
     where
       pick : (b : Bool) → offers n book offered ≡ b
-          → block (cond b (put book (512 * place_named n offered) offered) book) k ≡ pair_at book offered (cond b (place_named n offered) 0) k
+          → block (cond b (put book (512 * place_named n offered) offered) book) k ≡ pair_at book offered (cond b (Some (place_named n offered)) None) k
       pick true e = let o = stands e in put-at book offered (place_named n offered) o.whole o.fits k
-      pick false e = let f : k ≡ 0 → ⊥ = λ z. omega arith in rw (ne_eqb k 0 f)
+      pick false e = refl
 
   -- block 0 and the solvents' are the book's: a pair stands behind them
   pub copy-below : (k : ℕ) → k ≤ n → block (with_pair n book offered) k ≡ block book k
@@ -135,10 +136,10 @@ module _ (n : ℕ) (book offered : List ℕ) where
 
   -- the block of the pair (i, j)
   pub copy-pair : (i j : ℕ) → block (with_pair n book offered) (pair_place n i j) ≡ pair_at book offered (offered_place n book offered) (pair_place n i j)
-  copy-pair i j = copy-block (pair_place n i j) (omega (arith, place-above n i j))
+  copy-pair i j = copy-block (pair_place n i j)
 
   -- and its interval, as the code reads it
-  pub copy_interval : (i j : ℕ) {place : ℕ} {r : Pair} → n ≤ 8 → i < j → j < n → place ≡ offered_place n book offered
+  pub copy_interval : (i j : ℕ) {place : Option ℕ} {r : Pair} → n ≤ 8 → i < j → j < n → place ≡ offered_place n book offered
       → r ≡ pair_of (model_of book) (word (pair_at book offered place (pair_place (places n) (places i) (places j))))
       → r.regression ≡ regression_of (words (with_pair n book offered) (pair_place n i j))
   unfolding pair_of
@@ -180,16 +181,16 @@ copy-nothing n book = copy-cut n book [] (λ e. omega arith)
 -- ---- the place, as the code finds it
 
 module _ (n : ℕ) (book offered : List ℕ) where
-  pub place-cut : (length offered ≡ 512 → ⊥) → 0 ≡ offered_place n book offered
+  pub place-cut : (length offered ≡ 512 → ⊥) → None ≡ offered_place n book offered
   unfolding offered_place offers names_pair
   place-cut f = rw (ne_eqb (length offered) 512 f)
 
   module _ {i j m : ℕ} (whole : length offered ≡ 512) (first : i ≡ word offered 1) (other : j ≡ word offered 2) (count : m ≡ n) where
-    pub place_order : j ≤ i → 0 ≡ offered_place n book offered
+    pub place_order : j ≤ i → None ≡ offered_place n book offered
     unfolding offered_place offers names_pair
     place_order h = let l : word offered 2 ≤ word offered 1 = omega arith in rw (eq-eqb (length offered) 512 whole, le-ltb (word offered 1) (word offered 2) l)
 
-    pub place-past : i < j → m ≤ j → 0 ≡ offered_place n book offered
+    pub place-past : i < j → m ≤ j → None ≡ offered_place n book offered
     unfolding offered_place offers names_pair
     place-past h q =
         rw (
@@ -202,7 +203,7 @@ module _ (n : ℕ) (book offered : List ℕ) where
       named : place ≡ place_named n offered
       named = at ∙ rw (first, other, count)
 
-      pub place_found : place < length book / 512 → place ≡ offered_place n book offered
+      pub place_found : place < length book / 512 → Some place ≡ offered_place n book offered
       unfolding offered_place offers names_pair
       place_found h =
           rw (
@@ -211,9 +212,9 @@ module _ (n : ℕ) (book offered : List ℕ) where
             lt-ltb (word offered 2) n (omega arith),
             le-leb (512 * (place_named n offered + 1)) (length book) (omega (arith, named)),
           )
-          named
+          (ap Some named)
 
-      pub place_short : length book / 512 ≤ place → 0 ≡ offered_place n book offered
+      pub place_short : length book / 512 ≤ place → None ≡ offered_place n book offered
       unfolding offered_place offers names_pair
       place_short h =
           rw (

@@ -1,5 +1,5 @@
 -- The parameters of all ordered pairs in one flat table, six to a pair, w j k being word k of block j. Assumes nothing.
-use Rattle.std.specs.Prelude.{List, cond, ℕ, ◌+◌, ◌*◌, ltb, Float, replicate}
+use Rattle.std.specs.Prelude.{List, cond, ℕ, ◌+◌, ◌*◌, ltb, Float, replicate, Option}
 use Rattle.blocks.specs.Words.{word}
 use Rattle.floats.specs.Arithmetic.{0f}
 use Rattle.floats.specs.Fold.{fold_to}
@@ -35,7 +35,7 @@ unfoldable pub parameter : Model → (ℕ → ℕ → ℕ) → ℕ → ℕ → �
 parameter m w n i j k = cond (ltb i j) (pair_term m (w (pair_place n i j)) 3 k) (cond (ltb j i) (pair_term m (w (pair_place n j i)) (lower_from m) k) 0f)
 
 -- where a block is offered for the pair at `place`
-abbrev pub offered_parameter : Model → List ℕ → List ℕ → ℕ → ℕ → ℕ → ℕ → ℕ → Float
+abbrev pub offered_parameter : Model → List ℕ → List ℕ → Option ℕ → ℕ → ℕ → ℕ → ℕ → Float
 offered_parameter m book offered place n = parameter m (λ k. word (pair_at book offered place k)) n
 
 -- as the code has them

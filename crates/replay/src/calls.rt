@@ -132,11 +132,9 @@ fn open_book(stored: &mut Stored) -> Option<()> {
 fn give_rice(stored: &mut Stored, found: Result<RachfordRice, Refusal>) {
     match found {
         Err(refusal) => stored.give(u64::from(refusal).wrapping_add(100)),
-        Ok(s) => match s.outcome {
-            RachfordRiceOutcome::LiquidOnly => stored.give(1),
-            RachfordRiceOutcome::VaporOnly => stored.give(2),
-            RachfordRiceOutcome::TwoPhase(beta, residual, iterations) => {
-                stored.give(3);
+        Ok(s) => {
+            stored.give(s.outcome.number());
+            if let RachfordRiceOutcome::TwoPhase(beta, residual, iterations) = s.outcome {
                 stored.give_float(beta);
                 stored.give_float(residual);
                 // Exact for every count below 2^32.
@@ -144,7 +142,7 @@ fn give_rice(stored: &mut Stored, found: Result<RachfordRice, Refusal>) {
                 stored.give_eight(&s.liquid);
                 stored.give_eight(&s.vapor);
             }
-        },
+        }
     }
 }
 
@@ -163,6 +161,7 @@ fn rice<F: Fn(&[f64; 8], &[f64; 8], usize, u64) -> Result<RachfordRice, Refusal>
 }
 
 // A book, a question and the length of the answer slice.
+// Kept: beside `answer_with`, which as one with it would take a flag for whether a third slice is stored.
 fn answer(stored: &mut Stored) -> Option<()> {
     let mut book = [0; 24576];
     let mut question = [0; 4096];
@@ -195,7 +194,10 @@ fn answer_with<F: Fn(&[u8], &[u8], &[u8], &mut [u8]) -> (Result<(), Refusal>, us
     Some(())
 }
 
-// Takes the inputs of the function with that name, and gives its results; none where there are too few inputs or too long a slice.
+// Takes the inputs of the function with that name, and gives its results; none where there is no such function, there are too
+// few inputs or too long a slice.
+// Kept: the names stand here and in the order of the report: an enum of the functions would name each a third time, and a table
+// of names and functions would be one of function pointers.
 pub(crate) fn call(name: &str, stored: &mut Stored) -> Option<()> {
     match name {
         "exp" => stored.one(numerics::exp)?,
@@ -230,10 +232,11 @@ pub(crate) fn call(name: &str, stored: &mut Stored) -> Option<()> {
             ),
             stored,
         )?,
-        _ => answer_with(
+        "preview" => answer_with(
             |book, question, offered, out| (preview::answer(book, offered, question, out), 1),
             stored,
         )?,
+        _ => return None,
     }
     Some(())
 }

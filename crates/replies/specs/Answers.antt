@@ -1,5 +1,5 @@
 -- The answer block of each task from what its solver found. Assumes nothing.
-use Rattle.std.specs.Prelude.{ℕ, Bool, false, List, Float}
+use Rattle.std.specs.Prelude.{ℕ, Bool, false, List, Float, is_some}
 use Rattle.floats.specs.Arithmetic.{0f}
 use Rattle.floats.specs.Vector.{zeros8}
 use Rattle.excess.specs.State.{Excess}
@@ -8,7 +8,7 @@ use Rattle.thermo_models.specs.declared.ValidityStatus.TheVariants.{Unassessed}
 use Rattle.rachford_rice.specs.declared.RachfordRiceOutcome.{RachfordRiceOutcome}
 use Rattle.rachford_rice.specs.declared.RachfordRiceOutcome.TheVariants.{LiquidOnly, VaporOnly, TwoPhase}
 use Rattle.saturation.specs.Saturation.{Saturation}
-use Rattle.tp_flash.specs.Tp.{Flash}
+use Rattle.tp_flash.specs.Tp.{Flash, trials_of}
 use Rattle.tp_flash.specs.declared.FlashPhases.{FlashPhases}
 use Rattle.tp_flash.specs.declared.FlashPhases.TheVariants.{Liquid, Vapor, Both}
 use Rattle.replies.specs.declared.State.{State}
@@ -91,10 +91,10 @@ flash_block t p f =
       residual = f.residual;
       balance = f.balance;
       vapor_fraction = f.vapor_fraction;
-      trials = f.trials.count;
+      trials = (trials_of f).count;
       notes = f.notes;
     })
-    f.liquid f.vapor f.tested
+    f.liquid f.vapor (is_some f.trials)
 
 -- 8 and 9: 1 liquid, 2 vapor, 3 both with vapor fraction, residual and count
 unfoldable pub rice_block : RachfordRiceOutcome → List Float → List Float → AnswerBlock

@@ -36,7 +36,7 @@ pub struct State {
 }
 
 // Words 30 to 37: g^E / RT, J/mol, J/(mol K), and what is said of the state.
-#[derive(Clone, Copy)]
+#[derive(Clone, Copy, Default)]
 pub struct ModelState {
     pub reduced: f64,
     pub gibbs: f64,
@@ -61,7 +61,7 @@ pub struct AnswerBlock {
 // ---- the words of a block
 
 // 0 unassessed, 1 within, 2 extrapolated.
-// Kept: a function, as `phase_number`: `From` would have to stand in the type's own crate, where nothing else needs it.
+// Kept: a cast, here and in exports: a `From` in the type's own crate is longer than both.
 fn status_number(status: ValidityStatus) -> u64
     ensures { result ≡ status_number status }
 {
@@ -109,7 +109,8 @@ fn put_words(ws: &mut [u64; 64], from: usize, words: &[u64])
     ws[from..from + words.len()].copy_from_slice(words);
 }
 
-// Kept: a loop: `x.map(bits_of)` moves the eight into an iterator, and needs answers for its room, its calls and its items.
+// Kept: a loop: `put_words` of `from_fn(|i| bits_of(x[i]))` takes 4.5 ns for 5.8, but the proof didn't close: the law of what
+// `from_fn` made (`filled`) wants the closure's value past the eight too, which no index reaches.
 #[tactic(auto, unfolding(floats::specs::Vector::fill_from))]
 fn put_floats(ws: &mut [u64; 64], from: usize, x: &[f64; 8])
     requires { from + 8 ≤ 64 }
@@ -120,6 +121,7 @@ fn put_floats(ws: &mut [u64; 64], from: usize, x: &[f64; 8])
     }
 }
 
+#[tactic(auto, unfolding(crate::specs::Blocks::state_words, crate::specs::Blocks::model_words, crate::specs::Blocks::answer_words, floats::specs::Vector::fill_from))]
 pub fn answer_words(task: u64, b: AnswerBlock) -> [u64; 64]
     ensures { result ≡ answer_words task b }
 {
@@ -205,7 +207,6 @@ pub fn write_refusal(rule: Rule, question: &[u8], number: u64, out: &mut [u8])
 // ---- the answer block of each task
 
 // Of a task that has none of the model's words but, in 6 and 7, whether the liquid is stable.
-// Kept: no derived Default of `ModelState`: it would ask for one of `ValidityStatus`, and this is its one place.
 fn plain_block(
     outcome: u64,
     state: State,
@@ -221,20 +222,14 @@ fn plain_block(
         liquid,
         vapor,
         model: ModelState {
-            reduced: 0.0,
-            gibbs: 0.0,
-            enthalpy: 0.0,
-            entropy: 0.0,
-            heat_capacity: 0.0,
-            validity: ValidityStatus::Unassessed,
-            inferred: false,
             stable,
+            ..ModelState::default()
         },
     }
 }
 
 // Task 1.
-// Kept: the energies' five fields one by one: `ModelState` is public, and has them flat as the block has.
+// Kept: the energies' five fields one by one: nested, the block's words and their definition would read one name more each.
 pub fn excess_block(
     t: f64,
     e: Energies,
@@ -294,11 +289,7 @@ pub fn stability_block(stable: bool, count: usize) -> AnswerBlock
 fn phase_number(phases: FlashPhases) -> u64
     ensures { result ≡ phase_number phases }
 {
-    match phases {
-        FlashPhases::Liquid => 1,
-        FlashPhases::Vapor => 2,
-        FlashPhases::Both => 3,
-    }
+    phases as u64
 }
 
 // Task 7.
@@ -314,10 +305,16 @@ pub fn flash_block(t: f64, p: f64, f: ActivityTpFlash) -> AnswerBlock
         residual: f.residual,
         balance: f.balance,
         vapor_fraction: f.vapor_fraction,
-        trials: f.trials.count as u64,
+        trials: f.trials.unwrap_or(liquid_stability::no_trials()).count as u64,
         notes: f.notes,
     };
-    plain_block(phase_number(f.phases), state, f.liquid, f.vapor, f.tested)
+    plain_block(
+        phase_number(f.phases),
+        state,
+        f.liquid,
+        f.vapor,
+        f.trials.is_some(),
+    )
 }
 
 // Tasks 8 and 9.
@@ -325,17 +322,14 @@ pub fn flash_block(t: f64, p: f64, f: ActivityTpFlash) -> AnswerBlock
 pub fn rice_block(outcome: RachfordRiceOutcome, liquid: [f64; 8], vapor: [f64; 8]) -> AnswerBlock
     ensures { result ≡ rice_block outcome liquid vapor }
 {
-    match outcome {
-        RachfordRiceOutcome::LiquidOnly => plain_block(1, State::default(), liquid, vapor, false),
-        RachfordRiceOutcome::VaporOnly => plain_block(2, State::default(), liquid, vapor, false),
-        RachfordRiceOutcome::TwoPhase(vapor_fraction, residual, iterations) => {
-            let state = State {
-                vapor_fraction,
-                residual,
-                iterations,
-                ..State::default()
-            };
-            plain_block(3, state, liquid, vapor, false)
-        }
-    }
+    let state = match outcome {
+        RachfordRiceOutcome::TwoPhase(vapor_fraction, residual, iterations) => State {
+            vapor_fraction,
+            residual,
+            iterations,
+            ..State::default()
+        },
+        _ => State::default(),
+    };
+    plain_block(outcome.number(), state, liquid, vapor, false)
 }

@@ -7,13 +7,7 @@ use Rattle.floats.specs.Outcome.{Out, ok, no, bind}
 use Rattle.rachford_rice.specs.declared.RachfordRice.{RachfordRice}
 use Rattle.rachford_rice.specs.declared.RachfordRiceOutcome.{RachfordRiceOutcome}
 use Rattle.rachford_rice.specs.declared.RachfordRiceOutcome.TheVariants.{LiquidOnly, VaporOnly, TwoPhase}
-use Rattle.rachford_rice.specs.Rachford.{negative, two_phase, constrained}
-
--- 1 liquid, 2 vapor, 3 both; 100 more than a refusal's number
-unfoldable pub phases : RachfordRiceOutcome → ℕ
-phases LiquidOnly = 1
-phases VaporOnly = 2
-phases (TwoPhase β g m) = 3
+use Rattle.rachford_rice.specs.Rachford.{outcome_number, negative, two_phase, constrained}
 
 -- a count of iterations as a float, modulo 2^32
 unfoldable pub count_of : ℕ → Float
@@ -29,9 +23,9 @@ phases_in LiquidOnly liquid vapor old = old
 phases_in VaporOnly liquid vapor old = old
 phases_in (TwoPhase β g m) liquid vapor old = both β g m liquid vapor old
 
--- the number of an answer, and the slice after it
+-- the number of an answer (1 liquid, 2 vapor, 3 both; 100 more than a refusal's), and the slice after it
 unfoldable pub split_number : Out RachfordRice → ℕ
-split_number (ok a) = phases a.outcome
+split_number (ok a) = outcome_number a.outcome
 split_number (no r) = 100 + r
 
 unfoldable pub split_written : Out RachfordRice → List Float → List Float

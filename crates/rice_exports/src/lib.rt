@@ -35,21 +35,19 @@ fn put_both(
 }
 
 // Kept: a number here and below, since C takes no Result.
-#[tactic(auto, unfolding(crate::specs::Splits::split_number, crate::specs::Splits::split_written, crate::specs::Splits::phases, crate::specs::Splits::phases_in))]
+#[tactic(auto, unfolding(crate::specs::Splits::split_number, crate::specs::Splits::split_written, crate::specs::Splits::phases_in))]
 fn put_answer(answer: Result<RachfordRice, Refusal>, out: &mut [f64; 19]) -> u64
     ensures value { result ≡ split_number (outcome_of answer) }
     ensures out_after { out.new ≡ split_written (outcome_of answer) out.old }
 {
     match answer {
         Err(refusal) => 100 + u64::from(refusal),
-        Ok(split) => match split.outcome {
-            RachfordRiceOutcome::LiquidOnly => 1,
-            RachfordRiceOutcome::VaporOnly => 2,
-            RachfordRiceOutcome::TwoPhase(beta, residual, iterations) => {
+        Ok(split) => {
+            if let RachfordRiceOutcome::TwoPhase(beta, residual, iterations) = split.outcome {
                 put_both(beta, residual, iterations, &split.liquid, &split.vapor, out);
-                3
             }
-        },
+            split.outcome.number()
+        }
     }
 }
 

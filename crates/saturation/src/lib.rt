@@ -79,8 +79,6 @@ struct Raoult<'a> {
 
 impl Raoult<'_> {
     // f of each solvent's fraction, γ and vapor pressure; 0.0 past the solvents.
-    // Kept: a loop to the count, for `array::from_fn` works out all eight.
-    #[tactic(auto, unfolding(floats::specs::Vector::fill))]
     fn terms<F: Fn(f64, f64, f64) -> f64>(self, z: &[f64; 8], f: F) -> [f64; 8]
         requires { F.IsAlwaysCallable f }
         ensures { (t : ℕ → Float)
@@ -88,27 +86,24 @@ impl Raoult<'_> {
             → result ≡ vec t self.entry.m.n }
     {
         let gamma = numerics::exps(self.lg, self.m.n);
-        let mut w = [0.0; 8];
-        for i in 0..self.m.n {
-            w[i] = f(z[i], gamma[i], self.ps[i]);
-        }
-        w
+        std::array::from_fn(|i| {
+            if i < self.m.n {
+                f(z[i], gamma[i], self.ps[i])
+            } else {
+                0.0
+            }
+        })
     }
 
     // The largest gap of a solvent that is present in both phases.
-    // Kept: a loop, here and in largest_change: a fold's closure gives `r` back in an `else`, and is no plainer.
-    #[tactic(auto, unfolding(crate::specs::Saturation::gap_of, floats::specs::Fold::fold_to))]
     fn largest_gap(self, p: f64, x: &[f64; 8], y: &[f64; 8]) -> f64
         ensures { let l = self.entry in result ≡ gap_of l.lg.now l.ps.now p x.now y.now l.m.n }
     {
         let ln_p = numerics::ln(p);
-        let mut r = 0.0;
-        for i in 0..self.m.n {
-            if (x[i] > 0.0) & (y[i] > 0.0) {
-                r = floats::max(r, gap(self.lg[i], self.ps[i], ln_p, x[i], y[i]));
-            }
-        }
-        r
+        let gaps = (0..self.m.n)
+            .filter(|&i| (x[i] > 0.0) & (y[i] > 0.0))
+            .map(|i| gap(self.lg[i], self.ps[i], ln_p, x[i], y[i]));
+        gaps.fold(0.0, floats::max)
     }
 }
 
@@ -158,6 +153,7 @@ pub fn residual_with(
 
 // ---- dew point: p = 1 / Σ y_i / (γ_i p_i^sat), by successive substitution on ln γ of the incipient liquid
 
+// Kept: liquid_stability and tp_flash hold a table and its Tabled in a struct too: each with what its own solver reads beside them.
 // A vapor y whose dew point is sought, with the tables and the vapor pressures of a temperature.
 #[derive(Clone, Copy)]
 struct Vapor<'a> {
@@ -170,7 +166,6 @@ struct Vapor<'a> {
 
 impl Vapor<'_> {
     // What ln γ gives: 34, then what `activity` refuses at the incipient liquid.
-    // Kept: zeros that `activity` fills, for it is public and writes to its caller's arrays.
     fn incipient(self, lg: &[f64; 8]) -> Result<IncipientLiquid, Refusal>
         ensures { let v = self.entry in outcome_of result ≡ incipient (activity_on v.table.now v.tabled) v.ps.now v.m.n v.y.now lg.now }
     {
@@ -182,17 +177,7 @@ impl Vapor<'_> {
         );
         let pressure = 1.0 / thermo_types::sum(&w, m.n);
         let liquid = thermo_types::normalize(&w, m.n)?;
-        let mut activity = ActivityCoefficients {
-            ln_gamma: [0.0; 8],
-            slopes: [0.0; 8],
-        };
-        thermo_models::activity(
-            self.table,
-            self.tabled,
-            &liquid,
-            &mut activity.ln_gamma,
-            &mut activity.slopes,
-        )?;
+        let activity = thermo_models::activity(self.table, self.tabled, &liquid)?;
         Ok(IncipientLiquid {
             pressure,
             liquid,
@@ -201,17 +186,13 @@ impl Vapor<'_> {
     }
 
     // The largest change of ln γ of a solvent that is present.
-    #[tactic(auto, unfolding(crate::specs::Saturation::change_of, floats::specs::Fold::fold_to))]
     fn largest_change(self, new: &[f64; 8], old: &[f64; 8]) -> f64
         ensures { result ≡ change_of self.entry.y.now new.now old.now self.entry.m.n }
     {
-        let mut r = 0.0;
-        for i in 0..self.m.n {
-            if self.y[i] > 0.0 {
-                r = floats::max(r, floats::abs(new[i] - old[i]));
-            }
-        }
-        r
+        let changes = (0..self.m.n)
+            .filter(|&i| self.y[i] > 0.0)
+            .map(|i| floats::abs(new[i] - old[i]));
+        changes.fold(0.0, floats::max)
     }
 
     // A turn from ln γ: 25 where change or pressure isn't finite.
@@ -292,6 +273,7 @@ pub fn dew_at(
 
 // Bubble pressure of the feed x, p = Σ x_i γ_i p_i^sat, from the tables and the vapor pressures of a temperature: what
 // `activity` refuses, 25, and 23 where the pressure isn't in the domain.
+#[tactic(auto, unfolding(crate::specs::Saturation::bubble_task, crate::specs::Saturation::bubble_at, floats::specs::Outcome::bind, floats::specs::Outcome::need, crate::specs::Saturation::residual))]
 pub fn activity_bubble_pressure(
     table: &[f64; 512],
     s: Tabled,
@@ -300,14 +282,13 @@ pub fn activity_bubble_pressure(
 ) -> Result<ActivitySaturation, Refusal>
     ensures { outcome_of result ≡ bubble_task (activity_on table.now s) ps.now (places s.n) s.t.0 x.now }
 {
-    let mut lg = [0.0; 8];
-    let mut sl = [0.0; 8];
-    thermo_models::activity(table, s, x, &mut lg, &mut sl)?;
-    let BubblePoint { pressure, vapor } = bubble_from(x, &lg, ps, s.n)?;
+    let activity = thermo_models::activity(table, s, x)?;
+    let lg = &activity.ln_gamma;
+    let BubblePoint { pressure, vapor } = bubble_from(x, lg, ps, s.n)?;
     if !thermo_models::check_pressure(pressure) {
         return Err(Refusal::PressureOutside);
     }
-    let residual = residual_with(&lg, ps, pressure, x, &vapor, s.n)?;
+    let residual = residual_with(lg, ps, pressure, x, &vapor, s.n)?;
     Ok(ActivitySaturation {
         temperature: s.t.value(),
         pressure,
@@ -329,18 +310,22 @@ pub fn activity_dew_pressure(
 ) -> Result<ActivitySaturation, Refusal>
     ensures { outcome_of result ≡ dew_task (activity_on table.now s) ps.now (places s.n) o s.t.0 y.now }
 {
-    let d = dew_at(table, s, y, ps, o)?;
-    if !thermo_models::check_pressure(d.pressure) {
+    let DewPoint {
+        pressure,
+        liquid,
+        iterations,
+        residual,
+        ..
+    } = dew_at(table, s, y, ps, o)?;
+    if !thermo_models::check_pressure(pressure) {
         return Err(Refusal::PressureOutside);
     }
-    // Kept: a variable, for the borrow checker doesn't cover an array field that is stored straight.
-    let liquid = d.liquid;
     Ok(ActivitySaturation {
         temperature: s.t.value(),
-        pressure: d.pressure,
+        pressure,
         liquid,
         vapor: *y,
-        residual: d.residual,
-        iterations: d.iterations,
+        residual,
+        iterations,
     })
 }

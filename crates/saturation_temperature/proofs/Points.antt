@@ -1,19 +1,17 @@
 -- f at a temperature, and the answer at the temperature found, put together. Assumes nothing.
-use Rattle.std.proofs.Common.{◌≡◌, ◌≤◌, ℕ, List, Ok, Err, replicate, sym, refl, ap, ◌∙◌}
+use Rattle.std.proofs.Common.{◌≡◌, ◌≤◌, ℕ, List, replicate, sym, refl, ap, ◌∙◌}
 use lib.Ieee.{Float}
 use Rattle.floats.specs.Arithmetic.{0f}
 use Rattle.floats.specs.Vector.{places}
 use Rattle.floats.specs.Outcome.{Out, ok, no, bind}
 use Rattle.floats.proofs.Outcomes.{refused, bind_inv, need_inv}
-use Rattle.outcome.specs.declared.Refusal.{Refusal}
-use Rattle.outcome.specs.Refused.{number}
 use Rattle.thermo_types.specs.declared.ActivityOptions.{ActivityOptions}
 use Rattle.thermo_types.specs.declared.Temperature.{Temperature}
 use Rattle.thermo_types.specs.Quantities.{positive_of, kelvin}
 use Rattle.thermo_models.specs.declared.Tabled.{Tabled}
-use Rattle.thermo_models.specs.Model.{Activities, Liquids, ActivityIs, PuresAre}
+use Rattle.thermo_models.specs.Model.{Activity, Pures, Activities, Liquids}
 use Rattle.thermo_models.specs.Activity.{activity_on, activity_of, Stands}
-use Rattle.thermo_models.proofs.Answers.{activity-passed, activity-refused, pures_passed, pures_refused, stands_fresh}
+use Rattle.thermo_models.proofs.Answers.{stands_fresh}
 use Rattle.thermo_models.specs.Domain.{pure_liquids_of}
 use Rattle.saturation.specs.Saturation.{Dew, Saturation, dew_at}
 use Rattle.saturation.proofs.Answers.{places_is, stands-places}
@@ -27,11 +25,6 @@ unfolding bind
 kelvin_ok (ok x) {T = T} e = let q : T ≡ kelvin x = cc in rw q
 kelvin_ok (no r) e = absurd (refused (sym e))
 
-pub kelvin-no : (o : Out Float) {m : ℕ} → no m ≡ bind o (λ x. ok (kelvin x)) → o ≡ no m
-unfolding bind
-kelvin-no (ok x) e = absurd (refused e)
-kelvin-no (no r) {m = m} e = let q : r ≡ m = cc in rw q
-
 got : {A : Type 0} {a b : A} → ok a ≡ ok b → a ≡ b
 got e = cc
 
@@ -44,24 +37,16 @@ positive_is {t} {T} r e =
 -- ---- the activity and the dew point on the table w of the parameters P are those of the book; s is what the table stands for
 module _ (book : List ℕ) (P : List Float) (n : ℕ) (few : n ≤ 8) (z : List Float) (T : Temperature) {s : Tabled} {w : List Float}
     (h : Stands book P (places n) T s (replicate 512 0f) w) where
-  module _ {lg sl : List Float} where
-    pub feed-is : ActivityIs (activity_on w s z) (Ok tt) lg sl → activity_of book P n T.0 z ≡ ok (activity_from lg sl)
-    feed-is a = activity-passed _ (rw (stands_fresh h, places_is n few) at a)
-
-    pub feed-no : {r : Refusal} → ActivityIs (activity_on w s z) (Err r) lg sl → activity_of book P n T.0 z ≡ no (number r)
-    feed-no a = activity-refused _ (rw (stands_fresh h, places_is n few) at a)
+  pub feed-is : {a : Out Activity} → a ≡ activity_on w s z → activity_of book P n T.0 z ≡ a
+  feed-is e = sym (rw (stands_fresh h, places_is n few) at e)
 
   pub dew-is : (o : ActivityOptions) (ps : List Float) {d : Out Dew} → d ≡ dew_at (activity_on w s) ps (places s.n) o z
       → dew_at (activity_of book P n T.0) ps n o z ≡ d
   dew-is o ps e = sym (rw (stands_fresh h, stands-places n h, places_is n few) at e)
 
 -- ---- the pure liquids of the book
-module _ (book : List ℕ) (T : Temperature) (n : ℕ) (few : n ≤ 8) {ps dps : List Float} where
-  pub pures-is : PuresAre (pure_liquids_of book (places n) T.0) (Ok tt) ps dps → pure_liquids_of book n T.0 ≡ ok (pures_from ps dps)
-  pures-is a = pures_passed _ (rw (places_is n few) at a)
-
-  pub pures-no : {r : Refusal} → PuresAre (pure_liquids_of book (places n) T.0) (Err r) ps dps → pure_liquids_of book n T.0 ≡ no (number r)
-  pures-no a = pures_refused _ (rw (places_is n few) at a)
+pub pures-is : (book : List ℕ) (T : Temperature) (n : ℕ) (few : n ≤ 8) {p : Out Pures} → p ≡ pure_liquids_of book (places n) T.0 → pure_liquids_of book n T.0 ≡ p
+pures-is book T n few e = sym (rw (places_is n few) at e)
 
 -- ---- steps whose answer is a pair: the first part alone, and what was met on the way
 first-bind : {A B C : Type 0} (o : Out A) (k : A → Out (B × C)) → first_of (bind o k) ≡ bind o (λ x. first_of (k x))

@@ -2,10 +2,10 @@
 use Rattle.std.proofs.Common.{◌≡◌, ℕ, suc, ◌+◌, ◌-◌, ◌<◌, ◌≤◌, true, false, ◌||◌, arith}
 use lib.Ieee.{Float, lt, le}
 use Rattle.floats.specs.Arithmetic.{0f}
-use Rattle.floats.specs.Small.{abs_of}
+use Rattle.floats.specs.Small.{abs_of, middle}
 use Rattle.floats.specs.Outcome.{Out, ok, no, bind, need, choose}
 use Rattle.thermo_types.specs.declared.ActivityOptions.{ActivityOptions}
-use Rattle.saturation_temperature.specs.Search.{Point, Root, middle, step_of, collapsed, search_from, solve_temperature}
+use Rattle.saturation_temperature.specs.Search.{Point, Root, step_of, collapsed, search_from, solve_temperature}
 use Rattle.saturation_temperature.specs.declared.Bracket.{Bracket}
 
 -- ---- the ends of the bracket, with f's points a and b there

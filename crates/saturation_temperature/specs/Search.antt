@@ -1,8 +1,8 @@
 -- `solve_temperature`: safeguarded Newton on f(T) = 0 over a bracket, for any f with its slope, as rounded steps in the order of activity.rs. Assumes nothing.
 use Rattle.std.specs.Prelude.{ℕ, zero, suc, Bool, cond, not, ◌&&◌, ◌||◌, Float}
 use Rattle.std.specs.Float.Ieee.{lt, le, eq}
-use Rattle.floats.specs.Arithmetic.{◌⊕◌, ◌⊖◌, ◌⊗◌, ◌⊘◌, 0f, 2f, 4ε}
-use Rattle.floats.specs.Small.{abs_of}
+use Rattle.floats.specs.Arithmetic.{◌⊖◌, ◌⊗◌, ◌⊘◌, 0f, 4ε}
+use Rattle.floats.specs.Small.{abs_of, middle}
 use Rattle.floats.specs.Outcome.{Out, ok, no, bind, need, choose}
 use Rattle.thermo_types.specs.declared.ActivityOptions.{ActivityOptions}
 use Rattle.saturation_temperature.specs.declared.Bracket.{Bracket}
@@ -16,9 +16,6 @@ Point = the_point.Point
 -- the temperature found, K, and the iterations
 abbrev pub Root : Type 0
 Root = the_root.Root
-
-abbrev pub middle : Float → Float → Float
-middle lo hi = lo ⊕ (hi ⊖ lo) ⊘ 2f
 
 -- the bracket after f at its next temperature
 unfoldable pub step_of : Point → Bracket → Bracket

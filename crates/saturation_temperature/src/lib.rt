@@ -12,7 +12,7 @@ ghost use Rattle.thermo_models.specs.Model.{Activity};
 ghost use Rattle.thermo_models.specs.Activity.{activity_of};
 ghost use Rattle.thermo_models.specs.Domain.{pure_liquids_of};
 ghost use Rattle.saturation.specs.Saturation.{dew_at};
-ghost use Rattle.saturation_temperature.specs.Search.{Point, middle, step_of, collapsed, solve_temperature};
+ghost use Rattle.saturation_temperature.specs.Search.{Point, step_of, collapsed, solve_temperature};
 ghost use Rattle.saturation_temperature.specs.Boiling.{bubble_saturation, dew_saturation, bubble_temperature, dew_temperature};
 ghost use Rattle.saturation_temperature.specs.Answers.{activity_from, Weighed, first_in, Evaluates, bubble_tried, dew_tried};
 
@@ -35,6 +35,8 @@ struct Root {
     iterations: u64,
 }
 
+// Kept: Rachford-Rice has such a bracket and such a step. What is one formula, the middle and 4 ε, is shared; the steps and the
+// tests that end the two searches are not alike.
 // A bracket of the root, and the next temperature to try, K.
 #[derive(Clone, Copy)]
 struct Bracket {
@@ -44,13 +46,6 @@ struct Bracket {
 }
 
 // ---- the search, for any f
-
-// Kept: `rachford_rice` has the same line; shared it would be a public function with contract and edits in their place.
-fn middle(lo: f64, hi: f64) -> f64
-    ensures { result ≡ middle lo hi }
-{
-    lo + (hi - lo) / 2.0
-}
 
 // The Newton step where f rises and the step stays inside the bracket, else the middle.
 #[tactic(auto, unfolding(crate::specs::Search::step_of))]
@@ -66,7 +61,7 @@ fn step(f: Point, b: Bracket) -> Bracket
     let next = if (0.0 < f.slope) & (lo < newton) & (newton < hi) {
         newton
     } else {
-        middle(lo, hi)
+        floats::middle(lo, hi)
     };
     Bracket { lo, hi, next }
 }
@@ -80,6 +75,8 @@ fn collapsed(b: Bracket, t: f64) -> bool
 
 // Safeguarded Newton on f(T) = 0 over the bracket of the options, K: f at both ends before either is returned, 26 where they
 // don't bracket the root, 27 where the bracket has collapsed or the limit is used up. Beside the root stands what f had beside it.
+// Kept: the root is written out three times: a function that gives it as an Option is as long with its contract, and three
+// answers more then say which T stands in the option.
 fn solve_temperature<S: Copy, F: Fn(f64) -> Result<(Point, S), Refusal>>(
     f: F,
     o: ActivityOptions,
@@ -116,7 +113,7 @@ fn solve_temperature<S: Copy, F: Fn(f64) -> Result<(Point, S), Refusal>>(
     let mut bracket = Bracket {
         lo,
         hi,
-        next: middle(lo, hi),
+        next: floats::middle(lo, hi),
     };
     for done in 0..o.max_temperature_iterations {
         let t = bracket.next;
@@ -139,6 +136,8 @@ fn solve_temperature<S: Copy, F: Fn(f64) -> Result<(Point, S), Refusal>>(
 }
 
 // ---- the feed
+// Kept: the test of p and the making of a feed, twice: in a function the test wants a law for each way out of it, and a feed's
+// contract is an equation for each of its fields.
 
 // A feed z at a pressure p, Pa, with the book and the parameters of its solvents.
 #[derive(Clone, Copy)]
@@ -154,45 +153,35 @@ struct Feed<'a> {
 
 impl Feed<'_> {
     // Σ w_i, Pa, and Σ w_i (∂ ln γ_i/∂T + d ln p_i^sat/dT), Pa/K, where w = x γ p_sat of each solvent present.
-    // Kept: a loop, here and in dew_slope: a fold's closure gives the sums back in an `else`, and is no plainer.
-    #[tactic(auto, unfolding(crate::specs::Boiling::weight_sum, crate::specs::Boiling::weight_slope, floats::specs::Fold::fold_to))]
     fn weigh(self, lg: &[f64; 8], sl: &[f64; 8], ps: &[f64; 8], dps: &[f64; 8]) -> (f64, f64)
         ensures { Weighed self.entry.z.now lg.now sl.now ps.now dps.now self.entry.m.n result.0 result.1 }
     {
         let x = self.z;
         let gamma = numerics::exps(lg, self.m.n);
-        let mut sum = 0.0;
-        let mut slope = 0.0;
-        for i in 0..self.m.n {
-            if 0.0 < x[i] {
-                let w = x[i] * gamma[i] * ps[i];
-                sum += w;
-                slope += w * (sl[i] + dps[i]);
-            }
-        }
-        (sum, slope)
+        let terms = (0..self.m.n).filter(|&i| 0.0 < x[i]).map(|i| {
+            let w = x[i] * gamma[i] * ps[i];
+            (w, w * (sl[i] + dps[i]))
+        });
+        terms.fold((0.0, 0.0), |s, term| (s.0 + term.0, s.1 + term.1))
     }
 
     // f(T) = ln Σ w_i - ln p, beside ln γ of the feed and the vapor pressures: 13, the activity of the feed (24, 25), then the
     // pure liquids (22, 25).
+    #[tactic(auto, unfolding(crate::specs::Answers::bubble_tried, floats::specs::Outcome::bind))]
     fn try_bubble(self, t: f64) -> Result<(Point, ([f64; 8], [f64; 8])), Refusal>
         ensures { let f = self.entry in outcome_of result ≡ bubble_tried (activity_of f.book.now f.parameters.now f.m.n) (pure_liquids_of f.book.now f.m.n) f.m.n f.p f.z.now t }
     {
         let kelvin = Temperature::new(t)?;
         let mut table = [0.0; 512];
         let s = thermo_models::tables(self.book, self.parameters, self.m.n, kelvin, &mut table);
-        let mut lg = [0.0; 8];
-        let mut sl = [0.0; 8];
-        thermo_models::activity(&table, s, self.z, &mut lg, &mut sl)?;
-        let mut ps = [0.0; 8];
-        let mut dps = [0.0; 8];
-        thermo_models::pure_liquids(self.book, self.m.n, kelvin, &mut ps, &mut dps)?;
-        let (sum, slope) = self.weigh(&lg, &sl, &ps, &dps);
+        let a = thermo_models::activity(&table, s, self.z)?;
+        let pure = thermo_models::pure_liquids(self.book, self.m.n, kelvin)?;
+        let (sum, slope) = self.weigh(&a.ln_gamma, &a.slopes, &pure.pressure, &pure.slope);
         let point = Point {
             value: numerics::ln(sum) - numerics::ln(self.p),
             slope: slope / sum,
         };
-        Ok((point, (lg, ps)))
+        Ok((point, (a.ln_gamma, pure.pressure)))
     }
 
     // The answer at a root, from ln γ of the feed and the vapor pressures there: the bubble point, and its residual at the given pressure.
@@ -250,36 +239,30 @@ pub fn activity_bubble_temperature(
 
 impl Feed<'_> {
     // Σ x_i (∂ ln γ_i/∂T + d ln p_i^sat/dT) over the incipient liquid of the solvents in the vapor, 1/K.
-    #[tactic(auto, unfolding(floats::specs::Fold::fold_to))]
     fn dew_slope(self, liquid: &[f64; 8], sl: &[f64; 8], dps: &[f64; 8]) -> f64
         ensures { result ≡ fold_to (active (at self.entry.z.now) (λ i s. s ⊕ at liquid.now i ⊗ (at sl.now i ⊕ at dps.now i))) 0f self.entry.m.n }
     {
-        let y = self.z;
-        let mut s = 0.0;
-        for i in 0..self.m.n {
-            if 0.0 < y[i] {
-                s += liquid[i] * (sl[i] + dps[i]);
-            }
-        }
-        s
+        let terms = (0..self.m.n)
+            .filter(|&i| 0.0 < self.z[i])
+            .map(|i| liquid[i] * (sl[i] + dps[i]));
+        terms.fold(0.0, |s, term| s + term)
     }
 
     // f(T) = ln p_dew(T) - ln p, beside the dew point and the vapor pressures: 13, the pure liquids (22, 25), then the dew point.
+    #[tactic(auto, unfolding(crate::specs::Answers::dew_tried, floats::specs::Outcome::bind, crate::specs::Boiling::dew_slope))]
     fn try_dew(self, o: ActivityOptions, t: f64) -> Result<(Point, (DewPoint, [f64; 8])), Refusal>
         ensures { let f = self.entry in outcome_of result ≡ dew_tried (activity_of f.book.now f.parameters.now f.m.n) (pure_liquids_of f.book.now f.m.n) f.m.n o f.p f.z.now t }
     {
         let kelvin = Temperature::new(t)?;
-        let mut ps = [0.0; 8];
-        let mut dps = [0.0; 8];
-        thermo_models::pure_liquids(self.book, self.m.n, kelvin, &mut ps, &mut dps)?;
+        let pure = thermo_models::pure_liquids(self.book, self.m.n, kelvin)?;
         let mut table = [0.0; 512];
         let s = thermo_models::tables(self.book, self.parameters, self.m.n, kelvin, &mut table);
-        let d = saturation::dew_at(&table, s, self.z, &ps, o)?;
+        let d = saturation::dew_at(&table, s, self.z, &pure.pressure, o)?;
         let point = Point {
             value: numerics::ln(d.pressure) - numerics::ln(self.p),
-            slope: self.dew_slope(&d.liquid, &d.activity.slopes, &dps),
+            slope: self.dew_slope(&d.liquid, &d.activity.slopes, &pure.slope),
         };
-        Ok((point, (d, ps)))
+        Ok((point, (d, pure.pressure)))
     }
 
     // The answer at a root, from the dew point there: its residual at the given pressure. The count wraps past 2^64, which no

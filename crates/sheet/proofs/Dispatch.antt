@@ -8,10 +8,11 @@ use native.Mathlib.Nat.{min-eq_left}
 use native.Mathlib.Omega.{arith}
 use borrow.Author.Tests.{ne_eqb, le-leb, lt-leb}
 use lib.Dec.{eqb}
-use lib.ListN.{length, drop}
+use lib.ListN.{length, drop, length-append, length-drop}
 use lib.Seq.{length-take-le}
 use lib.Ieee.{Float}
-use Rattle.std.specs.Prelude.{Result, Ok, Err}
+use lib.Ieee.Bits.{is_true}
+use Rattle.std.specs.Prelude.{cond, Result, Ok, Err}
 use Rattle.std.specs.Array.{IsFirstChunk}
 use Rattle.std.specs.Result.{result_unwrap_or}
 use Rattle.std.proofs.lemmas.Bool.Decides.{nat_tests}
@@ -47,11 +48,20 @@ module _ (n : ℕ) where
       pick true e = absurd (refused e)
       pick false e = (refl, cc)
 
-  -- its tests are those of the task; where it is no task's, those of 7
-  same_test : (k : ℕ) → is_task k ≡ true → eqb 7 k ≡ false → (r : Result Task Refusal) → task_found r ≡ need (is_task n) 12 (ok n)
-      → eqb n k ≡ eqb (task_number (result_unwrap_or r task.Flash)) k
-  same_test k t s (Ok u) e = ap (λ (i : ℕ). eqb i k) (numbered e)
-  same_test k t s (Err d) e = ne_eqb n k (λ (q : n ≡ k). true≢false (sym t ∙ ap is_task (sym q) ∙ (no_task e).0)) ∙ sym s
+  -- one that is no task's goes by 7
+  pub by_seven : (r : Result Task Refusal) {u : Task} → u ≡ result_unwrap_or r task.Flash → task_found r ≡ need (is_task n) 12 (ok n) → task_number u ≡ cond (is_task n) n 7
+  by_seven (Ok t) h e = let i = need_inv (is_task n) 12 (ok n) (sym e) in
+      let k : n ≡ task_number t = cc i.1 in
+      rw (h, is_true (is_task n) i.0, k) refl
+  by_seven (Err d) h e = rw (h, (no_task e).0) refl
+
+  -- its tests are those of the task that it goes by
+  same_test : (k : ℕ) → is_task k ≡ true → eqb 7 k ≡ false → (u : Task) → task_number u ≡ cond (is_task n) n 7 → eqb n k ≡ eqb (task_number u) k
+  same_test k t s u e = pick (is_task n) refl e
+    where
+      pick : (b : Bool) → is_task n ≡ b → task_number u ≡ cond b n 7 → eqb n k ≡ eqb (task_number u) k
+      pick true h d = ap (λ (i : ℕ). eqb i k) (sym d)
+      pick false h d = ne_eqb n k (λ (q : n ≡ k). true≢false (sym t ∙ ap is_task (sym q) ∙ h)) ∙ sym s ∙ ap (λ (i : ℕ). eqb i k) (sym d)
 
 -- ---- tasks at a temperature, by the task
 module _ (m : Mixture) (q : Question) (t : Float) where
@@ -63,10 +73,10 @@ module _ (m : Mixture) (q : Question) (t : Float) where
       (choose (eqb k 6) (task6 m q t)
       (bind (positive_of q.pressure 14) (task7 m q t)))))
 
-  module _ {u : Task} (r : Result Task Refusal) (d : u ≡ result_unwrap_or r task.Flash) (e : task_found r ≡ need (is_task q.task) 12 (ok q.task)) where
+  module _ (u : Task) (d : task_number u ≡ cond (is_task q.task) q.task 7) where
     at_named : task_at m q t ≡ named_at (task_number u)
     unfolding task_at
-    at_named = rw (d, same_test q.task 1 refl refl r e, same_test q.task 2 refl refl r e, same_test q.task 3 refl refl r e, same_test q.task 6 refl refl r e)
+    at_named = rw (same_test q.task 1 refl refl u d, same_test q.task 2 refl refl u d, same_test q.task 3 refl refl u d, same_test q.task 6 refl refl u d)
 
     pub at_1 : u ≡ task.Activity → task_at m q t ≡ task1 m q t
     unfolding choose
@@ -97,10 +107,10 @@ module _ (m : Mixture) (q : Question) (t : Float) where
   other_at task.Split a b c d = refl
   other_at task.NegativeSplit a b c d = refl
 
-  pub at_rest : {u : Task} (r : Result Task Refusal) → u ≡ result_unwrap_or r task.Flash → task_found r ≡ need (is_task q.task) 12 (ok q.task)
+  pub at_rest : (u : Task) → task_number u ≡ cond (is_task q.task) q.task 7
       → (u ≡ task.Activity → ⊥) → (u ≡ task.BubblePressure → ⊥) → (u ≡ task.DewPressure → ⊥) → (u ≡ task.Stability → ⊥)
       → task_at m q t ≡ bind (positive_of q.pressure 14) (task7 m q t)
-  at_rest {u} r d e a b c f = at_named r d e ∙ other_at u a b c f
+  at_rest u d a b c f = at_named u d ∙ other_at u a b c f
 
 -- ---- the vapor pressures that it reads
 module _ (m : Mixture) (p t : Float) where
@@ -110,10 +120,10 @@ module _ (m : Mixture) (p t : Float) where
       (choose (eqb k 2 || eqb k 3) (pressures_in (m.liquids t))
       (bind (positive_of p 14) (flash_pressures m t)))
 
-  module _ (n : ℕ) {u : Task} (r : Result Task Refusal) (d : u ≡ result_unwrap_or r task.Flash) (e : task_found r ≡ need (is_task n) 12 (ok n)) where
+  module _ (n : ℕ) (u : Task) (d : task_number u ≡ cond (is_task n) n 7) where
     for_named : pressures_for m n p t ≡ named_for (task_number u)
     unfolding pressures_for
-    for_named = rw (d, same_test n 1 refl refl r e, same_test n 2 refl refl r e, same_test n 3 refl refl r e, same_test n 6 refl refl r e)
+    for_named = rw (same_test n 1 refl refl u d, same_test n 2 refl refl u d, same_test n 3 refl refl u d, same_test n 6 refl refl u d)
 
     pub pressures-unread : (u ≡ task.Activity) ⊎ (u ≡ task.Stability) → pressures_for m n p t ≡ ok zeros8
     unfolding choose
@@ -138,10 +148,10 @@ module _ (m : Mixture) (p t : Float) where
   other_for task.Split a b c d = refl
   other_for task.NegativeSplit a b c d = refl
 
-  pub pressures-rest : (n : ℕ) {u : Task} (r : Result Task Refusal) → u ≡ result_unwrap_or r task.Flash → task_found r ≡ need (is_task n) 12 (ok n)
+  pub pressures-rest : (n : ℕ) (u : Task) → task_number u ≡ cond (is_task n) n 7
       → (u ≡ task.Activity → ⊥) → (u ≡ task.BubblePressure → ⊥) → (u ≡ task.DewPressure → ⊥) → (u ≡ task.Stability → ⊥)
       → pressures_for m n p t ≡ bind (positive_of p 14) (flash_pressures m t)
-  pressures-rest n {u} r d e a b c f = for_named n r d e ∙ other_for u a b c f
+  pressures-rest n u d a b c f = for_named n u d ∙ other_for u a b c f
 
 -- ---- tasks at a pressure
 number_4 : (u : Task) → task_number u ≡ 4 → u ≡ task.BubbleTemperature
@@ -219,9 +229,16 @@ roomed {o} {old = old} l h = same_as (need_yes 10 o (le-leb answer_room (length 
 pub room_long : {old mid : List ℕ} → IsFirstChunk old mid answer_room → length mid ≡ answer_room
 room_long {old} f = rw f.same (length-take-le answer_room old f.enough)
 
+pub in_room : {o : Out (List ℕ)} {r : ℕ} {old mid new : List ℕ} → IsFirstChunk old mid answer_room → length new ≡ answer_room → Answers o r mid new
+    → Answers o r old (new ++ drop answer_room old)
+in_room f l h = in_front answer_room f.enough f.same l h
+
 pub fronted : {o : Out (List ℕ)} {r : ℕ} {old mid new : List ℕ} → IsFirstChunk old mid answer_room → length new ≡ answer_room → Answers o r mid new
     → Answers (roomy (length old) o) r old (new ++ drop answer_room old)
-fronted f l h = roomed f.enough (in_front answer_room f.enough f.same l h)
+fronted f l h = roomed f.enough (in_room f l h)
+
+pub front_long : {old mid : List ℕ} (new : List ℕ) → IsFirstChunk old mid answer_room → length new ≡ answer_room → length (new ++ drop answer_room old) ≡ length old
+front_long new f l = rw (length-append, length-drop, l) (omega (arith, f.enough))
 
 pub unroomed : {o : Out (List ℕ)} {r : ℕ} {old new : List ℕ} → answer_room ≤ length old → Answers (roomy (length old) o) r old new → Answers o r old new
 unfolding roomy

@@ -24,7 +24,7 @@ use Rattle.rachford_rice.specs.Rachford.{Solution, two_phase}
 use Rattle.saturation.specs.Saturation.{bubble_task, dew_task}
 use Rattle.liquid_stability.specs.Stability.{Trials, stability_of}
 use Rattle.liquid_stability.proofs.Counts.{stability_few}
-use Rattle.tp_flash.specs.Tp.{Flash, phases_of}
+use Rattle.tp_flash.specs.Tp.{Flash, trials_of, phases_of}
 use Rattle.tp_flash.proofs.Counts.{phases-few}
 use Rattle.question.specs.declared.Question.{Question}
 use Rattle.replies.specs.Answers.{excess_block, stability_block, flash_block, rice_block}
@@ -84,7 +84,7 @@ module _ (q : Question) {m : Mixture} {s : Tabled} {table : List Float} (h : Tab
   stability-at = rw (table-activity h, h.count)
 
   pub flash-at : (p : Float) {ps : List Float} → flash_pressures m s.t.0 p ≡ ok ps
-      → task7 m q s.t.0 p ≡ bind (phases_of (activity_on table s) (places s.n) q.options q.fractions p ps) (λ f. ok (record { block = flash_block s.t.0 p f; trials = f.trials.trials }))
+      → task7 m q s.t.0 p ≡ bind (phases_of (activity_on table s) (places s.n) q.options q.fractions p ps) (λ f. ok (record { block = flash_block s.t.0 p f; trials = (trials_of f).trials }))
   unfolding task7
   flash-at p w = rw (flash_from m q.options s.t.0 q.fractions p w, table-activity h, h.count)
 
@@ -105,5 +105,5 @@ pub stability_fits : (n : ℕ) (E : List Float → Out Activity) (o : ActivityOp
 stability_fits n E o x {s} e = omega (arith, ((stability_few E (places n) o x).each s (sym e)).count, min-le_right n 8)
 
 pub flash_fits : (E : List Float → Out Activity) (n : ℕ) (o : ActivityOptions) (z : List Float) (p : Float) (ps : List Float) {f : Flash} → ok f ≡ phases_of E (places n) o z p ps
-    → f.trials.count ≤ 8
+    → (trials_of f).count ≤ 8
 flash_fits E n o z p ps {f} e = omega (arith, (phases-few E (places n) o z p ps f (sym e)).count, min-le_right n 8)

@@ -11,7 +11,7 @@ use Rattle.std.specs.Result.{IsErrAnd}
 use Rattle.floats.specs.Vector.{places, zeros8}
 use Rattle.floats.specs.Outcome.{Out, ok, no, bind, need, choose}
 use Rattle.floats.proofs.Outcomes.{refused, bind-no}
-use Rattle.outcome.specs.Refused.{number, outcome_of}
+use Rattle.outcome.specs.Refused.{number}
 use Rattle.outcome.specs.declared.Refusal.{Refusal}
 use Rattle.thermo_types.specs.declared.ActivityOptions.{ActivityOptions}
 use Rattle.thermo_types.specs.declared.Temperature.{Temperature}
@@ -20,7 +20,7 @@ use Rattle.thermo_types.specs.Quantities.{kelvin, pascal, positive_of}
 use Rattle.records.specs.Offered.{with_pair}
 use Rattle.records.specs.Parameters.{parameters_of}
 use Rattle.thermo_models.specs.declared.Tabled.{Tabled}
-use Rattle.thermo_models.specs.Model.{Pures, PuresAre, pressures_of, pressure_in_domain}
+use Rattle.thermo_models.specs.Model.{Pures, pressure_in_domain}
 use Rattle.thermo_models.specs.Activity.{activity_in, activity_on, excess_of, Stands}
 use Rattle.thermo_models.specs.Mixture.{Mixture, activity, mixture_with, mixture_of}
 use Rattle.thermo_models.proofs.Offered.{copy_mixture}
@@ -148,20 +148,6 @@ module _ (m : Mixture) (q : Question) {r : ℕ} where
 
   pub task-refused : bind (positive_of q.temperature 13) (pressures_for m q.task q.pressure) ≡ no r → bind (positive_of q.temperature 13) (task_at m q) ≡ no r
   task-refused e = bind-gone (positive_of q.temperature 13) (pressures_for m q.task q.pressure) (task_at m q) e at-refused
-
--- ---- as the code has them
-pub pures_found : (o : Out Pures) {r : Result (Unit {0}) Refusal} {ps dps : List Float} → PuresAre o r ps dps → outcome_of r ≡ ok tt → pressures_in o ≡ ok ps
-unfolding pressures_in bind pressures_of
-pures_found (ok a) h e = rw h.pressures
-pures_found (no r) h e = absurd (refused (sym h.outcome ∙ e))
-
-same_number : {A : Type 0} {m k : ℕ} → ◌≡◌ {A = Out A} (no m) (no k) → m ≡ k
-same_number e = cc
-
-pub pures_refused : (o : Out Pures) {r : Result (Unit {0}) Refusal} {k : ℕ} {ps dps : List Float} → PuresAre o r ps dps → outcome_of r ≡ no k → pressures_in o ≡ no k
-unfolding pressures_in bind
-pures_refused (ok a) h e = absurd (refused (sym e ∙ h.outcome))
-pures_refused (no m) {k = k} h e = let z : m ≡ k = same_number (sym h.outcome ∙ e) in ap no z
 
 -- they are the book's, whatever its pairs
 pub pressures-copied : (n : ℕ) (book offered : List ℕ) (task : ℕ) (p t : Float) {o : Out (List Float)}

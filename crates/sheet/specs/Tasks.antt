@@ -12,7 +12,7 @@ use Rattle.rachford_rice.specs.declared.RachfordRiceOutcome.TheVariants.{TwoPhas
 use Rattle.saturation.specs.Saturation.{Saturation, bubble_pressure, dew_pressure_point}
 use Rattle.saturation_temperature.specs.Boiling.{bubble_temperature, dew_temperature}
 use Rattle.liquid_stability.specs.Stability.{stability_of}
-use Rattle.tp_flash.specs.Tp.{tp_flash}
+use Rattle.tp_flash.specs.Tp.{trials_of, tp_flash}
 use Rattle.question.specs.Inputs.{needs_temperature, needs_pressure}
 use Rattle.question.specs.declared.Question.{Question}
 use Rattle.replies.specs.declared.AnswerBlock.{AnswerBlock}
@@ -62,7 +62,7 @@ module _ (m : Mixture) (q : Question) where
   unfoldable pub task7 : Float → Float → Out Answer
   task7 t p =
       bind (tp_flash (activity m) m.liquids m.domain m.n q.options t q.fractions p) (λ f.
-      ok (record { block = flash_block t p f; trials = f.trials.trials }))
+      ok (record { block = flash_block t p f; trials = (trials_of f).trials }))
 
   -- 8 `rachford_rice` and 9 `rachford_rice_negative`
   unfoldable pub task8 : Out Answer

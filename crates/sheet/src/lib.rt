@@ -1,15 +1,16 @@
 // The core as the desk calls it: a book, a question and an answer slice.
 #![tactic(auto)]
 
-ghost use Rattle.std.specs.Prelude.{◌≡◌, true, List, ℕ, ◌≤◌, ◌<◌, ◌+◌, ◌*◌, length, Float};
+ghost use Rattle.std.specs.Prelude.{◌≡◌, cond, true, List, ℕ, ◌≤◌, ◌<◌, ◌+◌, ◌*◌, length, Float};
 ghost use Rattle.floats.specs.Vector.{places};
 ghost use Rattle.floats.specs.Outcome.{ok, bind};
 ghost use Rattle.outcome.specs.Refused.{outcome_of, number_in};
 ghost use Rattle.thermo_types.specs.Quantities.{positive_of};
+ghost use Rattle.book.specs.Book.{rule_of};
 ghost use Rattle.records.specs.Offered.{with_pair};
 ghost use Rattle.thermo_models.specs.Domain.{pure_liquids_of};
 ghost use Rattle.thermo_models.specs.Mixture.{mixture_with, mixture_of};
-ghost use Rattle.question.specs.Inputs.{task_number, needs_temperature};
+ghost use Rattle.question.specs.Inputs.{is_task, task_number, needs_temperature};
 ghost use Rattle.replies.specs.Blocks.{answer_room, answer_bytes};
 ghost use Rattle.sheet.specs.Tasks.{alone, saturated, task1, task6, task7, task_at, task_under, task_of};
 ghost use Rattle.sheet.specs.Ready.{pressures_in, flash_pressures, pressures_for, TableOf, Readied};
@@ -42,7 +43,8 @@ struct Source<'a> {
 }
 
 // Tables, what they stand for, and the vapor pressures that the task reads.
-// Kept: no ghost field says that the tables stand for the mixture. `answer_ready` is asked with any, and only its ensures has that as a premise.
+// Kept: no ghost field says that the tables stand for the mixture: `answer_ready` is asked with any, and only its ensures has that
+// as a premise.
 #[derive(Clone, Copy)]
 struct Made<'a> {
     table: &'a [f64; 512],
@@ -58,17 +60,23 @@ struct Asked<'a> {
     q: &'a Question,
 }
 
+// A number that is no task's goes by 7: `make_ready` and `answer_ready` are public, and take any.
+fn task_or_flash(number: u64) -> Task
+    ensures { task_number result ≡ cond (is_task number) number 7 }
+{
+    Task::try_from(number).unwrap_or(Task::Flash)
+}
+
 // ---- what the tasks at a temperature share, whatever the feed
 
 impl<'a> Source<'a> {
     // Of the pure liquids: 22, 25.
+    #[tactic(auto, using(outcome::proofs::Exits::met), unfolding(crate::specs::Ready::pressures_in, floats::specs::Outcome::bind))]
     fn pure_pressures(self, t: Temperature) -> Result<[f64; 8], Refusal>
         ensures { outcome_of result ≡ pressures_in (pure_liquids_of self.entry.book.now (places self.entry.n) t.0) }
     {
-        let mut ps = [0.0; 8];
-        let mut dps = [0.0; 8];
-        thermo_models::pure_liquids(self.book, self.n, t, &mut ps, &mut dps)?;
-        Ok(ps)
+        let pure = thermo_models::pure_liquids(self.book, self.n, t)?;
+        Ok(pure.pressure)
     }
 
     // A flash's: 22, 23, 25.
@@ -85,12 +93,13 @@ impl<'a> Source<'a> {
         self.pure_pressures(t)
     }
 
-    // Those that the task reads; a number that is no task's reads those of 7.
-    // Kept: a number, since `make_ready` is public and takes any; so in `ready` and `task_at`.
+    // Those that the task reads.
+    // Kept: a number, here and in `ready`: `Readied` speaks of one, and of those that are no task's. A match is the definition by
+    // cases.
     fn pressures_for(self, task: u64, pressure: f64, t: Temperature) -> Result<[f64; 8], Refusal>
         ensures { (P : List Float) (copy : List ℕ) → outcome_of result ≡ pressures_for (mixture_with self.entry.book.now P copy (places self.entry.n)) task pressure t.0 }
     {
-        match Task::try_from(task).unwrap_or(Task::Flash) {
+        match task_or_flash(task) {
             Task::Activity | Task::Stability => Ok([0.0; 8]),
             Task::BubblePressure | Task::DewPressure => self.pure_pressures(t),
             _ => {
@@ -127,6 +136,7 @@ impl<'a> Source<'a> {
     }
 }
 
+// Kept: tables and pressures are the caller's memory, which batch keeps from feed to feed, here and in `ready`.
 // What the tasks at a temperature share for a book of n solvents, as `answer_ready` takes it: the tables and vapor pressures that
 // the task reads. What the tables stand for; or 13, 14, 22, 23, or 25 of a vapor pressure.
 pub fn make_ready(
@@ -147,6 +157,17 @@ pub fn make_ready(
 // ---- the tasks, each with its blocks at the front of the room for an answer
 
 impl<'a> Asked<'a> {
+    // By the rule of the book.
+    fn of(source: Source<'a>, q: &'a Question) -> Asked<'a>
+        ensures { result ≡ record { rule = rule_of source.entry.book.now; source = source.entry; q = q.entry } }
+    {
+        Asked {
+            rule: book::rule_of(source.book),
+            source,
+            q,
+        }
+    }
+
     // An answer, and its trials in the blocks behind it, as many as word 12 says.
     fn write_answer(
         self,
@@ -190,6 +211,8 @@ impl<'a> Asked<'a> {
     }
 
     // Tasks 2 to 5, from what their solver found.
+    // Kept: two lines, as `split`: one function over the block's would need clauses that the block's can be called, what it gives
+    // and that this has no trials; and these two still, for their five callers.
     fn saturated(
         self,
         found: Result<ActivitySaturation, Refusal>,
@@ -225,7 +248,8 @@ impl<'a> Asked<'a> {
         let q = self.q;
         let f = tp_flash::activity_tp_flash(table, at, q.options, &q.fractions, p, ps)?;
         let b = flash_block(at.t.value(), p.value(), f);
-        self.write_answer(b, &f.trials.trials, out);
+        let trials = f.trials.unwrap_or(liquid_stability::no_trials());
+        self.write_answer(b, &trials.trials, out);
         Ok(())
     }
 
@@ -242,14 +266,15 @@ impl<'a> Asked<'a> {
         Ok(())
     }
 
-    // Tasks 1, 2, 3, 6 and 7; a number that is no task's goes by 7.
+    // Tasks 1, 2, 3, 6 and 7.
+    // Kept: a match, the definition by cases.
     fn task_at(self, made: Made, out: &mut [u8; ANSWER_ROOM]) -> Result<(), Refusal>
         ensures answers { TableOf (mixture_in self.entry.source) made.entry.at made.entry.table.now → pressures_for (mixture_in self.entry.source) self.entry.q.now.task self.entry.q.now.pressure made.entry.at.t.0 ≡ ok made.entry.ps.now → Answers (bytes_for self.entry (task_at (mixture_in self.entry.source) self.entry.q.now made.entry.at.t.0)) (number_in result) out.old out.new }
         ensures long { length out.new ≡ answer_room }
     {
         let Made { table, at, ps } = made;
         let q = self.q;
-        match Task::try_from(q.task).unwrap_or(Task::Flash) {
+        match task_or_flash(q.task) {
             Task::Activity => self.activity(made, out),
             Task::BubblePressure => {
                 self.saturated(activity_bubble_pressure(table, at, &q.fractions, ps), out)
@@ -302,6 +327,7 @@ impl<'a> Asked<'a> {
     }
 
     // Every task; a number that is no task's is refused with 12.
+    // Kept: a match, the definition by cases.
     fn solve(self, out: &mut [u8; ANSWER_ROOM]) -> Result<(), Refusal>
         ensures answers { Answers (bytes_for self.entry (task_of (mixture_in self.entry.source) self.entry.q.now)) (number_in result) out.old out.new }
         ensures long { length out.new ≡ answer_room }
@@ -341,22 +367,20 @@ pub fn answer_offered(
     q: Question,
     out: &mut [u8],
 ) -> Result<(), Refusal>
-    ensures { Answers (roomy (length out.old) (answer_to (with_pair (places n) book.now offered.now) (places n) q)) (number_in result) out.old out.new }
+    ensures answers { Answers (roomy (length out.old) (answer_to (with_pair (places n) book.now offered.now) (places n) q)) (number_in result) out.old out.new }
+    ensures long { length out.new ≡ length out.old }
 {
     let Some(room) = out.first_chunk_mut::<ANSWER_ROOM>() else {
         return Err(Refusal::AnswerShort);
     };
-    let asked = Asked {
-        rule: book::rule_of(book),
-        source: Source { book, offered, n },
-        q: &q,
-    };
+    let asked = Asked::of(Source { book, offered, n }, &q);
     asked.solve(room)
 }
 
 // The answer to a question that was read, for a book of n solvents with its own pairs: 10, then the task's own numbers.
 pub fn answer_asked(book: &[u8], n: usize, q: Question, out: &mut [u8]) -> Result<(), Refusal>
-    ensures { Answers (roomy (length out.old) (answer_to book.now (places n) q)) (number_in result) out.old out.new }
+    ensures answers { Answers (roomy (length out.old) (answer_to book.now (places n) q)) (number_in result) out.old out.new }
+    ensures long { length out.new ≡ length out.old }
 {
     answer_offered(book, b"", n, q, out)
 }
@@ -371,18 +395,15 @@ pub fn answer_ready(
     q: Question,
     out: &mut [u8],
 ) -> Result<(), Refusal>
-    ensures { needs_temperature q.task ≡ true → Readied (mixture_of book.now (places n)) q.task q.temperature q.pressure made table.now ps.now → Answers (roomy (length out.old) (answer_to book.now (places n) q)) (number_in result) out.old out.new }
+    ensures answers { needs_temperature q.task ≡ true → Readied (mixture_of book.now (places n)) q.task q.temperature q.pressure made table.now ps.now → Answers (roomy (length out.old) (answer_to book.now (places n) q)) (number_in result) out.old out.new }
+    ensures long { length out.new ≡ length out.old }
 {
     let Some(room) = out.first_chunk_mut::<ANSWER_ROOM>() else {
         return Err(Refusal::AnswerShort);
     };
     let at = made?;
     let offered = b"";
-    let asked = Asked {
-        rule: book::rule_of(book),
-        source: Source { book, offered, n },
-        q: &q,
-    };
+    let asked = Asked::of(Source { book, offered, n }, &q);
     asked.task_at(Made { table, at, ps }, room)
 }
 
@@ -395,11 +416,11 @@ pub fn answer_opened(
 ) -> Result<(), Refusal>
     ensures { Answers (sheet_from book.now head.version (places head.n) question.now (length out.old)) (number_in result) out.old out.new }
 {
-    if out.len() < ANSWER_ROOM {
+    let Some(room) = out.first_chunk_mut::<ANSWER_ROOM>() else {
         return Err(Refusal::AnswerShort);
-    }
+    };
     let q = read_question(book::rule_of(book), question, head.version, book, head.n)?;
-    answer_asked(book, head.n, q, out)
+    answer_asked(book, head.n, q, room)
 }
 
 // The answer's blocks at the front of the slice; or the question that was answered no, and the slice as it was.

@@ -1,8 +1,6 @@
 // Reads book.bin and a question on standard input, and writes the answer's blocks, or one block with the refusal's number.
 #![tactic(auto)]
 
-ghost use Rattle.std.specs.Prelude.{◌≡◌, length};
-ghost use Rattle.replies.specs.Blocks.{answer_room};
 ghost use Rattle.still.specs.Sent.{Sent};
 
 use replies::ANSWER_ROOM;
@@ -13,8 +11,7 @@ const BOOK_BYTES: usize = 19456;
 const QUESTION_BYTES: usize = 513;
 
 // The reply to the bytes that were read, at the front of `out`: how many bytes it has.
-fn reply(book: &[u8], question: &[u8], out: &mut [u8]) -> usize
-    requires { length out.old ≡ answer_room }
+fn reply(book: &[u8], question: &[u8], out: &mut [u8; ANSWER_ROOM]) -> usize
     ensures { Sent book.now question.now result out.new }
 {
     match sheet::answer(book, question, out) {

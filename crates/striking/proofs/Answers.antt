@@ -21,7 +21,7 @@ use Rattle.rachford_rice.specs.declared.RachfordRiceOutcome.TheVariants.{LiquidO
 use Rattle.rachford_rice.specs.Rachford.{Solution}
 use Rattle.saturation.specs.Saturation.{Saturation}
 use Rattle.liquid_stability.specs.Stability.{Trials, no_trial, stability_of}
-use Rattle.tp_flash.specs.Tp.{Flash, tp_flash}
+use Rattle.tp_flash.specs.Tp.{Flash, trials_of, tp_flash}
 use Rattle.question.specs.declared.Question.{Question}
 use Rattle.replies.specs.declared.State.{State}
 use Rattle.replies.specs.declared.ModelState.{ModelState}
@@ -142,8 +142,8 @@ module _ (keep : ℕ → Bool) (n : ℕ) (small : n ≤ 8) where
     trials = h.trials;
   }
 
-  flash_answer_lem : (t p : Float) (f f' : Flash) → SameFlash keep n f f' → f.trials.count ≤ n
-      → SameAnswer keep n (record { block = flash_block t p f; trials = f.trials.trials }) (record { block = flash_block t p f'; trials = f'.trials.trials })
+  flash_answer_lem : (t p : Float) (f f' : Flash) → SameFlash keep n f f' → (trials_of f).count ≤ n
+      → SameAnswer keep n (record { block = flash_block t p f; trials = (trials_of f).trials }) (record { block = flash_block t p f'; trials = (trials_of f').trials })
   flash_answer_lem t p f f' h l = record {
     outcome = ap phase_number h.phases;
     state = same-state _ _ (≈refl t) (≈refl p) (same h.bubble) (same h.dew) h.iterations h.residual h.balance (same h.vapor_fraction) h.trials.count h.notes;

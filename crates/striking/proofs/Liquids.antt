@@ -130,7 +130,7 @@ module _ (keep : ℕ → Bool) where
 
 module _ (keep : ℕ → Bool) (n : ℕ) (small : n ≤ 8) (book book' : List ℕ) (hb : KeptSolvents keep n book book') (t : Float) where
   abbrev stored : Pures → ℕ → Vapor → Pures
-  stored p k v = record { pressure = set p.pressure k v.pressure; slope = set p.slope k v.d_ln_pressure_dt }
+  stored p k v = record { pressure = set p.pressure k v.pressure; slope = set p.slope k v.ln.slope }
 
   abbrev next : List ℕ → ℕ → Pures → Out Pures
   next book k p = bind (vapor_pressure_of (vapor_record book k) t) (λ v. ok (stored p k v))
@@ -141,7 +141,7 @@ module _ (keep : ℕ → Bool) (n : ℕ) (small : n ≤ 8) (book book' : List �
       (acc_then _ _ _ _ (acc_same (vapor_pressure_of (vapor_record book k) t)) (λ v.
       acc_ok (record {
         pressures = store_kept keep k (le_trans l small) q p.pressure p'.pressure h.pressures v.pressure;
-        slopes = store_kept keep k (le_trans l small) q p.slope p'.slope h.slopes v.d_ln_pressure_dt;
+        slopes = store_kept keep k (le_trans l small) q p.slope p'.slope h.slopes v.ln.slope;
       })))
 
   next-struck : (k : ℕ) → T (not (keep k)) → (p p' : Pures) → Filled keep k p p' → Acc (Filled keep (suc k)) (next book k p) (ok p')
@@ -149,7 +149,7 @@ module _ (keep : ℕ → Bool) (n : ℕ) (small : n ≤ 8) (book book' : List �
       acc_drop (vapor_pressure_of (vapor_record book k) t) (λ v. ok (stored p k v)) (ok p') (λ v.
       acc_ok (record {
         pressures = store-struck keep k q p.pressure p'.pressure h.pressures v.pressure;
-        slopes = store-struck keep k q p.slope p'.slope h.slopes v.d_ln_pressure_dt;
+        slopes = store-struck keep k q p.slope p'.slope h.slopes v.ln.slope;
       }))
 
   strike_pures_to : (k : ℕ) → k ≤ n → Acc (Filled keep k) (pures_to book t k) (pures_to book' t (cnt keep k))

@@ -1,5 +1,5 @@
 -- What a longer and a shorter call of a model or a solver answer alike: kept entries at their new places, up to the sign of zero, all counts and notes equal. Assumes nothing.
-use Rattle.std.specs.Prelude.{ℕ, ◌<◌, ◌≡◌, Bool, get_or, T}
+use Rattle.std.specs.Prelude.{ℕ, ◌<◌, ◌≡◌, Bool, get_or, T, is_some}
 use Rattle.floats.specs.Vector.{at}
 use Rattle.thermo_models.specs.Model.{Activity, Pures}
 use Rattle.rachford_rice.specs.declared.RachfordRice.{RachfordRice}
@@ -7,7 +7,7 @@ use Rattle.rachford_rice.specs.Rachford.{Solution}
 use Rattle.saturation.specs.Saturation.{Saturation}
 use Rattle.liquid_stability.specs.declared.LiquidStabilityTrial.{LiquidStabilityTrial}
 use Rattle.liquid_stability.specs.Stability.{Trials, no_trial}
-use Rattle.tp_flash.specs.Tp.{Flash}
+use Rattle.tp_flash.specs.Tp.{Flash, trials_of}
 use Rattle.zeros.specs.Same.{◌≈◌}
 use Rattle.striking.specs.Places.{cnt}
 use Rattle.striking.specs.Related.{Fractions}
@@ -72,5 +72,5 @@ pub record SameFlash (keep : ℕ → Bool) (n : ℕ) (a b : Flash) : Type 0 wher
   pub notes : a.notes ≡ b.notes
   pub liquid : Fractions keep n (at a.liquid) (at b.liquid)
   pub vapor : Fractions keep n (at a.vapor) (at b.vapor)
-  pub tested : a.tested ≡ b.tested
-  pub trials : SameTrials keep n a.trials b.trials
+  pub tested : is_some a.trials ≡ is_some b.trials
+  pub trials : SameTrials keep n (trials_of a) (trials_of b)

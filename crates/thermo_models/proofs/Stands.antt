@@ -1,16 +1,17 @@
 -- The excess state of a table made by `tables` is that of the parameters, and what `excess` gives is what `activity` gives. Assumes nothing.
 use Prim.Native.Nat.{ℕ}
-use mathlib.Core.Path.{◌≡◌, sym, ◌∙◌}
+use mathlib.Core.Path.{◌≡◌, sym, ap, ◌∙◌}
 use mathlib.Core.List.{List}
 use native.Mathlib.Omega.{arith}
 use lib.ListN.{length}
 use lib.Ieee.{Float}
 use Rattle.floats.specs.Vector.{at, places}
 use Rattle.floats.specs.Outcome.{Out, ok, no, bind}
+use Rattle.floats.proofs.Outcomes.{refused}
 use Rattle.thermo_types.specs.declared.Temperature.{Temperature}
-use Rattle.std.specs.Prelude.{Result, Ok}
+use Rattle.std.specs.Prelude.{Result, Ok, Err}
 use Rattle.outcome.specs.declared.Refusal.{Refusal}
-use Rattle.outcome.specs.Refused.{outcome_of}
+use Rattle.outcome.specs.Refused.{number}
 use Rattle.book.specs.declared.Model.{Model}
 use Rattle.book.specs.declared.Model.TheVariants.{Nrtl, Wilson}
 use Rattle.book.specs.Book.{model_of}
@@ -22,14 +23,13 @@ use Rattle.nrtl.proofs.Tabled.{nrtl_filled}
 use Rattle.wilson_tables.specs.Table.{lambdas_of}
 use Rattle.wilson.proofs.Tabled.{wilson_filled}
 use Rattle.thermo_models.specs.declared.Tabled.{Tabled}
-use Rattle.thermo_models.specs.Model.{ActivityIs, ln_gamma_of, slopes_of}
 use Rattle.thermo_models.specs.Activity.{activity_in, excess_by, excess_of, model_on, excess_on, table_by, alphas_by, tabled_by, Made, Stands}
 
 -- ---- the table
 pub nrtl_made : (P : List Float) (n : ℕ) (t : Temperature) {k : Model} {v : Result (Unit {0}) Refusal} {m : ℕ} {old new : List Float} → k ≡ Nrtl → Filled P (places n) t.0 v old new → m ≡ places n
     → Made Nrtl P (places n) t (record { model = k; alphas = v; n = m; t = t }) old new
 unfolding tabled_by alphas_by table_by
-nrtl_made P n t q h e = record { said = rw (q, e, h.verdict); table = h.table }
+nrtl_made P n t q h e = record { said = rw (q, e, h.alphas); table = h.table }
 
 pub wilson_made : (P : List Float) (n : ℕ) (t : Temperature) {k : Model} {m : ℕ} {old new : List Float} → k ≡ Wilson → new ≡ lambdas_of P (places n) t.0 old → m ≡ places n
     → Made Wilson P (places n) t (record { model = k; alphas = Ok tt; n = m; t = t }) old new
@@ -54,8 +54,12 @@ stands M book P n t {k} {r} {old} {new} p q h =
     }
 
 -- ---- the activity of an excess state
-pub activity-is : (o : Out Excess) {e : Result Energies Refusal} {r : Result (Unit {0}) Refusal} {lg sl : List Float} → Gives o e lg sl
-    → outcome_of r ≡ bind (outcome_of e) (λ _. ok tt) → ActivityIs (activity_in o) r lg sl
-unfolding activity_in bind energies_of excess_ln_gammas excess_slopes ln_gamma_of slopes_of
-activity-is (ok s) g q = record { outcome = q ∙ rw g.energies; values = g.values; slopes = g.slopes }
-activity-is (no r) g q = record { outcome = q ∙ rw g.energies; values = g.values; slopes = g.slopes }
+pub activity-given : (o : Out Excess) {e : Energies} {lg sl : List Float} → Gives o (Ok e) lg sl → ok (record { ln_gamma = lg; slopes = sl }) ≡ activity_in o
+unfolding activity_in bind energies_of excess_ln_gammas excess_slopes
+activity-given (ok s) g = rw (g.values, g.slopes)
+activity-given (no r) g = absurd (refused (sym g.energies))
+
+pub activity-none : (o : Out Excess) {r : Refusal} {lg sl : List Float} → Gives o (Err r) lg sl → no (number r) ≡ activity_in o
+unfolding activity_in bind energies_of
+activity-none (ok s) g = absurd (refused g.energies)
+activity-none (no k) {r = r} g = let q : number r ≡ k = cc g.energies in ap no q

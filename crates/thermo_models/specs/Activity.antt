@@ -8,7 +8,7 @@ use Rattle.book.specs.declared.Model.{Model}
 use Rattle.book.specs.declared.Model.TheVariants.{Nrtl, Wilson}
 use Rattle.book.specs.Book.{model_of}
 use Rattle.excess.specs.State.{Excess}
-use Rattle.nrtl_tables.specs.Table.{table_of, table_verdict}
+use Rattle.nrtl_tables.specs.Table.{table_of, alphas_of}
 use Rattle.nrtl.specs.State.{nrtl_of}
 use Rattle.nrtl.specs.On.{nrtl_on}
 use Rattle.wilson_tables.specs.Table.{lambdas_of}
@@ -50,7 +50,7 @@ table_by Nrtl P n t old = table_of P n t old
 table_by Wilson P n t old = lambdas_of P n t old
 
 unfoldable pub alphas_by : Model → List Float → ℕ → Float → Result (Unit {0}) Refusal
-alphas_by Nrtl P n t = table_verdict P n t
+alphas_by Nrtl P n t = alphas_of P n t
 alphas_by Wilson P n t = Ok tt
 
 unfoldable pub tabled_by : Model → List Float → ℕ → Temperature → Tabled

@@ -35,7 +35,7 @@ pures_to book t zero = ok (record { pressure = zeros8; slope = zeros8 })
 pures_to book t (suc k) =
     bind (pures_to book t k) (λ p.
     bind (vapor_pressure_of (vapor_record book k) t) (λ v.
-    ok (record { pressure = set p.pressure k v.pressure; slope = set p.slope k v.d_ln_pressure_dt })))
+    ok (record { pressure = set p.pressure k v.pressure; slope = set p.slope k v.ln.slope })))
 
 -- `pure_liquids`: the domain (22), then each vapor pressure (25)
 unfoldable pub pure_liquids_of : List ℕ → ℕ → Float → Out Pures

@@ -12,7 +12,8 @@ ghost use Rattle.numerics.specs.Numerics.{exp_of};
 ghost use Rattle.records.specs.Offered.{offered_place, with_pair};
 ghost use Rattle.liquid.specs.Vapor.{vapor_of};
 ghost use Rattle.excess.specs.Answers.{Gives};
-ghost use Rattle.thermo_models.specs.Model.{ActivityIs, PuresAre, pressure_in_domain};
+ghost use Rattle.outcome.specs.Refused.{outcome_of};
+ghost use Rattle.thermo_models.specs.Model.{pressure_in_domain};
 ghost use Rattle.thermo_models.specs.Domain.{vapor_record, solvent_covers, temperature_in_domain, pures_to, pure_liquids_of};
 ghost use Rattle.thermo_models.specs.Activity.{excess_on, activity_on, Stands};
 ghost use Rattle.thermo_models.specs.Validity.{noted, visited, row_seen, all_seen, status_of, validity_of};
@@ -74,19 +75,27 @@ pub fn check_pressure(p: f64) -> bool
 
 // ---- the pure liquids at a temperature
 
+// p_i^sat, Pa, and d ln p_i^sat/dT, 1/K.
+#[derive(Clone, Copy)]
+pub struct PurePressures {
+    pub pressure: [f64; 8],
+    pub slope: [f64; 8],
+}
+
 // p of ln p, two solvents to a step.
 // Kept: `numerics::exps` says nothing of the entries past n, so that a loop that clears them would follow it, and an odd n has one exp more.
 #[tactic(auto, unfolding(floats::specs::Vector::fill))]
-fn fill_pressures(ls: &[f64; 8], m: Count, ps: &mut [f64; 8])
-    ensures { ps.new ≡ vec (λ i. exp_of (at ls.now i)) m.n }
+fn pressures(ls: &[f64; 8], m: Count) -> [f64; 8]
+    ensures { result ≡ vec (λ i. exp_of (at ls.now i)) m.n }
 {
-    *ps = [0.0; 8];
+    let mut ps = [0.0; 8];
     for i in 0..m.n / 2 {
         (ps[2 * i], ps[2 * i + 1]) = numerics::exp_two(ls[2 * i], ls[2 * i + 1]);
     }
     if m.n % 2 == 1 {
         ps[m.n - 1] = numerics::exp(ls[m.n - 1]);
     }
+    ps
 }
 
 fn all_representable(ps: &[f64; 8], ls: &[f64; 8], dps: &[f64; 8], cs: &[f64; 8], m: Count) -> bool
@@ -97,12 +106,12 @@ fn all_representable(ps: &[f64; 8], ls: &[f64; 8], dps: &[f64; 8], cs: &[f64; 8]
 
 impl Solvents<'_> {
     // ln p and its two derivatives of each.
-    // Kept: the slopes are the caller's own array; as [Logarithm; 8] they would be copied out of it in a loop more.
+    // Kept: the slopes are the answer's own array; as [Logarithm; 8] they would be copied out of it in a loop more.
     #[tactic(auto, unfolding(floats::specs::Vector::fill))]
     fn fill_logarithms(self, ls: &mut [f64; 8], dps: &mut [f64; 8], cs: &mut [f64; 8])
-        ensures ls_after { let s = self.entry in ls.new ≡ vec (λ i. (vapor_of (vapor_record s.book.now i) s.t).ln_pressure) s.m.n }
-        ensures dps_after { let s = self.entry in dps.new ≡ vec (λ i. (vapor_of (vapor_record s.book.now i) s.t).d_ln_pressure_dt) s.m.n }
-        ensures cs_after { let s = self.entry in cs.new ≡ vec (λ i. (vapor_of (vapor_record s.book.now i) s.t).d2_ln_pressure_dt2) s.m.n }
+        ensures ls_after { let s = self.entry in ls.new ≡ vec (λ i. (vapor_of (vapor_record s.book.now i) s.t).ln.value) s.m.n }
+        ensures dps_after { let s = self.entry in dps.new ≡ vec (λ i. (vapor_of (vapor_record s.book.now i) s.t).ln.slope) s.m.n }
+        ensures cs_after { let s = self.entry in cs.new ≡ vec (λ i. (vapor_of (vapor_record s.book.now i) s.t).ln.curvature) s.m.n }
     {
         *ls = [0.0; 8];
         *dps = [0.0; 8];
@@ -115,39 +124,33 @@ impl Solvents<'_> {
         }
     }
 
-    // In the ranges of all: refused where a vapor pressure isn't representable.
-    fn fill_pures(self, ps: &mut [f64; 8], dps: &mut [f64; 8]) -> Result<(), Refusal>
+    // In the ranges of all: 25 where a vapor pressure isn't representable.
+    fn pures(self) -> Result<PurePressures, Refusal>
         requires { all_to (solvent_covers self.book.now self.t) self.m.n ≡ true }
-        ensures { let s = self.entry in PuresAre (pures_to s.book.now s.t s.m.n) result ps.new dps.new }
+        ensures { let s = self.entry in outcome_of result ≡ pures_to s.book.now s.t s.m.n }
     {
         let mut ls = [0.0; 8];
+        let mut slope = [0.0; 8];
         let mut cs = [0.0; 8];
-        self.fill_logarithms(&mut ls, dps, &mut cs);
-        fill_pressures(&ls, self.m, ps);
-        if !all_representable(ps, &ls, dps, &cs, self.m) {
-            excess::clear(ps, dps);
+        self.fill_logarithms(&mut ls, &mut slope, &mut cs);
+        let pressure = pressures(&ls, self.m);
+        if !all_representable(&pressure, &ls, &slope, &cs, self.m) {
             return Err(Refusal::ResultNotFinite);
         }
-        Ok(())
+        Ok(PurePressures { pressure, slope })
     }
 }
 
-// p_sat (Pa) and its logarithmic slope (1/K) of each of the book's first n solvents at t; zeros with a refusal.
-pub fn pure_liquids(
-    book: &[u8],
-    n: usize,
-    t: Temperature,
-    ps: &mut [f64; 8],
-    dps: &mut [f64; 8],
-) -> Result<(), Refusal>
-    ensures { PuresAre (pure_liquids_of book.now (places n) t.0) result ps.new dps.new }
+// The pure liquids of the book's first n solvents at t: 22, then 25.
+#[tactic(auto, unfolding(crate::specs::Domain::pure_liquids_of, floats::specs::Outcome::need))]
+pub fn pure_liquids(book: &[u8], n: usize, t: Temperature) -> Result<PurePressures, Refusal>
+    ensures { outcome_of result ≡ pure_liquids_of book.now (places n) t.0 }
 {
     if !check_temperature(book, n, t) {
-        excess::clear(ps, dps);
         return Err(Refusal::TemperatureOutside);
     }
     let (m, t) = (Count::of(n), t.value());
-    Solvents { book, m, t }.fill_pures(ps, dps)
+    Solvents { book, m, t }.pures()
 }
 
 // ---- excess state and activity
@@ -179,6 +182,7 @@ pub fn tables(
     ensures { Stands book.now parameters.now (places n) t result table.old table.new }
 {
     let model = book::model_of(book);
+    // Kept: a match: the definition by cases, here and in `excess`.
     let alphas = match model {
         Model::Nrtl => nrtl_tables::tables(parameters, n, t, table),
         Model::Wilson => {
@@ -195,7 +199,8 @@ pub fn tables(
 }
 
 // ln γ, slopes and energies of x, from a table and what it stands for.
-// Kept: table and Tabled, ln γ and slopes stand apart in public functions: the 512 cells are the caller's memory, and a Tabled is copied.
+// Kept: a table and what it stands for are two parameters of each public call, since `tables` fills the one and gives the other.
+// ln γ and slopes go into the caller's arrays, as in the models: by value they take 26 ns more here, half of an activity of two.
 #[tactic(auto, unfolding(crate::specs::Activity::excess_on, crate::specs::Activity::model_on))]
 pub fn excess(
     table: &[f64; 512],
@@ -217,20 +222,21 @@ pub fn activity(
     table: &[f64; 512],
     s: Tabled,
     x: &[f64; 8],
-    lg: &mut [f64; 8],
-    sl: &mut [f64; 8],
-) -> Result<(), Refusal>
-    ensures { ActivityIs (activity_on table.now s x.now) result lg.new sl.new }
+) -> Result<ActivityCoefficients, Refusal>
+    ensures { outcome_of result ≡ activity_on table.now s x.now }
 {
-    excess(table, s, x, lg, sl)?;
-    Ok(())
+    let mut ln_gamma = [0.0; 8];
+    let mut slopes = [0.0; 8];
+    excess(table, s, x, &mut ln_gamma, &mut slopes)?;
+    Ok(ActivityCoefficients { ln_gamma, slopes })
 }
 
 // ---- validity
 
 // Extrapolated: T outside an interval of a pair present. Unassessed: a pair without interval, or no pair present.
-#[derive(Clone, Copy)]
+#[derive(Clone, Copy, Default)]
 pub enum ValidityStatus {
+    #[default]
     Unassessed,
     WithinDeclaredDomain,
     Extrapolated,
@@ -271,13 +277,12 @@ fn note(interval: Option<Interval>, t: f64, s: Seen) -> Seen
 }
 
 // The pairs of a book, at a temperature and a composition; one offered stands in the place of the book's own.
-// Kept: records has book, offered, place and m as a struct of its own, a private one, whose blocks it reads; here its public function does.
+// Kept: records has book, offered, place and m in a private struct of its own, which reads blocks; shared it would be public.
 #[derive(Clone, Copy)]
 struct Present<'a> {
     book: &'a [u8],
     offered: &'a [u8],
-    // Kept: 0 for no pair, as `records` has it: block 0 is no pair's, so one test of the place serves both.
-    place: usize,
+    place: Option<usize>,
     m: Count,
     t: f64,
     x: &'a [f64; 8],
@@ -285,6 +290,7 @@ struct Present<'a> {
 }
 
 impl Present<'_> {
+    #[tactic(auto, unfolding(crate::specs::Validity::visited))]
     fn visit(self, i: usize, j: usize, s: Seen) -> Seen
         requires { (i < j) × (j < self.m.n) }
         ensures { let p = self.entry in result ≡ visited (with_pair p.m.n p.book.now p.offered.now) p.m.n p.t p.x.now i j s }
@@ -297,6 +303,7 @@ impl Present<'_> {
         }
     }
 
+    // Kept: a `for` that hands on what was seen, here and in `see_all`: a fold's closure would be this body.
     fn see_row(self, i: usize, mut s: Seen) -> Seen
         requires { i < self.m.n }
         ensures { let p = self.entry in result ≡ row_seen (with_pair p.m.n p.book.now p.offered.now) p.m.n p.t p.x.now i p.m.n s }
@@ -307,6 +314,7 @@ impl Present<'_> {
         s
     }
 
+    #[tactic(auto, unfolding(floats::specs::Fold::fold_to, crate::specs::Validity::all_seen))]
     fn see_all(self) -> Seen
         ensures { let p = self.entry in result ≡ all_seen (with_pair p.m.n p.book.now p.offered.now) p.m.n p.t p.x.now }
     {

@@ -13,6 +13,7 @@ ghost use Rattle.thermo_types.specs.Composition.{all_finite, none_negative, all_
 use outcome::Refusal;
 
 // Kelvin. The field is private: `new` alone makes one.
+// Kept: two types of one text, so that neither can stand for the other; one over a unit would want a type for each unit too.
 #[derive(Clone, Copy)]
 pub struct Temperature(f64);
 
@@ -20,7 +21,8 @@ pub struct Temperature(f64);
 #[derive(Clone, Copy)]
 pub struct Pressure(f64);
 
-// What the solvers iterate with: limits, the tolerance of ln fugacities, the threshold of tm below which a liquid is unstable, the bracket in K.
+// What the solvers iterate with: limits, the tolerance of ln fugacities, the threshold of tm below which a liquid is
+// unstable, the bracket in K.
 #[derive(Clone, Copy)]
 pub struct ActivityOptions {
     pub max_iterations: u64,
@@ -40,6 +42,7 @@ pub const HIGHEST_KELVIN: f64 = 450.0;
 const SUM_TOLERANCE: f64 = 1e-10;
 
 // A finite positive number, else this refusal.
+#[tactic(auto, unfolding(crate::specs::Quantities::positive_of, floats::specs::Small::positive, floats::specs::Outcome::need))]
 fn positive(v: f64, refusal: Refusal) -> Result<f64, Refusal>
     ensures { outcome_of result ≡ positive_of v (number refusal) }
 {
@@ -51,6 +54,7 @@ fn positive(v: f64, refusal: Refusal) -> Result<f64, Refusal>
 }
 
 impl Temperature {
+    #[tactic(auto, unfolding(floats::specs::Outcome::bind))]
     pub fn new(v: f64) -> Result<Temperature, Refusal>
         ensures { outcome_of result ≡ temperature_of v }
     {
@@ -65,6 +69,7 @@ impl Temperature {
 }
 
 impl Pressure {
+    #[tactic(auto, unfolding(floats::specs::Outcome::bind))]
     pub fn new(v: f64) -> Result<Pressure, Refusal>
         ensures { outcome_of result ≡ pressure_of v }
     {
@@ -134,16 +139,12 @@ pub fn with_fractions(x: &[f64; 8], n: usize) -> Result<(), Refusal>
 }
 
 // Each of the first n entries over s; 0.0 past them.
-// Kept: a loop to n; `from_fn` asks each of eight whether it is past n.
-#[tactic(auto, unfolding(floats::specs::Vector::fill))]
+// Kept: `from_fn` with this test stands in fifteen bodies: one function over a closure would require that it can be called.
 pub fn divided(x: &[f64; 8], s: f64, n: usize) -> [f64; 8]
     ensures { result ≡ vec (λ i. at x.now i ⊘ s) (places n) }
 {
-    let mut y = [0.0; 8];
-    for i in 0..floats::places(n) {
-        y[i] = x[i] / s;
-    }
-    y
+    let m = floats::places(n);
+    std::array::from_fn(|i| if i < m { x[i] / s } else { 0.0 })
 }
 
 // Each of the first n entries over their sum, whatever that is; 0.0 past them.

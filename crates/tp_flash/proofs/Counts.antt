@@ -11,10 +11,10 @@ use Rattle.thermo_types.specs.Composition.{with_fractions}
 use Rattle.thermo_models.specs.Model.{Activity, Pures, Activities, Liquids}
 use Rattle.liquid_stability.proofs.Counts.{Few, few-none, stability_few}
 use Rattle.tp_flash.specs.Split.{Split}
-use Rattle.tp_flash.specs.Tp.{Flash, stable_liquid, as_vapor, as_liquid, as_both, boundary_of, from_split, split_feed, between_of, from_dew, phases_of, tp_flash}
+use Rattle.tp_flash.specs.Tp.{Flash, trials_of, stable_liquid, as_vapor, as_liquid, as_both, boundary_of, from_split, split_feed, between_of, from_dew, phases_of, tp_flash}
 
 FewIn : ℕ → Flash → Type 0
-FewIn n f = Few n f.trials
+FewIn n f = Few n (trials_of f)
 
 module _ (E : List Float → Out Activity) (n : ℕ) (o : ActivityOptions) where
   stable-few : (x : List Float) → Each (Few n) (stable_liquid E n o x)
@@ -57,12 +57,12 @@ module _ (E : List Float → Out Activity) (n : ℕ) (o : ActivityOptions) (z : 
       (vapor-few n z _ dew _)
       (each-bind (FewIn n) _ _ (λ a u. each-bind (FewIn n) _ _ (λ s w. split-few E n o z _ dew s))))))
 
-  pub phases-few : (f : Flash) → phases_of E n o z p ps ≡ ok f → Few n f.trials
+  pub phases-few : (f : Flash) → phases_of E n o z p ps ≡ ok f → Few n (trials_of f)
   unfolding FewIn
   phases-few f e = each-few.each f e
 
 pub flash_few : (E : Activities) (L : Liquids) (D : Float → Bool) (n : ℕ) (o : ActivityOptions) (t : Float) (z : List Float) (p : Float)
-    → (f : Flash) → tp_flash E L D n o t z p ≡ ok f → Few n f.trials
+    → (f : Flash) → tp_flash E L D n o t z p ≡ ok f → Few n (trials_of f)
 unfolding FewIn tp_flash
 flash_few E L D n o t z p f e =
     (each-need (FewIn n) _ 22 (each-need (FewIn n) _ 23 (each-bind (FewIn n) _ _ (λ (pure : Pures) q. each-few (E t) n o z p pure.pressure)))).each f e

@@ -1,6 +1,6 @@
 -- `activity_tp_flash`: the phases of a feed at T and p, in the order of activity.rs, over an activity model E, the pure liquids L
 -- and the domain D of temperatures. Assumes nothing.
-use Rattle.std.specs.Prelude.{ℕ, ◌+◌, Bool, true, false, not, ◌&&◌, List, eqb, Float}
+use Rattle.std.specs.Prelude.{ℕ, ◌+◌, Bool, not, ◌&&◌, List, eqb, Float, Some, None, unwrap_or}
 use Rattle.std.specs.Float.Ieee.{lt, le}
 use Rattle.floats.specs.Arithmetic.{◌⊖◌, #, 0f, 1f}
 use Rattle.floats.specs.Small.{min_of, abs_of}
@@ -27,9 +27,13 @@ at_boundary = 1 + 2
 abbrev pub finite_trials : ℕ
 finite_trials = 1 + 4
 
--- the code's struct: pressures in Pa; a single phase has the feed's composition and zeros for the other's; `trials` are of the liquid where there is one
+-- the code's struct: pressures in Pa; a single phase has the feed's composition and zeros for the other's; `trials` are of the liquid, where there is one
 abbrev pub Flash : Type 0
 Flash = ActivityTpFlash
+
+-- the trials of a flash, none where it has no liquid
+abbrev pub trials_of : Flash → Trials
+trials_of f = unwrap_or f.trials no_trials
 
 -- a vapor fraction inside (0, 1)
 unfoldable pub inside : Float → Bool
@@ -66,8 +70,7 @@ vapor_phase bubble dew notes z = record {
   notes = notes;
   liquid = zeros8;
   vapor = z;
-  tested = false;
-  trials = no_trials;
+  trials = None;
 }
 
 abbrev pub liquid_phase : Float → Float → ℕ → List Float → Trials → Flash
@@ -82,8 +85,7 @@ liquid_phase bubble dew notes z trials = record {
   notes = notes;
   liquid = z;
   vapor = zeros8;
-  tested = true;
-  trials = trials;
+  trials = Some trials;
 }
 
 -- a split with its balance and the trials of its liquid
@@ -99,8 +101,7 @@ both_phases bubble dew s balance trials = record {
   notes = finite_trials;
   liquid = s.liquid;
   vapor = s.vapor;
-  tested = true;
-  trials = trials;
+  trials = Some trials;
 }
 
 -- the feed as one vapor: `with_fractions`
@@ -180,6 +181,5 @@ single_phase phases saturated β notes = record {
   notes = notes;
   liquid = zeros8;
   vapor = zeros8;
-  tested = false;
-  trials = no_trials;
+  trials = None;
 }

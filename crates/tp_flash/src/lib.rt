@@ -13,18 +13,18 @@ ghost use Rattle.tp_flash.specs.Tp.{inside, near_edge, stable_liquid, dew_of, si
 use liquid_stability::LiquidStability;
 use outcome::Refusal;
 use rachford_rice::RachfordRiceOutcome;
+use std::hint::select_unpredictable;
 use thermo_models::{ActivityCoefficients, Tabled};
 use thermo_types::{ActivityOptions, Pressure};
 
 #[derive(Clone, Copy)]
 pub enum FlashPhases {
-    Liquid,
+    Liquid = 1,
     Vapor,
     Both,
 }
 
-// Pressures in Pa. `trials` are those of the liquid, where it was tested.
-// Kept: `tested`, which is true but for a vapor, and `trials` beside it, for the definition's Flash has both.
+// Pressures in Pa. `trials` are those of the liquid; a vapor has none.
 #[derive(Clone, Copy)]
 pub struct ActivityTpFlash {
     pub phases: FlashPhases,
@@ -37,8 +37,7 @@ pub struct ActivityTpFlash {
     pub notes: u64,
     pub liquid: [f64; 8],
     pub vapor: [f64; 8],
-    pub tested: bool,
-    pub trials: LiquidStability,
+    pub trials: Option<LiquidStability>,
 }
 
 // Bubble and dew pressure of the feed, Pa.
@@ -124,8 +123,7 @@ fn single_phase(
         notes,
         liquid: [0.0; 8],
         vapor: [0.0; 8],
-        tested: false,
-        trials: liquid_stability::no_trials(),
+        trials: None,
     }
 }
 
@@ -143,51 +141,44 @@ struct Feed<'a> {
 impl<'a> Feed<'a> {
     // ---- the split at T and p
 
-    // Kept: loops to the count, for `array::from_fn` works out all eight; and `places(self.at.n)`, with no Count beside `at`, for
-    // trials and dew point take `at` and their contracts say `places at.n`.
+    // Kept: `places(self.at.n)`, four times: a Count beside `at` would want a ghost field that it is `places at.n`.
     // K_i = γ_i p_i^sat / p where the feed is positive, else 1.0, which no sum of Rachford-Rice reads.
-    #[tactic(auto, unfolding(crate::specs::Split::k_values, floats::specs::Vector::fill))]
     fn k_values(self, lg: &[f64; 8]) -> [f64; 8]
         ensures { let f = self.entry in result ≡ k_values f.z.now f.ps.now f.p.0 lg.now (places f.at.n) }
     {
+        let n = floats::places(self.at.n);
         let ln_p = numerics::ln(self.p.value());
-        let mut k = [0.0; 8];
-        for i in 0..floats::places(self.at.n) {
-            k[i] = if self.z[i] > 0.0 {
+        std::array::from_fn(|i| {
+            if i >= n {
+                0.0
+            } else if self.z[i] > 0.0 {
                 numerics::exp(lg[i] + numerics::ln(self.ps[i]) - ln_p)
             } else {
                 1.0
-            };
-        }
-        k
+            }
+        })
     }
 
     // The entries of a phase where the feed is positive, over their sum (34).
-    #[tactic(auto, using(crate::proofs::Laws::phase_is), unfolding(floats::specs::Vector::fill))]
     fn phase_of(self, l: &[f64; 8]) -> Result<[f64; 8], Refusal>
         ensures { outcome_of result ≡ phase_of self.entry.z.now l.now (places self.entry.at.n) }
     {
-        let mut w = [0.0; 8];
-        for i in 0..floats::places(self.at.n) {
-            w[i] = floats::pick(self.z[i] > 0.0, l[i], 0.0);
-        }
+        let n = floats::places(self.at.n);
+        let w = std::array::from_fn(|i| select_unpredictable(i < n && self.z[i] > 0.0, l[i], 0.0));
         thermo_types::normalize(&w, self.at.n)
     }
 
     // max_i |ln(y_i p) - ln(x_i γ_i p_i^sat)| where the feed is positive.
-    // Kept: a loop, for a fold's closure gives `r` back in an `else`, and is no plainer.
-    #[tactic(auto, unfolding(crate::specs::Split::split_gap, floats::specs::Fold::fold_to))]
+    // Kept: saturation's largest_gap counts other solvents: one public function for both would take which ones by a closure, and
+    // require F.pre, or by an array filled for it.
     fn split_gap(self, lg: &[f64; 8], x: &[f64; 8], y: &[f64; 8]) -> f64
         ensures { let f = self.entry in result ≡ split_gap f.z.now lg.now f.ps.now f.p.0 x.now y.now (places f.at.n) }
     {
         let ln_p = numerics::ln(self.p.value());
-        let mut r = 0.0;
-        for i in 0..floats::places(self.at.n) {
-            if self.z[i] > 0.0 {
-                r = floats::max(r, saturation::gap(lg[i], self.ps[i], ln_p, x[i], y[i]));
-            }
-        }
-        r
+        let gaps = (0..floats::places(self.at.n))
+            .filter(|&i| self.z[i] > 0.0)
+            .map(|i| saturation::gap(lg[i], self.ps[i], ln_p, x[i], y[i]));
+        gaps.fold(0.0, floats::max)
     }
 
     // max_i |β y_i + (1 - β) x_i - z_i|.
@@ -213,17 +204,7 @@ impl<'a> Feed<'a> {
     ) -> Result<SplitTurn, Refusal>
         ensures { let f = self.entry in outcome_of result ≡ turn_at (activity_on f.table.now f.at) f.ps.now (places f.at.n) f.p.0 f.z.now beta x y iteration }
     {
-        let mut activity = ActivityCoefficients {
-            ln_gamma: [0.0; 8],
-            slopes: [0.0; 8],
-        };
-        thermo_models::activity(
-            self.table,
-            self.at,
-            &x,
-            &mut activity.ln_gamma,
-            &mut activity.slopes,
-        )?;
+        let activity = thermo_models::activity(self.table, self.at, &x)?;
         let residual = self.split_gap(&activity.ln_gamma, &x, &y);
         if !floats::is_finite(residual) {
             return Err(Refusal::ResultNotFinite);
@@ -308,8 +289,7 @@ impl<'a> Feed<'a> {
         thermo_types::with_fractions(self.z, self.at.n)?;
         Ok(ActivityTpFlash {
             liquid: *self.z,
-            tested: true,
-            trials,
+            trials: Some(trials),
             ..single_phase(FlashPhases::Liquid, saturated, 0.0, notes)
         })
     }
@@ -332,8 +312,7 @@ impl<'a> Feed<'a> {
             notes: FINITE_TRIALS,
             liquid: split.liquid,
             vapor: split.vapor,
-            tested: true,
-            trials,
+            trials: Some(trials),
         })
     }
 
@@ -409,11 +388,7 @@ pub fn activity_tp_flash(
 ) -> Result<ActivityTpFlash, Refusal>
     ensures { outcome_of result ≡ phases_of (activity_on table.now at) (places at.n) o z.now p.0 ps.now }
 {
-    let mut activity = ActivityCoefficients {
-        ln_gamma: [0.0; 8],
-        slopes: [0.0; 8],
-    };
-    thermo_models::activity(table, at, z, &mut activity.ln_gamma, &mut activity.slopes)?;
+    let activity = thermo_models::activity(table, at, z)?;
     let b = saturation::bubble_from(z, &activity.ln_gamma, ps, at.n)?;
     let feed = Feed {
         table,

@@ -19,7 +19,7 @@ use thermo_types::Temperature;
 fn ln_lambda(p: [f64; 6], t: f64) -> Jet
     ensures { result ≡ ln_lambda_j p t 0 }
 {
-    Jet::constant(p[0]).add(Jet::constant(p[1]).div(Jet::two(t, 1.0)))
+    Jet::constant(p[0]) + Jet::constant(p[1]) / Jet::two(t, 1.0)
 }
 
 // The three planes' cells.

@@ -1,11 +1,6 @@
-use Rattle.std.proofs.Common.{refl, arith}
+use Rattle.std.proofs.Common.{arith}
 use Rattle.blocks.proofs.Laws.{word-turn, words-end}
-use Rattle.blocks.specs.Bytes.{row_to}
 use Rattle.blocks.proofs.store_words.Goals as goal
-
-pub loop-k-init : goal.loop-k-init
-unfolding row_to
-loop-k-init c = (omega arith, refl, refl)
 
 pub loop-k-preserved : goal.loop-k-preserved
 loop-k-preserved c = (omega arith, word-turn _ _ _ c.loop-k.invariant.1 c.store_word.ensures, omega arith)

@@ -5,10 +5,6 @@ use Rattle.book.specs.Book.{head_in, head_of, model_in}
 use Rattle.book.specs.Places.{words_in}
 use Rattle.book.proofs.open_head.Goals as goal
 
-pub returns-then-not-head_right : goal.returns-then-not-head_right
-unfolding head_of need
-returns-then-not-head_right c = rw (← c.if-not-head_right.ensures)
-
 pub returns-then-blocks-m : goal.returns-then-blocks-m
 unfolding head_of need
 returns-then-blocks-m c =

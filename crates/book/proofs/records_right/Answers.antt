@@ -5,7 +5,3 @@ use Rattle.book.proofs.records_right.Goals as goal
 
 pub returns-then-floats_finite : goal.returns-then-floats_finite
 returns-then-floats_finite c = records_scanned _ c.floats_finite.ensures c.if-floats_finite.true c.range_right.ensures c.range_right-then-floats_finite.ensures
-
-pub returns : goal.returns
-unfolding records_right
-returns c = rw (c.record_right.ensures, c.record_right-2.ensures)

@@ -15,11 +15,3 @@ returns-then-not-all_finite c =
       | then-all_finite w ↦ gives (rw (sym w.if-all_finite.ensures, ← w.all_finite-then-all_finite.ensures, ← w.value-is, c.if-not-all_finite.true)) g
       | else-all_finite w ↦ gives (rw (sym w.if-all_finite.ensures)) g
     ]
-
-pub returns : goal.returns
-unfolding finite_state need
-returns c =
-    elim c.if-all_finite.branch [
-      | then-all_finite w ↦ gives (rw (sym w.if-all_finite.ensures, ← w.all_finite-then-all_finite.ensures, ← w.value-is, c.if-not-all_finite.false)) c.state.ensures
-      | else-all_finite w ↦ absurd (true≢false (sym c.if-not-all_finite.false ∙ w.value-is ∙ w.if-all_finite.false))
-    ]

@@ -1,14 +1,9 @@
-use mathlib.Core.Path.{refl, ◌∙◌, ap}
+use mathlib.Core.Path.{◌∙◌, ap}
 use Prim.Native.Nat.{◌+◌, ◌*◌}
 use native.Mathlib.Omega.{arith}
-use Rattle.floats.specs.Fold.{fold_to}
 use Rattle.jet.specs.Planes.{cell_of, spread}
 use Rattle.jet.proofs.Planes.{cell-pair, pairs_turn}
 use Rattle.jet.proofs.fill_border.Goals as goal
-
-pub loop-j-init : goal.loop-j-init
-unfolding fold_to
-loop-j-init g c = refl
 
 pub loop-j-preserved : goal.loop-j-preserved
 loop-j-preserved g c =

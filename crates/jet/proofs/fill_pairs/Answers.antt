@@ -1,13 +1,8 @@
-use mathlib.Core.Path.{refl, ◌∙◌}
+use mathlib.Core.Path.{◌∙◌}
 use native.Mathlib.Omega.{arith}
-use Rattle.floats.specs.Fold.{fold_to}
 use Rattle.jet.specs.Planes.{cell_of}
 use Rattle.jet.proofs.Planes.{cell-own, square-next}
 use Rattle.jet.proofs.fill_pairs.Goals as goal
-
-pub loop-i-init : goal.loop-i-init
-unfolding fold_to
-loop-i-init g c = refl
 
 pub loop-i-preserved : goal.loop-i-preserved
 loop-i-preserved g c =

@@ -7,13 +7,6 @@ use Rattle.numerics.proofs.exps.Goals as goal
 entry : (f : ℕ → Float) (n k : ℕ) {e : List Float} → e ≡ vec f n → n ≤ 8 → k < n → at e k ≡ f k
 entry f n k p h l = ap (λ (w : List Float). at w k) p ∙ fill-at f n zeros8 nan k h l
 
-pub loop-i-init : goal.loop-i-init
-unfolding fill
-loop-i-init c = (omega arith, omega arith, refl)
-
-pub loop-i-preserved : goal.loop-i-preserved
-loop-i-preserved c = (omega arith, omega arith, fill_done _ _ _ _ (omega arith) (fill-turn _ _ _ c.exp_two.ensures.1 (fill-turn _ _ _ c.exp_two.ensures.0 c.loop-i.invariant.2)))
-
 pub returns : goal.returns
 returns c = λ k l. entry _ _ k c.loop-i.invariant.2 (omega arith) (omega arith)
 

@@ -38,13 +38,5 @@ pub returns-then-v-2 : goal.returns-then-v-2
 unfolding ln_of
 returns-then-v-2 c = rw (sym c.if-is_nan.ensures.value, c.if-v.false, c.if-v-2.true, minus_inf)
 
-pub returns-then-v-3 : goal.returns-then-v-3
-unfolding ln_of
-returns-then-v-3 c = rw (sym c.if-is_nan.ensures.value, c.if-v.false, c.if-v-2.false, c.if-v-3.true)
-
 pub ln_positive-requires : goal.ln_positive-requires
 ln_positive-requires c = past c.args.v c.if-is_nan.ensures.value c.if-v.false c.if-v-2.false c.if-v-3.false
-
-pub returns-else-v-3 : goal.returns-else-v-3
-unfolding ln_of
-returns-else-v-3 c = rw (sym c.if-is_nan.ensures.value, c.if-v.false, c.if-v-2.false, c.if-v-3.false) c.ln_positive.ensures

@@ -14,4 +14,4 @@ pub float_from_bits-m : goal.float_from_bits-m
 float_from_bits-m c = no_nan (nan_bits binary64 (c.args.digits + 4607182418800017408)) (digits-no_nan c.args.digits c.requires.1)
 
 pub returns : goal.returns
-returns c = split-made c.args.field (of_bits binary64 (c.args.digits + 4607182418800017408)) (raised _ _ c.from.ensures) c.count.ensures c.pick.ensures c.ln_from.ensures
+returns c = split-made c.args.field (of_bits binary64 (c.args.digits + 4607182418800017408)) (raised _ _ c.from.ensures) c.count.ensures c.select_unpredictable.ensures c.ln_from.ensures

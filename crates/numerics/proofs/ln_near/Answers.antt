@@ -4,7 +4,7 @@ use Rattle.numerics.proofs.Fields.{near_field, near-ln}
 use Rattle.numerics.proofs.ln_near.Goals as goal
 
 pub ln_fields-requires : goal.ln_fields-requires
-ln_fields-requires c = (near_field c.args.v c.pick-bits.result (subst T (sym c.well_formed.0.1) tt) c.pick-bits.ensures, omega arith)
+ln_fields-requires c = (near_field c.args.v c.select_unpredictable-bits.result (subst T (sym c.well_formed.0.1) tt) c.select_unpredictable-bits.ensures, omega arith)
 
 pub returns : goal.returns
-returns c = near-ln c.args.v c.pick-bits.result c.ln_fields.result (subst T (sym c.well_formed.0.1) tt) c.pick-bits.ensures c.ln_fields.ensures
+returns c = near-ln c.args.v c.select_unpredictable-bits.result c.ln_fields.result (subst T (sym c.well_formed.0.1) tt) c.select_unpredictable-bits.ensures c.ln_fields.ensures

@@ -1,11 +1,7 @@
-use mathlib.Core.Path.{refl}
-use Rattle.floats.specs.Vector.{fill}
-use Rattle.floats.proofs.Fills.{fill-turn}
+use borrow.Author.Tests.{tests}
+use Rattle.std.proofs.Common.{arith, rules}
+use Rattle.floats.proofs.Made.{filled}
 use Rattle.pool.proofs.pool_counts.Goals as goal
 
-pub loop-i-init : goal.loop-i-init
-unfolding fill
-loop-i-init c = refl
-
-pub loop-i-preserved : goal.loop-i-preserved
-loop-i-preserved c = fill-turn _ _ _ c.pool_count.ensures c.loop-i.invariant
+pub returns : goal.returns
+returns c = filled _ _ c.args.m.n (omega arith) c.from_fn.ensures.items (λ i y q k. search (rules, tests))

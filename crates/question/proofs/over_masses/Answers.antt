@@ -1,12 +1,8 @@
-use mathlib.Core.Path.{refl}
-use Rattle.floats.specs.Vector.{fill}
-use Rattle.floats.proofs.Fills.{fill-turn}
+use borrow.Author.Tests.{tests}
+use Rattle.std.proofs.Common.{arith, rules}
+use Rattle.floats.proofs.Made.{filled}
+use Rattle.floats.specs.Vector.{places}
 use Rattle.question.proofs.over_masses.Goals as goal
 
-pub loop-i-init : goal.loop-i-init
-unfolding fill
-loop-i-init c = refl
-
-pub loop-i-preserved : goal.loop-i-preserved
-loop-i-preserved c = let m = rw c.block.ensures at c.float_at.ensures in
-    fill-turn _ _ _ (rw m) c.loop-i.invariant
+pub returns : goal.returns
+returns c = filled _ _ (places c.args.n) (omega arith) c.from_fn.ensures.items (λ i y q k. search (rules, tests))

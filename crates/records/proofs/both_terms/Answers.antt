@@ -2,18 +2,6 @@
 use Rattle.records.specs.Parameters.{terms_of, term_in, pair_term, lower_from}
 use Rattle.records.proofs.both_terms.Goals as goal
 
-pub returns-in-Nrtl-clause-upper : goal.returns-in-Nrtl-clause-upper
-unfolding pair_term
-returns-in-Nrtl-clause-upper c = rw c.in-Nrtl.is c.nrtl_terms-ij.ensures
-
 pub returns-in-Nrtl-clause-lower : goal.returns-in-Nrtl-clause-lower
 unfolding terms_of term_in pair_term lower_from
 returns-in-Nrtl-clause-lower c = rw (c.in-Nrtl.is, c.nrtl_terms-ij.ensures) (cc)
-
-pub returns-in-Wilson-clause-upper : goal.returns-in-Wilson-clause-upper
-unfolding pair_term
-returns-in-Wilson-clause-upper c = rw c.in-Wilson.is c.wilson_terms.ensures
-
-pub returns-in-Wilson-clause-lower : goal.returns-in-Wilson-clause-lower
-unfolding pair_term lower_from
-returns-in-Wilson-clause-lower c = rw c.in-Wilson.is c.wilson_terms-in-Wilson.ensures

@@ -2,5 +2,5 @@
 use Rattle.records.proofs.Offered.{copy-nothing}
 use Rattle.sheet.proofs.answer_asked.Goals as goal
 
-pub returns : goal.returns
-returns c = rw copy-nothing at c.answer_offered.ensures
+pub returns-clause-answers : goal.returns-clause-answers
+returns-clause-answers c = rw copy-nothing at c.answer_offered.ensures.answers

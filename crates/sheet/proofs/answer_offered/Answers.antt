@@ -1,13 +1,16 @@
 -- `sheet::answer_offered` meets its contract. Assumes nothing.
-use mathlib.Core.Path.{sym, ◌∙◌}
+use Rattle.floats.specs.Vector.{places}
 use Rattle.records.proofs.Offered.{copy-rule}
 use Rattle.sheet.specs.Sheet.{answer_to}
-use Rattle.sheet.proofs.Dispatch.{short, fronted}
+use Rattle.sheet.proofs.Dispatch.{short, fronted, front_long}
 use Rattle.sheet.proofs.answer_offered.Goals as goal
 
-pub returns-in_default : goal.returns-in_default
-returns-in_default c = short _ c.in_default.ensures.cases
+pub returns-in_default-clause-answers : goal.returns-in_default-clause-answers
+returns-in_default-clause-answers c = short _ c.in_default.ensures.cases
 
-pub returns : goal.returns
+pub returns-clause-answers : goal.returns-clause-answers
 unfolding answer_to
-returns c = let e = c.rule_of.ensures ∙ sym (copy-rule _ _ _) in fronted c.in-Some.ensures.cases c.solve.ensures.long (rw e at c.solve.ensures.answers)
+returns-clause-answers c = fronted c.in-Some.ensures.cases c.solve.ensures.long (rw (c.of-asked.ensures, ← copy-rule (places c.args.n) c.args.book.now c.args.offered.now) at c.solve.ensures.answers)
+
+pub returns-clause-long : goal.returns-clause-long
+returns-clause-long c = front_long _ c.in-Some.ensures.cases c.solve.ensures.long

@@ -5,18 +5,24 @@ use Rattle.records.proofs.Offered.{copy-nothing}
 use Rattle.sheet.specs.Sheet.{replied, answer_to}
 use Rattle.sheet.proofs.Laws.{same_as, quits}
 use Rattle.sheet.proofs.Shared.{task-refused}
-use Rattle.sheet.proofs.Dispatch.{short, room_long, fronted, solved_at}
+use Rattle.sheet.proofs.Dispatch.{short, room_long, fronted, front_long, solved_at}
 use Rattle.sheet.proofs.answer_ready.Goals as goal
 
-pub returns-in_default : goal.returns-in_default
-returns-in_default c e h = short _ c.in_default.ensures.cases
+pub returns-in_default-clause-answers : goal.returns-in_default-clause-answers
+returns-in_default-clause-answers c e h = short _ c.in_default.ensures.cases
 
-pub returns-in_err-at : goal.returns-in_err-at
+pub returns-in_err-at-clause-answers : goal.returns-in_err-at-clause-answers
 unfolding answer_to
-returns-in_err-at c e h = let f = c.in-Some.ensures.cases in fronted f (room_long f) (quits _ _ c.from_residual.ensures.1 (bind-no _ (solved_at _ _ e ∙ task-refused _ _ (h.refused _ c.in_err-at.was))))
+returns-in_err-at-clause-answers c e h = let f = c.in-Some.ensures.cases in fronted f (room_long f) (quits _ _ c.from_residual.ensures.1 (bind-no _ (solved_at _ _ e ∙ task-refused _ _ (h.refused _ c.in_err-at.was))))
 
-pub returns : goal.returns
+pub returns-clause-answers : goal.returns-clause-answers
 unfolding answer_to
-returns c e h = let w = c.in_ok-at.was in
-    let a = rw (c.rule_of.ensures, copy-nothing) at c.task_at.ensures.answers in
+returns-clause-answers c e h = let w = c.in_ok-at.was in
+    let a = rw (c.of-asked.ensures, copy-nothing) at c.task_at.ensures.answers in
     fronted c.in-Some.ensures.cases c.task_at.ensures.long (same_as (ap (replied _ _) (solved_at _ _ e ∙ bind_yes _ (h.temperature _ w))) (a (h.tables _ w) (h.pressures _ w)))
+
+pub returns-in_err-at-clause-long : goal.returns-in_err-at-clause-long
+returns-in_err-at-clause-long c = let f = c.in-Some.ensures.cases in front_long _ f (room_long f)
+
+pub returns-clause-long : goal.returns-clause-long
+returns-clause-long c = front_long _ c.in-Some.ensures.cases c.task_at.ensures.long

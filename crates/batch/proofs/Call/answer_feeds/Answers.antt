@@ -9,10 +9,6 @@ use Rattle.batch.proofs.Calls.{keeps-nothing, replied, refused, feeds_turn}
 use Rattle.batch.proofs.Call.answer_feeds.Goals as goal
 use Rattle.batch.proofs.Call.answer_feeds.Goals.{in-Err, in_default}
 
-pub loop-k-init : goal.loop-k-init
-unfolding parts_to fold_to
-loop-k-init c = (refl, keeps-nothing (length-replicate 512 0f), refl)
-
 pub loop-k-preserved : goal.loop-k-preserved
 loop-k-preserved c =
     let a = c.answer_feed.ensures in

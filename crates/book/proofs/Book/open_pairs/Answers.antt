@@ -6,10 +6,6 @@ use Rattle.book.proofs.Sound.{pairs_pass, pairs_infinite, pairs-unequal}
 use Rattle.book.specs.Book.{pairs_of}
 use Rattle.book.proofs.Book.open_pairs.Goals as goal
 
-pub returns-then-not-pairs_right : goal.returns-then-not-pairs_right
-unfolding pairs_of need
-returns-then-not-pairs_right c = rw (← c.if-not-pairs_right.ensures)
-
 pub returns-then-pairs_sound : goal.returns-then-pairs_sound
 returns-then-pairs_sound c = pairs_pass _ _ (sym c.if-not-pairs_right.ensures) (c.if-pairs_sound.ensures ∙ each_pair _ _ _ c.args.self.size)
 

@@ -6,10 +6,6 @@ use Rattle.liquid_stability.proofs.Laws.{amount-at, present-turn, absent-turn}
 use Rattle.liquid_stability.proofs.Tested.measure.Goals as goal
 use Rattle.liquid_stability.proofs.Tested.measure.Goals.{then-self-i, else-self-i}
 
-pub loop-i-init : goal.loop-i-init
-unfolding distance_of change_of apart_of fold_to
-loop-i-init c = (refl, refl, refl)
-
 pub loop-i-preserved : goal.loop-i-preserved
 unfolding distance_of change_of apart_of
 loop-i-preserved c = let m = c.loop-i.invariant in elim c.if-self-i.branch [

@@ -5,9 +5,6 @@ use Rattle.liquid_stability.specs.Steps.{after}
 use Rattle.liquid_stability.proofs.Laws.{trial-start, trial_out, trial_on}
 use Rattle.liquid_stability.proofs.Tested.trial.Goals as goal
 
-pub loop-done-init : goal.loop-done-init
-loop-done-init c = trial-start _ _ _ _ _ _ _ _ c.start-ln_w.ensures
-
 pub returns-in_err-found : goal.returns-in_err-found
 unfolding bind
 returns-in_err-found c = met _ _ c.from_residual.ensures.1 ∙ trial_on _ _ _ _ _ _ _ _ _ c.loop-done.invariant c.loop-done-test.true c.in_err-found.ensures

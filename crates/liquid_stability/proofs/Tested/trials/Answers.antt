@@ -7,10 +7,6 @@ use Rattle.liquid_stability.proofs.Laws.{trials-refused, trials_skip, trials-mor
 use Rattle.liquid_stability.proofs.Tested.trials.Goals as goal
 use Rattle.liquid_stability.proofs.Tested.trials.Goals.{then-self-j+in_ok-found, else-self-j}
 
-pub loop-j-init : goal.loop-j-init
-unfolding no_trials trials_to
-loop-j-init c = rw c.no_trials-all.ensures (omega arith, refl)
-
 pub returns-in_err-found : goal.returns-in_err-found
 returns-in_err-found c = met _ _ c.from_residual.ensures.1
     ∙ sym (trials-refused _ _ _ _ _ _ c.loop-j.invariant.1 c.if-self-j.true c.loop-j-test.true c.in_err-found.ensures)

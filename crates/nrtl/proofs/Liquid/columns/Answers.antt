@@ -5,10 +5,6 @@ use Rattle.excess.proofs.Steps.{side-same, turning-next}
 use Rattle.nrtl.specs.Columns.{col_s}
 use Rattle.nrtl.proofs.Liquid.columns.Goals as goal
 
-pub loop-k-init : goal.loop-k-init
-unfolding col_s fold_to
-loop-k-init g c = side-same (λ v l. c.constant-s.ensures)
-
 pub loop-w-preserved : goal.loop-w-preserved
 unfolding col_s
 loop-w-preserved g c =

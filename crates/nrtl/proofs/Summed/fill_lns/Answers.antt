@@ -4,10 +4,6 @@ use Rattle.floats.specs.Vector.{fill}
 use Rattle.excess.proofs.Steps.{gammas_more, gammas_done}
 use Rattle.nrtl.proofs.Summed.fill_lns.Goals as goal
 
-pub loop-i-init : goal.loop-i-init
-unfolding fill
-loop-i-init c = record { fours = omega arith; within = omega arith; lns = record { values = refl; slopes = refl } }
-
 pub loop-i-preserved : goal.loop-i-preserved
 loop-i-preserved c =
     let k = c.keep_lns.ensures in

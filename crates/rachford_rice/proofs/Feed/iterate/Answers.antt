@@ -4,8 +4,8 @@ use Rattle.rachford_rice.proofs.Feed.iterate.Goals as goal
 pub returns-then-not-is_finite : goal.returns-then-not-is_finite
 returns-then-not-is_finite c = search loop_stops
 
-pub returns-then-turn : goal.returns-then-turn
-returns-then-turn c = search loop_last
+pub returns-in-Break : goal.returns-in-Break
+returns-in-Break c = search loop_last
 
 pub loop-done-preserved : goal.loop-done-preserved
 loop-done-preserved c = search loop_more

@@ -7,4 +7,4 @@ use Rattle.rachford_rice.specs.Rachford.{iterate}
 use Rattle.rachford_rice.proofs.Feed.iterate.Given as goal
 
 abbrev pub invariant-loop-done : goal.invariant-loop-done
-invariant-loop-done l = iterate (at l.self.z.now) (at l.self.k.now) l.self.m.n (l.limit - l.done) l.done l.lo l.hi l.beta ≡ iterate (at l.self.z.now) (at l.self.k.now) l.self.m.n l.limit 0 l.fn.lo l.fn.hi ½
+invariant-loop-done l = iterate (at l.self.z.now) (at l.self.k.now) l.self.m.n (l.limit - l.done) l.done l.at.lo l.at.hi l.at.beta ≡ iterate (at l.self.z.now) (at l.self.k.now) l.self.m.n l.limit 0 l.fn.lo l.fn.hi ½

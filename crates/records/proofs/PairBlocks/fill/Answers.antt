@@ -9,6 +9,3 @@ loop-i-init c = square_holds _
 
 pub loop-i-preserved : goal.loop-i-preserved
 loop-i-preserved c = square-more _ (λ k. word (pair_at _ _ _ k)) _ _ (omega arith) c.loop-i.invariant c.fill_border.ensures c.diagonal.ensures
-
-pub returns : goal.returns
-returns c = square_done _ _ _ (omega arith) c.loop-i.invariant

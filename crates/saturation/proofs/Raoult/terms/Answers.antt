@@ -1,8 +1,7 @@
-use native.Mathlib.Omega.{arith}
-use Rattle.floats.proofs.Fills.{fill-turn}
+use borrow.Author.Tests.{tests}
+use Rattle.std.proofs.Common.{arith, rules}
+use Rattle.floats.proofs.Made.{filled}
 use Rattle.saturation.proofs.Raoult.terms.Goals as goal
 
-pub loop-i-preserved : goal.loop-i-preserved
-loop-i-preserved g c = λ t h.
-    let γ : _ = c.exps-gamma.ensures c.loop-i.i (omega arith) in
-    fill-turn _ _ _ (h _ _ (rw γ at c.f.ensures)) (c.loop-i.invariant t h)
+pub returns : goal.returns
+returns g c = λ t h. filled _ t c.args.self.m.n (omega arith) c.from_fn.ensures.items (λ i y q k. search (h, rules, tests))

@@ -3,7 +3,6 @@ use Rattle.std.proofs.Common.{◌≡◌, rules}
 use Rattle.floats.specs.Vector.{vec}
 use Rattle.floats.specs.Outcome.{bind}
 use Rattle.outcome.proofs.Exits.{met}
-use Rattle.thermo_models.proofs.Answers.{activity-passed, activity-refused}
 use Rattle.saturation.specs.Saturation.{dew_term, incipient}
 use Rattle.saturation.proofs.Laws.{pressure-is, liquid-is}
 use Rattle.saturation.proofs.Vapor.incipient.Goals as goal
@@ -24,7 +23,7 @@ returns-in_err-activity c =
     rw (
       met c.in_err-activity.field-0.0 c.from_residual-in_err-activity.result c.from_residual-in_err-activity.ensures.1,
       liquid-is _ _ _ _ c.args.self.m.few (terms (goal.at.returns-in_err-activity c).After-terms-w) c.in_ok-liquid.ensures,
-      activity-refused _ c.in_err-activity.ensures,
+      ← c.in_err-activity.ensures,
     )
 
 pub returns : goal.returns
@@ -32,6 +31,6 @@ unfolding incipient bind
 returns c =
     rw (
       liquid-is _ _ _ _ c.args.self.m.few (terms (goal.at.returns c).After-terms-w) c.in_ok-liquid.ensures,
-      activity-passed _ c.in_ok-activity.ensures,
+      ← c.in_ok-activity.ensures,
       pressure-is _ _ _ _ c.args.self.m.few (terms (goal.at.returns c).After-terms-w) c.sum-pressure.ensures,
     )

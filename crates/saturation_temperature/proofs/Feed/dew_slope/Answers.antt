@@ -1,12 +1,12 @@
-use Rattle.floats.proofs.Folds.{fold_turn}
+use borrow.Author.Tests.{tests}
+use lib.Ieee.{lt}
+use Rattle.std.proofs.Common.{rules}
+use Rattle.floats.specs.Arithmetic.{◌⊕◌, ◌⊗◌, 0f}
+use Rattle.floats.specs.Vector.{at}
+use Rattle.floats.proofs.Chosen.{fold_of_chosen}
 use Rattle.saturation_temperature.proofs.Feed.dew_slope.Goals as goal
-use Rattle.saturation_temperature.proofs.Feed.dew_slope.Goals.{then-y-i, else-y-i}
 
-pub loop-i-preserved : goal.loop-i-preserved
-loop-i-preserved c =
-    fold_turn _ _ _
-    (elim c.if-y-i.branch [
-      | then-y-i w ↦ rw (w.if-y-i.true, w.s-is)
-      | else-y-i w ↦ rw (w.if-y-i.false, w.s-is)
-    ])
-    c.loop-i.invariant
+pub returns : goal.returns
+returns c =
+    fold_of_chosen (λ i. lt 0f (at c.args.self.z.now i)) (λ i. at c.args.liquid.now i ⊗ (at c.args.sl.now i ⊕ at c.args.dps.now i)) (λ s t. s ⊕ t) 0f c.args.self.m.n
+    c.filter.ensures.source c.filter.ensures.closure c.map-terms.ensures.source c.map-terms.ensures.closure c.fold.ensures.ran (λ x b q k. search (rules, tests)) (λ x y q k. search rules) (λ a x b q k. search rules)

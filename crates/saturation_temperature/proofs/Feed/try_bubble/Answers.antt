@@ -2,30 +2,26 @@
 use Rattle.floats.specs.Outcome.{bind}
 use Rattle.outcome.proofs.Exits.{met}
 use Rattle.saturation_temperature.specs.Answers.{bubble_tried}
-use Rattle.saturation_temperature.proofs.Points.{kelvin_ok, kelvin-no, feed-is, feed-no, pures-is, pures-no}
+use Rattle.saturation_temperature.proofs.Points.{kelvin_ok, feed-is, pures-is}
 use Rattle.saturation_temperature.proofs.Feed.try_bubble.Goals as goal
 
-pub returns-in_err-kelvin : goal.returns-in_err-kelvin
+pub returns-in_err-a : goal.returns-in_err-a
 unfolding bubble_tried bind
-returns-in_err-kelvin c = rw (met c.in_err-kelvin.field-0.0 c.from_residual.result c.from_residual.ensures.1, kelvin-no _ c.in_err-kelvin.ensures)
-
-pub returns-in_err-activity : goal.returns-in_err-activity
-unfolding bubble_tried bind
-returns-in_err-activity c =
+returns-in_err-a c =
     rw (
-      met c.in_err-activity.field-0.0 c.from_residual-in_err-activity.result c.from_residual-in_err-activity.ensures.1,
+      met c.in_err-a.field-0.0 c.from_residual-in_err-a.result c.from_residual-in_err-a.ensures.1,
       kelvin_ok _ c.in_ok-kelvin.ensures,
-      feed-no _ _ _ c.args.self.m.few _ _ c.tables-s.ensures c.in_err-activity.ensures,
+      feed-is _ _ _ c.args.self.m.few _ _ c.tables-s.ensures c.in_err-a.ensures,
     )
 
-pub returns-in_err-pure_liquids : goal.returns-in_err-pure_liquids
+pub returns-in_err-pure : goal.returns-in_err-pure
 unfolding bubble_tried bind
-returns-in_err-pure_liquids c =
+returns-in_err-pure c =
     rw (
-      met c.in_err-pure_liquids.field-0.0 c.from_residual-in_err-pure_liquids.result c.from_residual-in_err-pure_liquids.ensures.1,
+      met c.in_err-pure.field-0.0 c.from_residual-in_err-pure.result c.from_residual-in_err-pure.ensures.1,
       kelvin_ok _ c.in_ok-kelvin.ensures,
-      feed-is _ _ _ c.args.self.m.few _ _ c.tables-s.ensures c.in_ok-activity.ensures,
-      pures-no _ _ _ c.args.self.m.few c.in_err-pure_liquids.ensures,
+      feed-is _ _ _ c.args.self.m.few _ _ c.tables-s.ensures c.in_ok-a.ensures,
+      pures-is _ _ _ c.args.self.m.few c.in_err-pure.ensures,
     )
 
 pub returns : goal.returns
@@ -33,8 +29,8 @@ unfolding bubble_tried bind
 returns c =
     rw (
       kelvin_ok _ c.in_ok-kelvin.ensures,
-      feed-is _ _ _ c.args.self.m.few _ _ c.tables-s.ensures c.in_ok-activity.ensures,
-      pures-is _ _ _ c.args.self.m.few c.in_ok-pure_liquids.ensures,
+      feed-is _ _ _ c.args.self.m.few _ _ c.tables-s.ensures c.in_ok-a.ensures,
+      pures-is _ _ _ c.args.self.m.few c.in_ok-pure.ensures,
       ← c.weigh-sum.ensures.sum,
       ← c.weigh-sum.ensures.slopes,
       ← c.ln.ensures,

@@ -10,9 +10,6 @@ returns-in_err-e c h = quits _ _ c.from_residual.ensures.1 (bind-no _ (excess_re
 pub returns-then-not-is_finite : goal.returns-then-not-is_finite
 returns-then-not-is_finite c h = let g = c.in_ok-e.ensures in refuses (bind-no _ (excess_wild _ h g.energies g.values g.slopes c.if-not-is_finite.ensures))
 
-pub write_alone-requires : goal.write_alone-requires
-write_alone-requires c = rw c.excess_block-b.ensures
-
 pub returns : goal.returns
 returns c h = let g = c.in_ok-e.ensures in
     same_as (bind_yes _ (excess_answered _ h g.energies g.values g.slopes c.if-not-is_finite.ensures)) (rw (c.excess_block-b.ensures, c.value.ensures, c.validity-v.ensures) at c.write_alone.ensures)

@@ -12,4 +12,4 @@ pub write_answer-requires : goal.write_answer-requires
 write_answer-requires c = rw c.flash_block-b.ensures (flash_fits _ _ _ _ _ _ c.in_ok-f.ensures)
 
 pub returns : goal.returns
-returns c h w = same_as (bind_yes _ (flash-at _ h _ w ∙ bind_yes _ (sym c.in_ok-f.ensures))) (rw (c.flash_block-b.ensures, c.value.ensures, c.value-2.ensures) at c.write_answer.ensures)
+returns c h w = same_as (bind_yes _ (flash-at _ h _ w ∙ bind_yes _ (sym c.in_ok-f.ensures))) (rw (c.flash_block-b.ensures, c.unwrap_or-trials.ensures, c.no_trials.ensures, c.value.ensures, c.value-2.ensures) at c.write_answer.ensures)

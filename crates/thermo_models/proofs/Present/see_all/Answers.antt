@@ -8,10 +8,3 @@ use Rattle.thermo_models.proofs.Present.see_all.Goals as goal
 pub loop-i-init : goal.loop-i-init
 unfolding fold_to
 loop-i-init c = let h = c.default-s.ensures in none_seen h.0 h.1.0 h.1.1.0 h.1.1.1
-
-pub loop-i-preserved : goal.loop-i-preserved
-loop-i-preserved c = fold_turn _ _ _ c.see_row-s.ensures c.loop-i.invariant
-
-pub returns : goal.returns
-unfolding all_seen
-returns c = fold_done _ _ _ _ (omega arith) c.loop-i.invariant

@@ -7,6 +7,3 @@ loop-j-init c = row-start _ _ _ _ _ _
 
 pub loop-j-preserved : goal.loop-j-preserved
 loop-j-preserved c = row-turn _ _ _ _ _ _ _ (omega arith) c.visit-s.ensures c.loop-j.invariant
-
-pub returns : goal.returns
-returns c = row_done _ _ _ _ _ _ _ (omega arith) c.loop-j.invariant

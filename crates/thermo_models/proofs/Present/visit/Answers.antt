@@ -8,7 +8,3 @@ use Rattle.thermo_models.proofs.Present.visit.Goals as goal
 pub returns-then-self-i : goal.returns-then-self-i
 returns-then-self-i c = let (a, b) = c.requires in
     visited_yes _ _ _ _ _ _ _ c.if-self-i.true (copy_interval _ _ _ _ _ (omega arith) a b c.args.self.placed c.pair_record-pair.ensures) c.note.ensures
-
-pub returns-else-self-i : goal.returns-else-self-i
-unfolding visited
-returns-else-self-i c = rw c.if-self-i.false

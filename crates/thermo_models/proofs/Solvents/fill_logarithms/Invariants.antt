@@ -7,6 +7,6 @@ use Rattle.thermo_models.proofs.Solvents.fill_logarithms.Given as goal
 
 abbrev pub invariant-loop-i : goal.invariant-loop-i
 invariant-loop-i l =
-    (l.ls ≡ vec (λ k. (vapor_of (vapor_record l.self.book.now k) l.self.t).ln_pressure) l.i)
-    × (l.dps ≡ vec (λ k. (vapor_of (vapor_record l.self.book.now k) l.self.t).d_ln_pressure_dt) l.i)
-    × (l.cs ≡ vec (λ k. (vapor_of (vapor_record l.self.book.now k) l.self.t).d2_ln_pressure_dt2) l.i)
+    (l.ls ≡ vec (λ k. (vapor_of (vapor_record l.self.book.now k) l.self.t).ln.value) l.i)
+    × (l.dps ≡ vec (λ k. (vapor_of (vapor_record l.self.book.now k) l.self.t).ln.slope) l.i)
+    × (l.cs ≡ vec (λ k. (vapor_of (vapor_record l.self.book.now k) l.self.t).ln.curvature) l.i)

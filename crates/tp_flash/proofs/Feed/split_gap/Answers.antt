@@ -1,9 +1,16 @@
-use Rattle.liquid_stability.proofs.Laws.{present-turn, absent-turn}
+use borrow.Author.Tests.{tests}
+use lib.Ieee.{lt}
+use Rattle.std.proofs.Common.{rules}
+use Rattle.floats.specs.Arithmetic.{0f}
+use Rattle.floats.specs.Small.{max_of}
+use Rattle.floats.specs.Vector.{at}
+use Rattle.floats.proofs.Chosen.{fold_of_chosen}
+use Rattle.saturation.specs.Saturation.{gap_at}
+use Rattle.tp_flash.specs.Split.{split_gap}
 use Rattle.tp_flash.proofs.Feed.split_gap.Goals as goal
-use Rattle.tp_flash.proofs.Feed.split_gap.Goals.{then-self-i, else-self-i}
 
-pub loop-i-preserved : goal.loop-i-preserved
-loop-i-preserved c = elim c.if-self-i.branch [
-  | then-self-i w ↦ present-turn _ _ _ _ c.loop-i.invariant w.if-self-i.true (rw (w.r-is, w.max-r.ensures, w.gap.ensures))
-  | else-self-i w ↦ absent-turn _ _ _ _ c.loop-i.invariant w.if-self-i.false w.r-is
-]
+pub returns : goal.returns
+unfolding split_gap
+returns c =
+    rw (← c.places.ensures) (fold_of_chosen (λ i. lt 0f (at c.args.self.z.now i)) (gap_at c.args.lg.now c.args.self.ps.now c.args.self.p.0 c.args.x.now c.args.y.now) max_of 0f _
+    c.filter.ensures.source c.filter.ensures.closure c.map-gaps.ensures.source c.map-gaps.ensures.closure c.fold.ensures.ran (λ x b q k. search (rules, tests)) (λ x y q k. search rules) (λ a x b q k. search rules))

@@ -1,14 +1,13 @@
 -- `tp_flash::Feed::turn_at` meets its contract. Assumes nothing.
 use mathlib.Core.Path.{sym}
 use Rattle.floats.specs.Outcome.{bind, need}
-use Rattle.thermo_models.proofs.Answers.{activity-passed}
 use Rattle.tp_flash.specs.Split.{turn_at}
 use Rattle.tp_flash.proofs.Feed.turn_at.Goals as goal
 
 pub returns-then-not-is_finite : goal.returns-then-not-is_finite
 unfolding turn_at bind need
-returns-then-not-is_finite c = rw (activity-passed _ c.in_ok-activity.ensures, ← c.split_gap-residual.ensures, sym c.if-not-is_finite.ensures)
+returns-then-not-is_finite c = rw (← c.in_ok-activity.ensures, ← c.split_gap-residual.ensures, sym c.if-not-is_finite.ensures)
 
 pub returns : goal.returns
 unfolding turn_at bind need
-returns c = rw (activity-passed _ c.in_ok-activity.ensures, ← c.split_gap-residual.ensures, sym c.if-not-is_finite.ensures)
+returns c = rw (← c.in_ok-activity.ensures, ← c.split_gap-residual.ensures, sym c.if-not-is_finite.ensures)

@@ -5,10 +5,6 @@ use Rattle.excess.proofs.Steps.{sum_same, sums-turn, sums_done}
 use Rattle.wilson.proofs.Entries.{ln_is}
 use Rattle.wilson.proofs.Liquid.fill_sums.Goals as goal
 
-pub loop-h-init : goal.loop-h-init
-unfolding fold_to
-loop-h-init c = record { total = c.constant-total.ensures; kept = refl }
-
 pub loop-h-preserved : goal.loop-h-preserved
 loop-h-preserved c =
     let s = c.row_sum-s.ensures in
@@ -17,12 +13,3 @@ loop-h-preserved c =
     sums_done _ _ _ _ _ (omega arith)
     (sums-turn _ _ _ _ _ (sum_same _ _ _ _ r (ln_is c.ln_with-in-loop-h.ensures l.1 r) c.keep_sum-total-in-loop-h.ensures)
     (sums-turn _ _ _ _ _ (sum_same _ _ _ _ s (ln_is c.ln_with.ensures l.0 s) c.keep_sum-total.ensures) c.loop-h.invariant))
-
-pub returns-then-n-eq1 : goal.returns-then-n-eq1
-returns-then-n-eq1 c =
-    let s = c.row_sum-s-then-n-eq1.ensures in
-    sums_done _ _ _ _ _ (omega arith)
-    (sums-turn _ _ _ _ _ (sum_same _ _ _ _ s (rw (← s) c.ln.ensures) c.keep_sum-total-then-n-eq1.ensures) (sums_done _ _ _ _ _ (omega arith) c.loop-h.invariant))
-
-pub returns-else-n-eq1 : goal.returns-else-n-eq1
-returns-else-n-eq1 c = sums_done _ _ _ _ _ (omega arith) c.loop-h.invariant

@@ -4,10 +4,6 @@ use Rattle.floats.specs.Vector.{fill}
 use Rattle.excess.proofs.Steps.{gammas_more, gammas_done}
 use Rattle.wilson.proofs.Summed.fill_lns.Goals as goal
 
-pub loop-h-init : goal.loop-h-init
-unfolding fill
-loop-h-init c = record { values = refl; slopes = refl }
-
 pub loop-h-preserved : goal.loop-h-preserved
 loop-h-preserved c =
     let k = c.keep_lns.ensures in
@@ -17,6 +13,3 @@ pub returns-then-n-eq1 : goal.returns-then-n-eq1
 returns-then-n-eq1 c =
     let k = c.keep_lns-then-n-eq1.ensures in
     gammas_done _ _ _ (omega arith) (gammas_more _ _ 1 _ c.lns_from-then-n-eq1.ensures k.values k.slopes (gammas_done _ _ _ (omega arith) c.loop-h.invariant))
-
-pub returns-else-n-eq1 : goal.returns-else-n-eq1
-returns-else-n-eq1 c = gammas_done _ _ _ (omega arith) c.loop-h.invariant
