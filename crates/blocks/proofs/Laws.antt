@@ -1,13 +1,13 @@
 -- Laws of words, sums and rows of bytes, which the proofs of reading and writing cite. Assumes nothing.
-use Rattle.std.proofs.Common.{◌≡◌, ℕ, zero, suc, ◌+◌, ◌-◌, ◌*◌, ◌/◌, ◌%◌, ◌^◌, ◌<◌, ◌≤◌, List, [], ◌++◌, length, get_or, take, drop, sym, refl, ap, ◌∙◌, ⊎_elim, append_assoc, append-nil, add-zero, suc-mul, eq-or-lt_of_le, add-one, arith, length-append, length-drop, drop_of_length-le, length-take, take_all, drop-drop, take_at, get_or-append-add, get_or-take, get_or-drop, le-leb}
+use Rattle.std.proofs.Common.{◌≡◌, ℕ, zero, suc, ◌+◌, ◌-◌, ◌*◌, ◌/◌, ◌%◌, ◌^◌, ◌<◌, ◌≤◌, List, [], ◌++◌, length, get_or, take, drop, sym, refl, ap, ◌∙◌, ⊎_elim, append_assoc, append-nil, add-zero, suc-mul, eq-or-lt_of_le, add-one, arith, length-append, length-drop, drop_of_length-le, length-take, take_all, drop-drop, take_at, get_or-append-add, le-leb}
 use lib.ListN.{get_or-eq_default}
 use borrow.Author.Tests.{lt-leb}
 use lib.Seq.{take-nil, drop-append-add}
 use borrow.Rule.Slice.PartMut.{put_mid}
 use Rattle.std.specs.Simd.{first_chunks}
-use Rattle.std.specs.Int.{w64, from_le_bytes, to_le_bytes}
+use Rattle.std.specs.Int.{w64, to_le_bytes}
 use Rattle.std.proofs.lemmas.Nat.{from_le_bytes-to_le_bytes_8}
-use Rattle.blocks.specs.Words.{check_sum, running_sum, sum_by, byte, word_from, word, block}
+use Rattle.blocks.specs.Words.{check_sum, running_sum, sum_by, word_from, word, block}
 use Rattle.blocks.specs.Bytes.{bytes, row_to, block_bytes, put, stored}
 use Rattle.blocks.specs.declared.Rule.{Rule}
 use Rattle.blocks.specs.declared.Rule.TheVariants.{Plain, Running}
@@ -31,18 +31,6 @@ word-past s k h =
     let l : length s ≤ 8 * k = omega arith in
     let z : get_or s (8 * k) 0 ≡ 0 = get_or-eq_default s 0 l in
     rw (z, g 1, g 2, g 3, g 4, g 5, g 6, g 7)
-
--- a word of eight bytes that were gathered one by one
-pub word-gathered : (s ys : List ℕ) (at : ℕ) {r : ℕ} → ((j : ℕ) → j < 8 → get_or ys j 0 ≡ byte s (at + j)) → r ≡ from_le_bytes w64 ys → r ≡ word_from s at
-word-gathered s ys at h e =
-    let z : at + 0 ≡ at = omega arith in
-    omega (arith, e, h 0 (omega arith) ∙ ap (byte s) z, h 1 (omega arith), h 2 (omega arith), h 3 (omega arith), h 4 (omega arith), h 5 (omega arith), h 6 (omega arith), h 7 (omega arith))
-
--- a word of the eight bytes that stand at an index
-pub word-read : (s : List ℕ) (at : ℕ) {ys : List ℕ} {r : ℕ} → ys ≡ take (at + 8 - at) (drop at s) → r ≡ from_le_bytes w64 ys → r ≡ word_from s at
-word-read s at {ys} e h =
-    let n : at + 8 - at ≡ 8 = omega arith in
-    word-gathered s ys at (λ j l. rw (e, n) (get_or-take 8 (drop at s) j 0 l ∙ get_or-drop at s j 0)) h
 
 pub block_none : (s : List ℕ) (k : ℕ) → length s ≤ 512 * k → block s k ≡ []
 unfolding block

@@ -91,8 +91,8 @@ fn checks_right(rule: Rule, blocks: &[[u8; 512]]) -> bool
     blocks.iter().all(|s| blocks::check_right(rule, s))
 }
 
-// Kept: kinds of blocks and models by the format's numbers, here and below: each is read in one test of its own.
 // Kind 1 has version 1 to 3.
+// Kept: kinds of blocks and models by the format's numbers, here and below: each is read in one test of its own.
 #[tactic(auto, unfolding(crate::specs::Book::version_right))]
 fn version_right(s: &[u8; 512]) -> bool
     ensures { result ≡ version_right (word s.now) }

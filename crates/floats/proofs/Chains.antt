@@ -1,8 +1,8 @@
 -- Loops as chains: a test of every index, or of every element with its index, by `all`; a fold over the indices. Assumes nothing.
 use Prim.Native.Nat.{ℕ, zero, suc, ◌+◌, ◌<◌}
-use mathlib.Core.Path.{◌≡◌, refl, sym, ◌∙◌, ap, subst}
+use mathlib.Core.Path.{◌≡◌, refl, sym, ◌∙◌, ap}
 use mathlib.Core.Bool.{Bool, true, false}
-use mathlib.Core.List.{List, [], ◌∷◌, map-id}
+use mathlib.Core.List.{List, map-id}
 use native.Mathlib.Numerals.{add-one}
 use native.Mathlib.Omega.{arith}
 use lib.ListN.{length, get_or}
@@ -14,9 +14,9 @@ use Rattle.std.specs.declared.iter.Enumerate.{Enumerate}
 use Rattle.std.specs.declared.slice.Iter.{Iter}
 use Rattle.std.specs.Iterator.Adapters.{enumerate_source, enumerate_count, enumerate_steps}
 use Rattle.std.specs.Slice.Iter.{iter_rest}
-use Rattle.std.specs.Fn.{Called, Takes}
+use Rattle.std.specs.Fn.{Called}
 use Rattle.std.specs.List.{range_with_len, enumerate_from, AllWithin, HoldsAt, FoldsTo}
-use Rattle.std.specs.Iterator.{ChecksAll, FoldTurn, FoldsItems, CallableInFold, Yields}
+use Rattle.std.specs.Iterator.{ChecksAll, FoldTurn, FoldsItems}
 use Rattle.std.proofs.iter.Yields.{fronts, nat_range_steps, gives_Drains}
 use Rattle.std.proofs.lemmas.Iterator.{cases_from_all, YieldsList-from_range, YieldsList-from_slice}
 use Rattle.std.proofs.lemmas.Iterator.Consumers.{YieldsList-from_enumerate}
@@ -62,18 +62,3 @@ fold_of_range {g = g} {f = f} {r = r} {e = e} step s n h (xs, q, drained, ran) t
     let y = YieldsList-from_range 0 e n refl (rw h (omega arith)) in
     let all : xs ≡ range_with_len 0 n = sym (map-id xs) ∙ gives_Drains nat_range_steps (λ x. x) xs (range_with_len 0 n) _ y.runs drained in
     fold_from g f step turn s n 0 (f, s) q r refl refl (rw all at ran) ∙ ap (fold_to step s) (omega arith)
-
--- what a `fold` over the indices below n asks of its closure
-within : (xs : List ℕ) (s t : Range ℕ) → Yields nat_range_steps s xs t → t.end ≡ s.end
-within [] s t y = sym (ap (λ (k : Range ℕ). k.end) y)
-within (x ∷ xs) s t y = within xs y.0 t y.2 ∙ y.1.0
-
-pub folds_of_range : {S F : Type 0} {g : Mut F (S × (ℕ × Unit {0})) S} {f : F} {s : S} {n : ℕ} → ((a : S) (x : ℕ) (b : S) (q : F) → Called g f (a, (x, tt)) b q → q ≡ f)
-    → ((a : S) (x : ℕ) → x < n → Takes g f (a, (x, tt))) → CallableInFold nat_range_steps g (record { start = 0; end = n }) f s
-folds_of_range {S} {F} {g} {f} {n = n} stays takes = record {
-  at = λ xs t q x u y c e. let w = within xs _ t y in subst (λ k. Takes g k (q.1, (x, tt))) (sym (kept xs _ q refl c)) (takes q.1 x (omega (arith, w, e.1.1)));
-}
-  where
-    kept : (xs : List ℕ) (p q : F × S) → p.0 ≡ f → FoldsTo (FoldTurn g) p xs q → q.0 ≡ f
-    kept [] p q e c = sym (ap (λ (k : F × S). k.0) c) ∙ e
-    kept (x ∷ xs) p q e (j, c, t) = kept xs j q (stays p.1 x j.1 j.0 (rw e at c)) t

@@ -12,10 +12,6 @@ use lib.Ieee.{Float, nan}
 use Rattle.floats.specs.Vector.{at, fill, fill_from, zeros8, vec}
 
 module _ {A : Type 0} where
-  pub fill_from-turn : (f : ℕ → A) (base k : ℕ) (m₀ : List A) {m : List A} {v : A} → v ≡ f k → m ≡ fill_from f base k m₀ → set m (base + k) v ≡ fill_from f base (k + 1) m₀
-  unfolding fill_from
-  fill_from-turn f base k m₀ p q = rw (add-one, p, q)
-
   pub fill-turn : (f : ℕ → A) (k : ℕ) (m₀ : List A) {m : List A} {v : A} → v ≡ f k → m ≡ fill f k m₀ → set m k v ≡ fill f (k + 1) m₀
   unfolding fill
   fill-turn f k m₀ p q = rw (add-one, p, q)

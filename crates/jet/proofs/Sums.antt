@@ -11,8 +11,5 @@ pub sum_jet_turn : (a : Jet) (f : ℕ → Jet) (k : ℕ) {r s t : Jet} → r ≡
 unfolding fold_to
 sum_jet_turn a f k p q h = rw (add-one, p, q, h)
 
-pub sum_jet_done : (a : Jet) (f : ℕ → Jet) (k n : ℕ) {s : Jet} → k ≡ n → s ≡ sum_jet_from a f k → s ≡ sum_jet_from a f n
-sum_jet_done a f k n e h = h ∙ ap (sum_jet_from a f) e
-
 pub sum_jet_cong : {a b : Jet} {f g : ℕ → Jet} (n : ℕ) → a ≡ b → ((k : ℕ) → k < n → f k ≡ g k) → sum_jet_from a f n ≡ sum_jet_from b g n
 sum_jet_cong {a} {b} {f} {g} n p e = fold_cong a n (λ k s l. ap (add_j s) (e k l)) ∙ ap (λ (s : Jet). sum_jet_from s g n) p

@@ -2,7 +2,7 @@
 // p = p_r exp((T_r/T) Σ n_k θ^t_k), θ = 1 − T/T_r.
 #![tactic(auto)]
 
-ghost use Rattle.std.specs.Prelude.{◌≡◌, ◌*◌, ◌/◌, not, ◌&&◌};
+ghost use Rattle.std.specs.Prelude.{◌≡◌, ◌*◌, ◌/◌, not, ◌&&◌, Float};
 ghost use Rattle.std.specs.Float.Ieee.{neg, le};
 ghost use Rattle.floats.specs.Arithmetic.{◌⊕◌, ◌⊖◌, ◌⊗◌, ◌⊘◌, 0f, 1f};
 ghost use Rattle.floats.specs.Small.{is_finite};
@@ -81,11 +81,11 @@ fn sum_pairs(n: &[f64; 8], e: &[f64; 8], t_r: f64, theta: f64, l: f64, m: Count)
     z
 }
 
-// ln θ once, since θ^e is exp(e ln θ).
-fn sum_terms(n: &[f64; 8], e: &[f64; 8], t_r: f64, theta: f64, m: Count) -> Sums
+// l = ln θ is worked out once, since θ^e is exp(e ln θ).
+fn sum_terms(n: &[f64; 8], e: &[f64; 8], t_r: f64, theta: f64, l: f64, m: Count) -> Sums
+    requires { l ≡ ln_of theta }
     ensures { result ≡ sums_of n.now e.now t_r theta m.n }
 {
-    let l = numerics::ln(theta);
     let z = sum_pairs(n, e, t_r, theta, l, m);
     if m.n % 2 == 0 {
         return z;
@@ -107,17 +107,17 @@ pub fn is_representable(pressure: f64, ln_p: f64, d1: f64, d2: f64) -> bool
         & !(pressure <= 0.0)
 }
 
-// ln p from S, and its two derivatives by T.
+// ln p from ln p_r and S, and its two derivatives by T.
 #[tactic(auto, unfolding(crate::specs::Vapor::vapor_from))]
-fn from_sums(t_r: f64, reducing_value: f64, t: f64, sums: Sums) -> Logarithm
-    ensures { result ≡ (vapor_from t_r reducing_value t sums).ln }
+fn from_sums(t_r: f64, ln_reducing: f64, t: f64, sums: Sums) -> Logarithm
+    ensures { (p_r : Float) → ln_reducing ≡ ln_of p_r → result ≡ (vapor_from t_r p_r t sums).ln }
 {
     let Sums { s, ds, d2s } = sums;
     let q = t_r / t;
     let dq = -t_r / (t * t);
     let d2q = 2.0 * t_r / (t * t * t);
     Logarithm {
-        value: numerics::ln(reducing_value) + q * s,
+        value: ln_reducing + q * s,
         slope: dq * s + q * ds,
         curvature: d2q * s + 2.0 * dq * ds + q * d2s,
     }
@@ -128,8 +128,9 @@ pub fn ln_pressure(a: Ancillary, t: f64) -> Logarithm
     ensures { result ≡ (vapor_of a t).ln }
 {
     let theta = 1.0 - t / a.t_r;
-    let sums = sum_terms(&a.n, &a.t, a.t_r, theta, Count::of(a.count));
-    from_sums(a.t_r, a.reducing_value, t, sums)
+    let (l, ln_reducing) = numerics::ln_two(theta, a.reducing_value);
+    let sums = sum_terms(&a.n, &a.t, a.t_r, theta, l, Count::of(a.count));
+    from_sums(a.t_r, ln_reducing, t, sums)
 }
 
 // Outside the correlation's range: 22; not representable: 25.

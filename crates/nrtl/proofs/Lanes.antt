@@ -11,7 +11,6 @@ use lib.Ieee.{Float, nan}
 use Rattle.floats.specs.Arithmetic.{0f}
 use Rattle.floats.specs.Fold.{fold_to}
 use Rattle.floats.specs.Vector.{at, fill, zeros8}
-use Rattle.floats.proofs.Folds.{fold_turn}
 use Rattle.jet.specs.declared.Jet.{Jet}
 use Rattle.jet.specs.Planes.{first_two}
 use Rattle.jet.proofs.Planes.{two_is, jet_is}
@@ -82,10 +81,6 @@ module _ (F : ℕ → Jet) (m n : ℕ) (m3 : m ≤ 3) (n8 : n ≤ 8) {l : List F
   jet_in_lem i q r = jet_is (F i) (first_in i (omega arith) r) (part_in 1 i (omega arith) r) (part_in 2 i q r)
 
 -- ---- more lanes
-pub lane_turn : (F : ℕ → Jet) (m i w : ℕ) (old : List Float) {j : Jet} {l l' : List Float} → j ≡ F (i + w) → l' ≡ lane j (i + w) m l → l ≡ lanes_from F m i w old
-    → l' ≡ lanes_from F m i (w + 1) old
-lane_turn F m i w old e p q = fold_turn (λ v (l : List Float). lane (F (i + v)) (i + v) m l) old w (rw e at p) q
-
 lanes_more : (F : ℕ → Jet) (m i w : ℕ) (old : List Float) → lanes_from F m i w (lanes F m i old) ≡ lanes F m (i + w) old
 unfolding fold_to
 lanes_more F m i zero old = let z : i + 0 ≡ i = omega arith in rw z

@@ -98,7 +98,7 @@ fn count(u: u64) -> f64
 }
 
 // A value, and whether it is the definition's: for exp, where v is near 0 and the whole number next to C * v is its k.
-// Kept: as an `Option` it costs `exp_two` a tenth more time, since a `None` is given a value too.
+// Kept: as an `Option` it costs `exp_two` an eighth more time (43.5 cycles for 38.5), since a `None` is given a value too.
 #[derive(Clone, Copy)]
 struct Near {
     y: f64,

@@ -39,16 +39,11 @@ module _ {A : Type 0} where
   tests-not true b r o = refl
   tests-not false b r o = refl
 
--- what two steps put together, taken on
-through : {A B C D : Type 0} (o : Out A) (E : A → Out B) (both : A → B → D) (k : D → Out C)
-    → bind (bind o (λ x. bind (E x) (λ a. ok (both x a)))) k ≡ bind o (λ x. bind (E x) (λ a. k (both x a)))
+-- what one step gives, taken on
+through : {A B C : Type 0} (o : Out A) (f : A → B) (k : B → Out C) → bind (bind o (λ x. ok (f x))) k ≡ bind o (λ x. k (f x))
 unfolding bind
-through {B = B} (ok x) E both k = onward (E x)
-  where
-    onward : (o : Out B) → bind (bind o (λ a. ok (both x a))) k ≡ bind o (λ a. k (both x a))
-    onward (ok a) = refl
-    onward (no r) = refl
-through (no r) E both k = refl
+through (ok x) f k = refl
+through (no r) f k = refl
 
 -- ---- the bubble point of ln γ: w are the partial pressures, p their sum
 module _ (x lg ps : List Float) (n : ℕ) {m : ℕ} (c : m ≡ places n) {w : List Float} {p : Float} (e : w ≡ vec (partial_of x lg ps) m)
@@ -80,16 +75,16 @@ module _ (y ps lg : List Float) (n : ℕ) (h : n ≤ 8) {w : List Float} (e : w 
 
 -- ---- a turn and the last step of the dew iteration, from the incipient liquid
 module _ (E : List Float → Out Activity) (ps : List Float) (n : ℕ) (y lg : List Float) where
-  pub turn-from : dew_turn E ps n y lg ≡ bind (incipient E ps n y lg)
-      (λ i. need (is_finite (change_of y i.activity.ln_gamma lg n)) 25 (need (is_finite i.pressure) 25 (ok i.activity)))
+  pub turn-from : dew_turn E ps n y lg ≡ bind (incipient ps n y lg)
+      (λ i. bind (E i.liquid) (λ a. need (is_finite (change_of y a.ln_gamma lg n)) 25 (need (is_finite i.pressure) 25 (ok a))))
   unfolding dew_turn incipient
-  turn-from = sym (through _ _ _ _)
+  turn-from = sym (through _ _ _)
 
-  pub point-from : (k : ℕ) → dew_point E ps n y lg k ≡ bind (incipient E ps n y lg)
-      (λ i. bind (residual_with i.activity.ln_gamma ps i.pressure i.liquid y n)
-      (λ r. ok (record { pressure = i.pressure; liquid = i.liquid; activity = i.activity; iterations = k; residual = r })))
+  pub point-from : (k : ℕ) → dew_point E ps n y lg k ≡ bind (incipient ps n y lg)
+      (λ i. bind (E i.liquid) (λ a. bind (residual_with a.ln_gamma ps i.pressure i.liquid y n)
+      (λ r. ok (record { pressure = i.pressure; liquid = i.liquid; activity = a; iterations = k; residual = r }))))
   unfolding dew_point incipient
-  point-from k = sym (through _ _ _ _)
+  point-from k = sym (through _ _ _)
 
   -- what a turn says of its outcome
   turned-no : (o : Out Activity) (k : Activity → Out Dew) {m : ℕ} → no m ≡ bind o (λ a. ok (turned y lg n a)) → bind o k ≡ no m

@@ -65,6 +65,10 @@ dew_pressure y ps lg n = 1f ⊘ sum_to (dew_term y ps lg) n
 unfoldable pub dew_liquid : List Float → List Float → List Float → ℕ → Out (List Float)
 dew_liquid y ps lg n = normalize_of (dew_term y ps lg) n
 
+-- what ln γ gives: the pressure and the incipient liquid
+unfoldable pub incipient : List Float → ℕ → List Float → List Float → Out IncipientLiquid
+incipient ps n y lg = bind (dew_liquid y ps lg n) (λ x. ok (record { pressure = dew_pressure y ps lg n; liquid = x }))
+
 -- the largest change of ln γ where y is positive
 unfoldable pub change_of : List Float → List Float → List Float → ℕ → Float
 change_of y new old n = fold_to (active (at y) (λ i r. max_of r (abs_of (at new i ⊖ at old i)))) 0f n
@@ -81,13 +85,6 @@ module _ (E : List Float → Out Activity) (ps : List Float) (n : ℕ) where
   -- `residual`
   unfoldable pub residual : Float → List Float → List Float → Out Float
   residual p x y = bind (E x) (λ a. residual_with a.ln_gamma ps p x y n)
-
-  -- what ln γ gives: the pressure, the incipient liquid, and the activity there
-  unfoldable pub incipient : List Float → List Float → Out IncipientLiquid
-  incipient y lg =
-      bind (dew_liquid y ps lg n) (λ x.
-      bind (E x) (λ a.
-      ok (record { pressure = dew_pressure y ps lg n; liquid = x; activity = a })))
 
   -- one turn of the dew iteration, from ln γ: the activity at the incipient liquid (25 where the change or the pressure isn't finite)
   unfoldable pub dew_turn : List Float → List Float → Out Activity

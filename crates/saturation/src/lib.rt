@@ -24,12 +24,11 @@ pub struct BubblePoint {
     pub vapor: [f64; 8],
 }
 
-// Pressure in Pa, the incipient liquid, and the activity (ln γ, 1/K) at that liquid.
+// Pressure in Pa, and the incipient liquid.
 #[derive(Clone, Copy)]
 struct IncipientLiquid {
     pressure: f64,
     liquid: [f64; 8],
-    activity: ActivityCoefficients,
 }
 
 // One turn of the dew iteration: the largest change of ln γ, and the new ln γ.
@@ -153,8 +152,8 @@ pub fn residual_with(
 
 // ---- dew point: p = 1 / Σ y_i / (γ_i p_i^sat), by successive substitution on ln γ of the incipient liquid
 
-// Kept: liquid_stability and tp_flash hold a table and its Tabled in a struct too: each with what its own solver reads beside them.
 // A vapor y whose dew point is sought, with the tables and the vapor pressures of a temperature.
+// Kept: liquid_stability and tp_flash hold a table and its Tabled in a struct too: each with what its own solver reads beside them.
 #[derive(Clone, Copy)]
 struct Vapor<'a> {
     table: &'a [f64; 512],
@@ -165,9 +164,9 @@ struct Vapor<'a> {
 }
 
 impl Vapor<'_> {
-    // What ln γ gives: 34, then what `activity` refuses at the incipient liquid.
+    // What ln γ gives: 34 where the terms have no sum to divide by.
     fn incipient(self, lg: &[f64; 8]) -> Result<IncipientLiquid, Refusal>
-        ensures { let v = self.entry in outcome_of result ≡ incipient (activity_on v.table.now v.tabled) v.ps.now v.m.n v.y.now lg.now }
+        ensures { let v = self.entry in outcome_of result ≡ incipient v.ps.now v.m.n v.y.now lg.now }
     {
         let Vapor { y, ps, m, .. } = self;
         let raoult = Raoult { lg, ps, m };
@@ -177,12 +176,7 @@ impl Vapor<'_> {
         );
         let pressure = 1.0 / thermo_types::sum(&w, m.n);
         let liquid = thermo_types::normalize(&w, m.n)?;
-        let activity = thermo_models::activity(self.table, self.tabled, &liquid)?;
-        Ok(IncipientLiquid {
-            pressure,
-            liquid,
-            activity,
-        })
+        Ok(IncipientLiquid { pressure, liquid })
     }
 
     // The largest change of ln γ of a solvent that is present.
@@ -195,17 +189,17 @@ impl Vapor<'_> {
         changes.fold(0.0, floats::max)
     }
 
-    // A turn from ln γ: 25 where change or pressure isn't finite.
+    // A turn from ln γ: what `activity` refuses at the incipient liquid, then 25 where change or pressure isn't finite.
     fn turn(self, lg: &[f64; 8]) -> Result<DewTurn, Refusal>
         ensures { let v = self.entry in
             outcome_of result ≡ bind (dew_turn (activity_on v.table.now v.tabled) v.ps.now v.m.n v.y.now lg.now) (λ a. ok (turned v.y.now lg.now v.m.n a)) }
     {
-        let IncipientLiquid {
-            pressure,
-            activity,
-            ..
-        } = self.incipient(lg)?;
-        let ln_gamma = activity.ln_gamma;
+        let IncipientLiquid { pressure, liquid } = self.incipient(lg)?;
+        // Kept: `excess` into arrays: by `activity`, whose result is copied out of a `Result`, a dew point of two solvents takes 4 to 6 %
+        // longer.
+        let mut ln_gamma = [0.0; 8];
+        let mut slopes = [0.0; 8];
+        thermo_models::excess(self.table, self.tabled, &liquid, &mut ln_gamma, &mut slopes)?;
         let change = self.largest_change(&ln_gamma, lg);
         if !(floats::is_finite(change) & floats::is_finite(pressure)) {
             return Err(Refusal::ResultNotFinite);
@@ -217,11 +211,8 @@ impl Vapor<'_> {
     fn point(self, lg: &[f64; 8], iterations: u64) -> Result<DewPoint, Refusal>
         ensures { let v = self.entry in outcome_of result ≡ dew_point (activity_on v.table.now v.tabled) v.ps.now v.m.n v.y.now lg.now iterations }
     {
-        let IncipientLiquid {
-            pressure,
-            liquid,
-            activity,
-        } = self.incipient(lg)?;
+        let IncipientLiquid { pressure, liquid } = self.incipient(lg)?;
+        let activity = thermo_models::activity(self.table, self.tabled, &liquid)?;
         let residual = residual_with(
             &activity.ln_gamma,
             self.ps,

@@ -35,9 +35,9 @@ struct Root {
     iterations: u64,
 }
 
+// A bracket of the root, and the next temperature to try, K.
 // Kept: Rachford-Rice has such a bracket and such a step. What is one formula, the middle and 4 ε, is shared; the steps and the
 // tests that end the two searches are not alike.
-// A bracket of the root, and the next temperature to try, K.
 #[derive(Clone, Copy)]
 struct Bracket {
     lo: f64,

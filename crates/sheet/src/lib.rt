@@ -136,9 +136,9 @@ impl<'a> Source<'a> {
     }
 }
 
-// Kept: tables and pressures are the caller's memory, which batch keeps from feed to feed, here and in `ready`.
 // What the tasks at a temperature share for a book of n solvents, as `answer_ready` takes it: the tables and vapor pressures that
 // the task reads. What the tables stand for; or 13, 14, 22, 23, or 25 of a vapor pressure.
+// Kept: tables and pressures are the caller's memory, which batch keeps from feed to feed, here and in `ready`.
 pub fn make_ready(
     book: &[u8],
     n: usize,

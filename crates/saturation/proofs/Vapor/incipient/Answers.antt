@@ -17,20 +17,10 @@ unfolding incipient bind
 returns-in_err-liquid c =
     rw (met c.in_err-liquid.field-0.0 c.from_residual.result c.from_residual.ensures.1, liquid-is _ _ _ _ c.args.self.m.few (terms (goal.at.returns-in_err-liquid c).After-terms-w) c.in_err-liquid.ensures)
 
-pub returns-in_err-activity : goal.returns-in_err-activity
-unfolding incipient bind
-returns-in_err-activity c =
-    rw (
-      met c.in_err-activity.field-0.0 c.from_residual-in_err-activity.result c.from_residual-in_err-activity.ensures.1,
-      liquid-is _ _ _ _ c.args.self.m.few (terms (goal.at.returns-in_err-activity c).After-terms-w) c.in_ok-liquid.ensures,
-      ← c.in_err-activity.ensures,
-    )
-
 pub returns : goal.returns
 unfolding incipient bind
 returns c =
     rw (
       liquid-is _ _ _ _ c.args.self.m.few (terms (goal.at.returns c).After-terms-w) c.in_ok-liquid.ensures,
-      ← c.in_ok-activity.ensures,
       pressure-is _ _ _ _ c.args.self.m.few (terms (goal.at.returns c).After-terms-w) c.sum-pressure.ensures,
     )

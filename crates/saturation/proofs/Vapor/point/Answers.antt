@@ -9,6 +9,16 @@ pub returns-in_err-pressure : goal.returns-in_err-pressure
 unfolding bind
 returns-in_err-pressure c = rw (met c.in_err-pressure.field-0.0 c.from_residual.result c.from_residual.ensures.1, point-from, ← c.in_err-pressure.ensures)
 
+pub returns-in_err-activity : goal.returns-in_err-activity
+unfolding bind
+returns-in_err-activity c =
+    rw (
+      met c.in_err-activity.field-0.0 c.from_residual-in_err-activity.result c.from_residual-in_err-activity.ensures.1,
+      point-from,
+      ← c.in_ok-pressure.ensures,
+      ← c.in_err-activity.ensures,
+    )
+
 pub returns-in_err-residual : goal.returns-in_err-residual
 unfolding bind
 returns-in_err-residual c =
@@ -16,10 +26,11 @@ returns-in_err-residual c =
       met c.in_err-residual.field-0.0 c.from_residual-in_err-residual.result c.from_residual-in_err-residual.ensures.1,
       point-from,
       ← c.in_ok-pressure.ensures,
+      ← c.in_ok-activity.ensures,
       ← places_is _ c.args.self.m.few,
       ← c.in_err-residual.ensures,
     )
 
 pub returns : goal.returns
 unfolding bind
-returns c = rw (point-from, ← c.in_ok-pressure.ensures, ← places_is _ c.args.self.m.few, ← c.in_ok-residual.ensures)
+returns c = rw (point-from, ← c.in_ok-pressure.ensures, ← c.in_ok-activity.ensures, ← places_is _ c.args.self.m.few, ← c.in_ok-residual.ensures)
