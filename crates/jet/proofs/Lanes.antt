@@ -20,7 +20,7 @@ use Rattle.jet.specs.declared.Two.{Two}
 use Rattle.jet.specs.declared.Lane.{Lane}
 use Rattle.jet.specs.Jets.{exp_with, exp_j}
 use Rattle.jet.specs.Planes.{Holds, spread, six, cell_of, plane_rows}
-use Rattle.jet.specs.Lanes.{two_of, first_of, second_of, raised_two, lane_of, lane_in, raised_lane, triangle, laid_border, laid, no_lane, raised_to, first_g, second_g, Makes, AllLie, cell_in}
+use Rattle.jet.specs.Lanes.{two_of, first_of, second_of, raised_two, lane_of, lane_in, raised_lane, triangle, laid_border, laid, no_lane, raised_to, first_g, second_g, Makes, AllLie, cell_in, Lists}
 use Rattle.jet.proofs.Planes.{spread_cong, rows_same}
 
 -- ---- places of pairs
@@ -183,3 +183,9 @@ module _ (cells : List Float → ℕ → Float) (own : ℕ → Float) (P : List 
   pub plane_cells : (M : ℕ) {m n : ℕ} (old : List Float) {t : List Float} → m ≡ n → n ≤ 8 → t ≡ plane_rows (cell_in cells own (λ i j. six P (i % 8 * 8 + j % 8))) M m m old
       → t ≡ plane_rows (cell_of cells own P) M n n old
   plane_cells M {m} {n} old e a p = rw e at p ∙ rows_same M n n old (λ i j k h l. cell-same i j k (omega arith) (omega arith))
+
+pub plane_lists : (P : List Float) {m : ℕ} → m ≤ 8 → Lists (λ i j. six P (i % 8 * 8 + j % 8)) m P
+plane_lists P a i j h l n =
+    let x : i % 8 ≡ i = omega arith in
+    let y : j % 8 ≡ j = omega arith in
+    rw (x, y)

@@ -2,4 +2,4 @@
 pub mod Sums
 pub mod Near
 pub mod Planes
-mod Lanes
+pub mod Lanes

@@ -7,6 +7,7 @@ use Rattle.jet.specs.declared.Jet.{Jet}
 use Rattle.jet.specs.declared.Two.{Two}
 use Rattle.jet.specs.declared.Lane.{Lane}
 use Rattle.jet.specs.Jets.{exp_with}
+use Rattle.jet.specs.Planes.{six}
 
 unfoldable pub two_of : Jet → Jet → Two
 two_of a b = record { v0 = a.v; v1 = b.v; d0 = a.d; d1 = b.d; dd0 = a.dd; dd1 = b.dd }
@@ -76,3 +77,7 @@ pub record AllLie (m : Jet → Jet → ℕ → Float) (own : ℕ → Float) (L :
 -- entry (i, j) of plane k: f of the pair's six parameters, and g of a solvent with itself
 unfoldable pub cell_in : (List Float → ℕ → Float) → (ℕ → Float) → (ℕ → ℕ → List Float) → ℕ → ℕ → ℕ → Float
 cell_in f g S i j = cond (eqb i j) g (f (S i j))
+
+-- a source of n solvents gives what the flat list P has
+abbrev pub Lists : (ℕ → ℕ → List Float) → ℕ → List Float → Type 0
+Lists S n P = (i j : ℕ) → i < n → j < n → (i ≡ j → ⊥) → S i j ≡ six P (i * 8 + j)
