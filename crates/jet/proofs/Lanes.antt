@@ -174,8 +174,10 @@ module _ (cells : List Float → ℕ → Float) (own : ℕ → Float) (P : List 
     where
       a : i % 8 ≡ i
       a = omega arith
+
       b : j % 8 ≡ j
       b = omega arith
+
       pick : (c : Bool) → cond c own (cells (six P (i % 8 * 8 + j % 8))) k ≡ cond c (own k) (cells (six P (i * 8 + j)) k)
       pick true = refl
       pick false = rw (a, b)

@@ -263,6 +263,7 @@ impl Two {
     }
 
     // The exponentials of the values in their place.
+    #[inline(always)]
     #[tactic(auto, unfolding(crate::specs::Lanes::raised_two))]
     fn raised(self) -> Two
         ensures { result ≡ raised_two self }
@@ -304,10 +305,7 @@ impl Source for Plane<'_> {
     }
 
     fn both(&self, i: usize, j: usize) -> ([f64; 6], [f64; 6]) {
-        (
-            pair(self.parameters, i, j),
-            pair(self.parameters, j, i),
-        )
+        (pair(self.parameters, i, j), pair(self.parameters, j, i))
     }
 }
 

@@ -14,7 +14,6 @@ use Rattle.floats.specs.Fold.{all_to}
 use Rattle.floats.proofs.Folds.{all_at}
 use Rattle.floats.proofs.Chains.{all_each}
 use Rattle.outcome.specs.declared.Refusal.TheVariants.{AlphaNotPositive}
-use Rattle.jet.specs.declared.Jet.{Jet}
 use Rattle.jet.specs.Jets.{const_j, exp_j}
 use Rattle.jet.specs.Planes.{six, plane_rows}
 use Rattle.jet.specs.Lanes.{cell_in, Lists}
@@ -82,9 +81,9 @@ module _ (S : ℕ → ℕ → List Float) (P : List Float) (b : Basis) (n : ℕ)
       all_each (λ i. all_to (λ j. alpha_above b (S j i) && alpha_above b (S i j)) i) n
       (λ i h. all_each (λ j. alpha_above b (S j i) && alpha_above b (S i j)) i
       (λ j l.
-          let down : alpha_above b (S j i) ≡ true = sym (right-is j i (omega arith) h (λ d. omega arith)) ∙ at-pair e j i (omega arith) h in
-          let up : alpha_above b (S i j) ≡ true = sym (right-is i j h (omega arith) (λ d. omega arith)) ∙ at-pair e i j h (omega arith) in
-          rw (down, up)))
+      let down : alpha_above b (S j i) ≡ true = sym (right-is j i (omega arith) h (λ d. omega arith)) ∙ at-pair e j i (omega arith) h in
+      let up : alpha_above b (S i j) ≡ true = sym (right-is i j h (omega arith) (λ d. omega arith)) ∙ at-pair e i j h (omega arith) in
+      rw (down, up)))
     where
       at-pair : all_to (λ i. all_to (alpha_right P b i) n) n ≡ true → (i j : ℕ) → i < n → j < n → alpha_right P b i j ≡ true
       at-pair e i j h l = all_at (alpha_right P b i) n j l (all_at (λ i. all_to (alpha_right P b i) n) n i h e)

@@ -9,13 +9,11 @@ use borrow.Author.Tests.{lt-ltb, le-ltb, ltb-true, ltb-false}
 use lib.Dec.{ltb}
 use lib.Ieee.{Float, nan}
 use lib.ListN.{get_or}
-use Rattle.floats.specs.Vector.{at}
-use Rattle.blocks.specs.Words.{word, block}
+use Rattle.blocks.specs.Words.{word}
 use Rattle.book.specs.declared.Model.{Model}
 use Rattle.book.specs.Places.{words, words_in, pair_place, block_count}
 use Rattle.book.specs.Book.{model_of}
 use Rattle.book.proofs.Laws.{place-within}
-use Rattle.jet.specs.Planes.{six}
 use Rattle.jet.specs.Lanes.{Lists}
 use Rattle.records.specs.declared.Terms.{Terms}
 use Rattle.records.specs.Parameters.{parameter, pair_term, lower_from, terms_of, parameters_of}

@@ -17,7 +17,6 @@ use Rattle.records.specs.Sources.{six_by, Reads}
 use Rattle.records.proofs.Sources.{pairs_listed}
 use Rattle.nrtl_tables.specs.Table.{Filled}
 use Rattle.wilson_tables.specs.Table.{lambdas_of}
-use Rattle.thermo_models.specs.declared.Tabled.{Tabled}
 use Rattle.thermo_models.specs.Activity.{Stands}
 use Rattle.thermo_models.proofs.Stands.{stands, nrtl_made, wilson_made}
 

@@ -227,6 +227,21 @@ fn whole_tables(
     }
 }
 
+// Kept: a function of its own: in `book_tables` the plane would be cleared at each call, 30 ns, also where it isn't used.
+fn plane_tables(
+    book: &[u8],
+    offered: &[u8],
+    n: usize,
+    t: Temperature,
+    table: &mut [f64; 512],
+) -> Tabled
+    ensures { Stands book.now (parameters_of (with_pair (places n) book.now offered.now) (places n)) (places n) t result table.old table.new }
+{
+    let mut parameters = [0.0; 384];
+    records::parameters(book, offered, n, &mut parameters);
+    tables(book, &parameters, n, t, table)
+}
+
 // The tables of a book of n solvents at t, a pair offered in the place of its own: as by `records::parameters` and `tables`, and
 // with nothing offered without that plane between.
 pub fn book_tables(
@@ -243,9 +258,7 @@ pub fn book_tables(
             return whole_tables(book, pairs, n, t, table);
         }
     }
-    let mut parameters = [0.0; 384];
-    records::parameters(book, offered, n, &mut parameters);
-    tables(book, &parameters, n, t, table)
+    plane_tables(book, offered, n, t, table)
 }
 
 // ln γ, slopes and energies of x, from a table and what it stands for.

@@ -29,8 +29,9 @@ overflow_add-q g c =
 pub loop-i-preserved : goal.loop-i-preserved
 loop-i-preserved g c =
     let (q, t) = c.loop-i.invariant in
-    let i = c.loop-i.i in
-    (omega (arith, q, triangle_next i),
-    λ f h. square-next f g.row.M i c.args.table.now (omega (arith, c.args.m.few)) (t f h)
-    (c.fill_border.ensures f (rw q (h.pairs i (omega arith))))
-    (c.keep.ensures ∙ spread_cong (i * 8 + i) g.row.M c.fill_border.new.table (λ k s. c.own.ensures k s ∙ ap (λ d. d k) (h.diagonal i (omega arith)))))
+    let i = c.loop-i.i in (
+      omega (arith, q, triangle_next i),
+      λ f h. square-next f g.row.M i c.args.table.now (omega (arith, c.args.m.few)) (t f h)
+          (c.fill_border.ensures f (rw q (h.pairs i (omega arith))))
+          (c.keep.ensures ∙ spread_cong (i * 8 + i) g.row.M c.fill_border.new.table (λ k s. c.own.ensures k s ∙ ap (λ d. d k) (h.diagonal i (omega arith)))),
+    )

@@ -29,6 +29,7 @@ overflow_add-q g c =
 pub loop-i-preserved : goal.loop-i-preserved
 loop-i-preserved g c =
     let (q, l) = c.loop-i.invariant in
-    let F = lane_in (g.P.Pairs.beside_of c.args.pairs.now) (g.P.Pairs.exponent_of c.args.pairs.now) (g.S.Source.six c.args.source.now) in
-    (omega (arith, q, triangle_next c.loop-i.i),
-    fold_turn (λ i l. laid_border F i (triangle i) i l) c.args.lanes.now c.loop-i.i (c.lay_border.ensures ∙ ap (λ q. laid_border F c.loop-i.i q c.loop-i.i c.loop-i.lanes) q) l)
+    let F = lane_in (g.P.Pairs.beside_of c.args.pairs.now) (g.P.Pairs.exponent_of c.args.pairs.now) (g.S.Source.six c.args.source.now) in (
+      omega (arith, q, triangle_next c.loop-i.i),
+      fold_turn (λ i l. laid_border F i (triangle i) i l) c.args.lanes.now c.loop-i.i (c.lay_border.ensures ∙ ap (λ q. laid_border F c.loop-i.i q c.loop-i.i c.loop-i.lanes) q) l,
+    )

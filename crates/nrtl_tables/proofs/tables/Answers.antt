@@ -1,5 +1,4 @@
 -- `nrtl_tables::tables` meets its contract. Assumes nothing.
-use native.Mathlib.Omega.{arith}
 use Rattle.jet.proofs.Lanes.{plane_lists}
 use Rattle.nrtl_tables.proofs.tables.Goals as goal
 
