@@ -104,6 +104,10 @@ spread_cong e m l h = fold_cong l m (λ k a q. ap (set a (k * 64 + e)) (h k q))
 pub rows_cong : {f g : ℕ → ℕ → ℕ → Float} (m n r : ℕ) (l : List Float) → ((i j k : ℕ) → f i j k ≡ g i j k) → plane_rows f m n r l ≡ plane_rows g m n r l
 rows_cong m n r l h = fold_cong l r (λ i a _. fold_cong a n (λ j b _. spread_cong (i * 8 + j) m b (λ k _. h i j k)))
 
+-- the same below n
+pub rows_same : {f g : ℕ → ℕ → ℕ → Float} (m n r : ℕ) (l : List Float) → ((i j k : ℕ) → i < r → j < n → f i j k ≡ g i j k) → plane_rows f m n r l ≡ plane_rows g m n r l
+rows_same m n r l h = fold_cong l r (λ i a p. fold_cong a n (λ j b q. spread_cong (i * 8 + j) m b (λ k _. h i j k p q)))
+
 -- ---- the cells of a pair and of the diagonal
 module _ (f : List Float → ℕ → Float) (g : ℕ → Float) (P : List Float) where
   pub cell-pair : (c : List Float) {p : List Float} (i j m : ℕ) (l : List Float) → i < 8 → j < 8 → (i ≡ j → ⊥) → p ≡ six P (i % 8 * 8 + j % 8) → Holds (f p) m c

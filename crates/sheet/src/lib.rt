@@ -109,13 +109,11 @@ impl<'a> Source<'a> {
         }
     }
 
-    // The tables of the parameters at t.
+    // The tables at t.
     fn tables_at(self, t: Temperature, table: &mut [f64; 512]) -> Tabled
         ensures { (result.t ≡ t) × TableOf (mixture_in self.entry) result table.new }
     {
-        let mut parameters = [0.0; 384];
-        records::parameters(self.book, self.offered, self.n, &mut parameters);
-        thermo_models::tables(self.book, &parameters, self.n, t, table)
+        thermo_models::book_tables(self.book, self.offered, self.n, t, table)
     }
 
     // Makes ready for a task at a temperature (K), 7 at a pressure (Pa) too: the vapor pressures that it reads, then the
