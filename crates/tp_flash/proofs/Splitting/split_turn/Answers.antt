@@ -1,8 +1,8 @@
--- `tp_flash::Feed::split_turn` meets its contract. Assumes nothing.
+-- `tp_flash::Splitting::split_turn` meets its contract. Assumes nothing.
 use Rattle.floats.specs.Outcome.{bind}
 use Rattle.outcome.proofs.Exits.{met}
 use Rattle.tp_flash.proofs.Laws.{from_rice}
-use Rattle.tp_flash.proofs.Feed.split_turn.Goals as goal
+use Rattle.tp_flash.proofs.Splitting.split_turn.Goals as goal
 
 pub returns-in_err-rr : goal.returns-in_err-rr
 unfolding bind

@@ -1,8 +1,8 @@
--- `tp_flash::Feed::turn_at` meets its contract. Assumes nothing.
+-- `tp_flash::Splitting::turn_at` meets its contract. Assumes nothing.
 use mathlib.Core.Path.{sym}
 use Rattle.floats.specs.Outcome.{bind, need}
 use Rattle.tp_flash.specs.Split.{turn_at}
-use Rattle.tp_flash.proofs.Feed.turn_at.Goals as goal
+use Rattle.tp_flash.proofs.Splitting.turn_at.Goals as goal
 
 pub returns-then-not-is_finite : goal.returns-then-not-is_finite
 unfolding turn_at bind need

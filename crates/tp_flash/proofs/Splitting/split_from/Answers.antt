@@ -2,7 +2,7 @@ use mathlib.Core.Path.{◌∙◌}
 use Rattle.floats.specs.Outcome.{bind, choose}
 use Rattle.outcome.proofs.Exits.{met}
 use Rattle.tp_flash.proofs.Laws.{loop_on}
-use Rattle.tp_flash.proofs.Feed.split_from.Goals as goal
+use Rattle.tp_flash.proofs.Splitting.split_from.Goals as goal
 
 pub returns-in_err-turn : goal.returns-in_err-turn
 unfolding bind
