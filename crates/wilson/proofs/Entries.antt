@@ -17,3 +17,6 @@ jet_first m e = let z : 0 + e ≡ e = omega arith in rw z
 -- the logarithm of a sum, where ln of its value is worked out beside another's
 pub ln_is : {k : Float} {s S l : Jet} → l ≡ ln_with k s → k ≡ ln_of s.v → s ≡ S → l ≡ ln_j S
 ln_is p q e = rw (p, q, e)
+
+pub ln_one : {s S l : Jet} → l ≡ ln_j s → s ≡ S → l ≡ ln_j S
+ln_one p e = rw (p, e)
