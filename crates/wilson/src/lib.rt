@@ -78,6 +78,21 @@ impl Liquid<'_> {
         s
     }
 
+    // S of each.
+    #[inline(always)]
+    fn rows(self) -> [Jet; 8]
+        ensures { let q = self.entry in Side (s_on q.table.now (at q.x.now) q.m.n) 0 q.m.n result }
+    {
+        let mut rows = [Jet::constant(0.0); 8];
+        for h in 0..self.m.n / 2 {
+            [rows[2 * h], rows[2 * h + 1]] = self.row_sums::<2>(2 * h);
+        }
+        if self.m.n % 2 == 1 {
+            [rows[self.m.n - 1]] = self.row_sums::<1>(self.m.n - 1);
+        }
+        rows
+    }
+
     // S_i and its logarithm l into `sums`; the next partial sum of x_i ln S_i.
     fn keep_sum(self, total: Jet, i: usize, s: Jet, l: Jet, sums: &mut [f64; 32]) -> Jet
         requires { i < 8 }
