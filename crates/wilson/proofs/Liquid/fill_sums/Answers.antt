@@ -8,11 +8,9 @@ use Rattle.wilson.proofs.Liquid.fill_sums.Goals as goal
 
 pub loop-h-preserved : goal.loop-h-preserved
 loop-h-preserved c =
-    let q = c.row_sums.ensures in
-    let z : 2 * c.loop-h.h + 0 ≡ 2 * c.loop-h.h = omega arith in
-    let first = q.jet 0 (omega arith) in
-    let s = rw z at first in
-    let r = q.jet 1 (omega arith) in
+    let h = c.loop-h.h in
+    let s = c.rows-rows.ensures (2 * h) (omega arith) in
+    let r = c.rows-rows.ensures (2 * h + 1) (omega arith) in
     let l = c.ln_two-k.ensures in
     sums_done _ _ _ _ _ (omega arith)
     (sums-turn _ _ _ _ _ (sum_same _ _ _ _ r (ln_is c.ln_with-in-loop-h.ensures l.1 r) c.keep_sum-total-in-loop-h.ensures)
@@ -21,8 +19,6 @@ loop-h-preserved c =
 pub returns-then-n-eq1 : goal.returns-then-n-eq1
 returns-then-n-eq1 c =
     let n = c.args.self.m.n in
-    let z : n - 1 + 0 ≡ n - 1 = omega arith in
-    let first = c.row_sums-then-n-eq1.ensures.jet 0 (omega arith) in
-    let s = rw z at first in
+    let s = c.rows-rows.ensures (n - 1) (omega arith) in
     sums_done _ _ _ _ _ (omega arith)
     (sums-turn _ _ _ _ _ (sum_same _ _ _ _ s (ln_one c.ln.ensures s) c.keep_sum-total-then-n-eq1.ensures) (sums_done _ _ _ _ _ (omega arith) c.loop-h.invariant))
