@@ -1,15 +1,18 @@
 // Typed quantities and mole fractions (thermo-types). Each function equals its definition in specs/.
 #![tactic(auto)]
 
-ghost use Rattle.std.specs.Prelude.{◌≡◌};
-ghost use Rattle.floats.specs.Arithmetic.{◌⊘◌};
-ghost use Rattle.floats.specs.Fold.{sum_to};
+ghost use Rattle.std.specs.Prelude.{◌≡◌, not, ◌&&◌};
+ghost use Rattle.std.specs.Float.Ieee.{lt};
+ghost use Rattle.floats.specs.Arithmetic.{◌⊖◌, ◌⊘◌, 0f, 1f, ∞};
+ghost use Rattle.floats.specs.Small.{abs_of};
+ghost use Rattle.floats.specs.Fold.{sum_to, all_to};
 ghost use Rattle.floats.specs.Vector.{at, vec, places};
 ghost use Rattle.floats.specs.Outcome.{ok};
 ghost use Rattle.outcome.specs.Refused.{number, outcome_of};
 ghost use Rattle.thermo_types.specs.Quantities.{positive_of, temperature_of, pressure_of};
-ghost use Rattle.thermo_types.specs.Composition.{all_finite, none_negative, all_positive, sums_to_one, with_fractions, shares_of, normalize_of};
+ghost use Rattle.thermo_types.specs.Composition.{sum_tolerance, all_finite, none_negative, all_positive, sums_to_one, with_fractions, shares_of, normalize_of};
 
+use floats::Count;
 use outcome::Refusal;
 
 // Kelvin. The field is private: `new` alone makes one.
@@ -113,17 +116,25 @@ pub fn sum(x: &[f64; 8], n: usize) -> f64
     (0..floats::places(n)).fold(0.0, |s, i| s + x[i])
 }
 
-// |sum - 1| within the tolerance.
+// |s - 1| within the tolerance.
+fn near_one(s: f64) -> bool
+    ensures { result ≡ not (lt sum_tolerance (abs_of (s ⊖ 1f))) }
+{
+    !(floats::abs(s - 1.0) > SUM_TOLERANCE)
+}
+
 #[tactic(auto, unfolding(crate::specs::Composition::sums_to_one))]
 pub fn sums_to_one(x: &[f64; 8], n: usize) -> bool
     ensures { result ≡ sums_to_one (at x.now) (places n) }
 {
-    !(floats::abs(sum(x, n) - 1.0) > SUM_TOLERANCE)
+    near_one(sum(x, n))
 }
 
-// The first n mole fractions are finite, not negative and sum to 1 within 1e-10.
+// The three questions in turn.
+#[cold]
+#[inline(never)]
 #[tactic(auto, unfolding(crate::specs::Composition::with_fractions, floats::specs::Outcome::need))]
-pub fn with_fractions(x: &[f64; 8], n: usize) -> Result<(), Refusal>
+fn asked_in_turn(x: &[f64; 8], n: usize) -> Result<(), Refusal>
     ensures { outcome_of result ≡ with_fractions (at x.now) (places n) (ok tt) }
 {
     if !all_finite(x, n) {
@@ -136,6 +147,34 @@ pub fn with_fractions(x: &[f64; 8], n: usize) -> Result<(), Refusal>
         return Err(Refusal::FractionSum);
     }
     Ok(())
+}
+
+// The sum, and whether each entry is 0 or more and below infinity, in one pass.
+// Kept: a `for`: two results of one pass, with no early way out.
+#[tactic(auto, unfolding(floats::specs::Fold::fold_to, floats::specs::Fold::all_to))]
+fn sum_and_range(x: &[f64; 8], m: Count) -> (f64, bool)
+    ensures sum { result.0 ≡ sum_to (at x.now) m.n }
+    ensures range { result.1 ≡ all_to (λ i. not (lt (at x.now i) 0f) && lt (at x.now i) ∞) m.n }
+{
+    let mut s = 0.0;
+    let mut within = true;
+    for i in 0..m.n {
+        s = s + x[i];
+        within = within & (!(x[i] < 0.0) & (x[i] < f64::INFINITY));
+    }
+    (s, within)
+}
+
+// The first n mole fractions are finite, not negative and sum to 1 within 1e-10.
+// Kept: asked in one pass, and in turn only where that fails.
+pub fn with_fractions(x: &[f64; 8], n: usize) -> Result<(), Refusal>
+    ensures { outcome_of result ≡ with_fractions (at x.now) (places n) (ok tt) }
+{
+    let (s, within) = sum_and_range(x, Count::of(n));
+    if within & near_one(s) {
+        return Ok(());
+    }
+    asked_in_turn(x, n)
 }
 
 // Each of the first n entries over s; 0.0 past them.
