@@ -1,7 +1,7 @@
 // Typed quantities and mole fractions (thermo-types). Each function equals its definition in specs/.
 #![tactic(auto)]
 
-ghost use Rattle.std.specs.Prelude.{◌≡◌};
+ghost use Rattle.std.specs.Prelude.{◌≡◌, ◌&&◌};
 ghost use Rattle.floats.specs.Arithmetic.{◌⊘◌};
 ghost use Rattle.floats.specs.Fold.{sum_to};
 ghost use Rattle.floats.specs.Vector.{at, vec, places};
@@ -119,6 +119,30 @@ pub fn sums_to_one(x: &[f64; 8], n: usize) -> bool
     ensures { result ≡ sums_to_one (at x.now) (places n) }
 {
     !(floats::abs(sum(x, n) - 1.0) > SUM_TOLERANCE)
+}
+
+// Mole fractions that pass all three tests, in one reading: where one fails, which is first takes readings of their own.
+#[inline(always)]
+pub fn are_fractions(x: &[f64; 8], n: usize) -> bool
+    ensures { result ≡ ((all_finite (at x.now) (places n) && none_negative (at x.now) (places n)) && sums_to_one (at x.now) (places n)) }
+{
+    let entries = 0..floats::places(n);
+    let (sum, right) = entries.fold((0.0, true), |s, i| {
+        let v = x[i];
+        (s.0 + v, s.1 & (floats::is_finite(v) & !(v < 0.0)))
+    });
+    right & !(floats::abs(sum - 1.0) > SUM_TOLERANCE)
+}
+
+// K values that pass both tests, in one reading.
+#[inline(always)]
+pub fn are_ratios(k: &[f64; 8], n: usize) -> bool
+    ensures { result ≡ (all_finite (at k.now) (places n) && all_positive (at k.now) (places n)) }
+{
+    let entries = 0..floats::places(n);
+    entries.fold(true, |right, i| {
+        right & (floats::is_finite(k[i]) & (0.0 < k[i]))
+    })
 }
 
 // The first n mole fractions are finite, not negative and sum to 1 within 1e-10.
