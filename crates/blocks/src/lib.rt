@@ -175,6 +175,7 @@ pub fn check_right(rule: Rule, s: &[u8]) -> bool
     block_sum(rule, s) == word(s, 63)
 }
 
+#[inline]
 fn store_word(out: &mut [u8], k: usize, w: u64)
     requires { 8 * k + 8 ≤ length out.old }
     ensures { out.new ≡ put out.old (8 * k) (bytes w) }

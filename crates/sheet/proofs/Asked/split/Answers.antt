@@ -1,5 +1,5 @@
 -- `sheet::Asked::split` meets its contract. Assumes nothing.
-use mathlib.Core.Path.{ap, sym}
+use mathlib.Core.Path.{ap}
 use Rattle.floats.proofs.Outcomes.{bind_yes, bind-no}
 use Rattle.outcome.specs.Refused.{outcome_of}
 use Rattle.sheet.specs.Asked.{split}
@@ -11,16 +11,9 @@ pub returns-in_err-s : goal.returns-in_err-s
 unfolding split
 returns-in_err-s c = quits _ _ c.from_residual.ensures.1 (bind-no _ (bind-no _ (ap outcome_of c.in_err-s.was)))
 
-pub write_by-requires : goal.write_by-requires
-write_by-requires c = rw c.rice_block-b.ensures (rice-alone _ _ _)
-
 pub write_alone-requires : goal.write_alone-requires
-write_alone-requires c = rw c.rice_block-b.ensures (rice-alone _ _ _)
+write_alone-requires c = rw c.rice_block.ensures (rice-alone _ _ _)
 
-pub returns-in-Plain : goal.returns-in-Plain
+pub returns : goal.returns
 unfolding split
-returns-in-Plain c = rw c.in-Plain.is (same_as (bind_yes _ (bind_yes _ (ap outcome_of c.in_ok-s.was))) (rw c.rice_block-b.ensures at c.write_by.ensures))
-
-pub returns-in-Running : goal.returns-in-Running
-unfolding split
-returns-in-Running c = same_as (bind_yes _ (bind_yes _ (ap outcome_of c.in_ok-s.was))) (rw c.rice_block-b.ensures at c.write_alone.ensures)
+returns c = same_as (bind_yes _ (bind_yes _ (ap outcome_of c.in_ok-s.was))) (rw c.rice_block.ensures at c.write_alone.ensures)
