@@ -1,18 +1,15 @@
 // Typed quantities and mole fractions (thermo-types). Each function equals its definition in specs/.
 #![tactic(auto)]
 
-ghost use Rattle.std.specs.Prelude.{◌≡◌, not, ◌&&◌};
-ghost use Rattle.std.specs.Float.Ieee.{lt};
-ghost use Rattle.floats.specs.Arithmetic.{◌⊖◌, ◌⊘◌, 0f, 1f, ∞};
-ghost use Rattle.floats.specs.Small.{abs_of};
-ghost use Rattle.floats.specs.Fold.{sum_to, all_to};
+ghost use Rattle.std.specs.Prelude.{◌≡◌, ◌&&◌};
+ghost use Rattle.floats.specs.Arithmetic.{◌⊘◌};
+ghost use Rattle.floats.specs.Fold.{sum_to};
 ghost use Rattle.floats.specs.Vector.{at, vec, places};
 ghost use Rattle.floats.specs.Outcome.{ok};
 ghost use Rattle.outcome.specs.Refused.{number, outcome_of};
 ghost use Rattle.thermo_types.specs.Quantities.{positive_of, temperature_of, pressure_of};
 ghost use Rattle.thermo_types.specs.Composition.{sum_tolerance, all_finite, none_negative, all_positive, sums_to_one, with_fractions, shares_of, normalize_of};
 
-use floats::Count;
 use outcome::Refusal;
 
 // Kelvin. The field is private: `new` alone makes one.
@@ -116,18 +113,36 @@ pub fn sum(x: &[f64; 8], n: usize) -> f64
     (0..floats::places(n)).fold(0.0, |s, i| s + x[i])
 }
 
-// |s - 1| within the tolerance.
-fn near_one(s: f64) -> bool
-    ensures { result ≡ not (lt sum_tolerance (abs_of (s ⊖ 1f))) }
-{
-    !(floats::abs(s - 1.0) > SUM_TOLERANCE)
-}
-
+// |sum - 1| within the tolerance.
 #[tactic(auto, unfolding(crate::specs::Composition::sums_to_one))]
 pub fn sums_to_one(x: &[f64; 8], n: usize) -> bool
     ensures { result ≡ sums_to_one (at x.now) (places n) }
 {
-    near_one(sum(x, n))
+    !(floats::abs(sum(x, n) - 1.0) > SUM_TOLERANCE)
+}
+
+// Mole fractions that pass all three tests, in one reading: where one fails, which is first takes readings of their own.
+#[inline(always)]
+pub fn are_fractions(x: &[f64; 8], n: usize) -> bool
+    ensures { result ≡ ((all_finite (at x.now) (places n) && none_negative (at x.now) (places n)) && sums_to_one (at x.now) (places n)) }
+{
+    let entries = 0..floats::places(n);
+    let (sum, right) = entries.fold((0.0, true), |s, i| {
+        let v = x[i];
+        (s.0 + v, s.1 & (floats::is_finite(v) & !(v < 0.0)))
+    });
+    right & !(floats::abs(sum - 1.0) > SUM_TOLERANCE)
+}
+
+// K values that pass both tests, in one reading.
+#[inline(always)]
+pub fn are_ratios(k: &[f64; 8], n: usize) -> bool
+    ensures { result ≡ (all_finite (at k.now) (places n) && all_positive (at k.now) (places n)) }
+{
+    let entries = 0..floats::places(n);
+    entries.fold(true, |right, i| {
+        right & (floats::is_finite(k[i]) & (0.0 < k[i]))
+    })
 }
 
 // The three questions in turn.
@@ -149,29 +164,12 @@ fn asked_in_turn(x: &[f64; 8], n: usize) -> Result<(), Refusal>
     Ok(())
 }
 
-// The sum, and whether each entry is 0 or more and below infinity, in one pass.
-// Kept: a `for`: two results of one pass, with no early way out.
-#[tactic(auto, unfolding(floats::specs::Fold::fold_to, floats::specs::Fold::all_to))]
-fn sum_and_range(x: &[f64; 8], m: Count) -> (f64, bool)
-    ensures sum { result.0 ≡ sum_to (at x.now) m.n }
-    ensures range { result.1 ≡ all_to (λ i. not (lt (at x.now i) 0f) && lt (at x.now i) ∞) m.n }
-{
-    let mut s = 0.0;
-    let mut within = true;
-    for i in 0..m.n {
-        s = s + x[i];
-        within = within & (!(x[i] < 0.0) & (x[i] < f64::INFINITY));
-    }
-    (s, within)
-}
-
-// The first n mole fractions are finite, not negative and sum to 1 within 1e-10.
-// Kept: asked in one pass, and in turn only where that fails.
+// The first n mole fractions are finite, not negative and sum to 1 within 1e-10: asked in one reading, and in turn only where that
+// fails.
 pub fn with_fractions(x: &[f64; 8], n: usize) -> Result<(), Refusal>
     ensures { outcome_of result ≡ with_fractions (at x.now) (places n) (ok tt) }
 {
-    let (s, within) = sum_and_range(x, Count::of(n));
-    if within & near_one(s) {
+    if are_fractions(x, n) {
         return Ok(());
     }
     asked_in_turn(x, n)
