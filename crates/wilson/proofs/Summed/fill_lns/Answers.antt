@@ -18,13 +18,13 @@ returns-then-n-eq1 c =
     let k = c.keep_lns-then-n-eq1.ensures in
     elim c.if-n-ge2.branch [
       | then-n-ge2 w ↦
-        let p = w.keep_lns-then-n-ge2.ensures in
-        gammas_done _ (n - 1 + 1) n (omega arith) (gammas_more _ (n - 1) 1 _ c.lns_from-then-n-eq1.ensures k.values k.slopes
-        (gammas_done _ (n / 4 * 4 + 2) (n - 1) (omega arith) (rw (w.ln_gamma-is, w.slopes-is)
-        (gammas_more _ (n / 4 * 4) 2 _ w.lns_from-then-n-ge2.ensures p.values p.slopes (gammas_done _ (4 * h) (n / 4 * 4) (omega arith) c.loop-h.invariant)))))
+          let p = w.keep_lns-then-n-ge2.ensures in
+          gammas_done _ (n - 1 + 1) n (omega arith) (gammas_more _ (n - 1) 1 _ c.lns_from-then-n-eq1.ensures k.values k.slopes
+          (gammas_done _ (n / 4 * 4 + 2) (n - 1) (omega arith) (rw (w.ln_gamma-is, w.slopes-is)
+          (gammas_more _ (n / 4 * 4) 2 _ w.lns_from-then-n-ge2.ensures p.values p.slopes (gammas_done _ (4 * h) (n / 4 * 4) (omega arith) c.loop-h.invariant)))))
       | else-n-ge2 w ↦
-        gammas_done _ (n - 1 + 1) n (omega arith) (gammas_more _ (n - 1) 1 _ c.lns_from-then-n-eq1.ensures k.values k.slopes
-        (gammas_done _ (4 * h) (n - 1) (omega arith) (rw (w.ln_gamma-is, w.slopes-is) c.loop-h.invariant)))
+          gammas_done _ (n - 1 + 1) n (omega arith) (gammas_more _ (n - 1) 1 _ c.lns_from-then-n-eq1.ensures k.values k.slopes
+          (gammas_done _ (4 * h) (n - 1) (omega arith) (rw (w.ln_gamma-is, w.slopes-is) c.loop-h.invariant)))
     ]
 
 pub returns-else-n-eq1 : goal.returns-else-n-eq1
@@ -33,8 +33,8 @@ returns-else-n-eq1 c =
     let h = c.loop-h.h in
     elim c.if-n-ge2.branch [
       | then-n-ge2 w ↦
-        let p = w.keep_lns-then-n-ge2.ensures in
-        gammas_done _ (n / 4 * 4 + 2) n (omega arith) (rw (w.ln_gamma-is, w.slopes-is)
-        (gammas_more _ (n / 4 * 4) 2 _ w.lns_from-then-n-ge2.ensures p.values p.slopes (gammas_done _ (4 * h) (n / 4 * 4) (omega arith) c.loop-h.invariant)))
+          let p = w.keep_lns-then-n-ge2.ensures in
+          gammas_done _ (n / 4 * 4 + 2) n (omega arith) (rw (w.ln_gamma-is, w.slopes-is)
+          (gammas_more _ (n / 4 * 4) 2 _ w.lns_from-then-n-ge2.ensures p.values p.slopes (gammas_done _ (4 * h) (n / 4 * 4) (omega arith) c.loop-h.invariant)))
       | else-n-ge2 w ↦ gammas_done _ (4 * h) n (omega arith) (rw (w.ln_gamma-is, w.slopes-is) c.loop-h.invariant)
     ]
