@@ -217,6 +217,7 @@ fn store_at(out: &mut [u8], b: usize, rule: Rule, ws: &[u64; 64])
 }
 
 // Block b of a slice is written: words 0 to 62 of `ws` and their check. Where the slice is too short, nothing.
+// Inlined with all that it calls: where the rule and the words' places are known, the words are summed and stored with no array.
 #[inline(always)]
 pub fn write_at(out: &mut [u8], b: usize, rule: Rule, ws: &[u64; 64])
     ensures { out.new ≡ stored out.old (512 * b) (block_bytes rule (word_at ws.now)) }

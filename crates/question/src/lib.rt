@@ -411,7 +411,7 @@ pub fn read_rest(q: &[u8], book: &[u8], n: usize, x: &[f64; 8]) -> Result<Questi
 }
 
 // The question for a book of that version and n solvents, or the first of questions 11 to 21 and 36 that is answered no.
-// By way of the whole block, whose words are read with no test.
+// By way of the whole block, whose words are read with no test. Inlined, so that the question is made where it is used.
 #[inline(always)]
 #[tactic(auto, unfolding(crate::specs::Asked::question_of, floats::specs::Outcome::bind, floats::specs::Outcome::need))]
 pub fn read_question(
