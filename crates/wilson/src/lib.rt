@@ -251,7 +251,7 @@ fn state(
     excess::finite_state(-total, of.m.n, t, ln_gamma, slopes)
 }
 
-// The same: by a number of solvents that is known each loop is unrolled.
+// Kept: arms of one text, as in nrtl: by a number of solvents that is known each loop is unrolled.
 fn state_by_count(
     of: Liquid,
     t: Temperature,
