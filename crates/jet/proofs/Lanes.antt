@@ -1,6 +1,6 @@
 -- What stands in the lanes of n solvents' pairs, and that their cells are those of the parameters. Assumes nothing.
 use Prim.Native.Nat.{ℕ, zero, suc, ◌+◌, ◌*◌, ◌%◌, ◌<◌, ◌≤◌}
-use mathlib.Core.Path.{◌≡◌, refl, sym, ◌∙◌, ap}
+use mathlib.Core.Path.{◌≡◌, refl, ◌∙◌, ap}
 use mathlib.Core.Bool.{Bool, true, false, cond}
 use mathlib.Core.Logic.{⊎_elim}
 use mathlib.Core.List.{List}
@@ -20,7 +20,7 @@ use Rattle.jet.specs.declared.Two.{Two}
 use Rattle.jet.specs.declared.Lane.{Lane}
 use Rattle.jet.specs.Jets.{exp_with, exp_j}
 use Rattle.jet.specs.Planes.{Holds, spread, six, cell_of, plane_rows}
-use Rattle.jet.specs.Lanes.{two_of, first_of, second_of, raised_two, lane_of, lane_in, raised_lane, triangle, laid_border, laid, no_lane, raised_to, first_g, second_g, Makes, AllLie, cell_in, Lists}
+use Rattle.jet.specs.Lanes.{two_of, first_of, second_of, raised_two, lane_of, lane_in, raised_lane, triangle, laid_border, laid, no_lane, raised_to, Makes, AllLie, cell_in, Lists}
 use Rattle.jet.proofs.Planes.{spread_cong, rows_same}
 
 -- ---- places of pairs

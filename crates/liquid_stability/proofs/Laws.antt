@@ -168,12 +168,6 @@ module _ (E : List Float → Out Activity) (threshold : Float) (n : ℕ) (x d : 
         let z : limit - done ≡ suc (limit - suc done) = omega arith in
         rw (add-one done) (sym (ps.goes (limit - suc done) done (add-one done)) ∙ rw z at whole)
 
-  pub trial-start : (limit : ℕ) (lnW : List Float) {l : List Float} → l ≡ lnW
-      → trial_from E threshold n x d j (limit - 0) 0 l ≡ trial_from E threshold n x d j limit 0 lnW
-  trial-start limit lnW e =
-      let z : limit - 0 ≡ limit = omega arith in
-      rw (z, e)
-
 -- ---- the trials
 module _ (E : List Float → Out Activity) (n : ℕ) (o : ActivityOptions) (x d : List Float) where
   abbrev runs : ℕ → Out Trials

@@ -1,9 +1,9 @@
 -- `jet::fill_rows` meets its contract. Assumes nothing.
 use mathlib.Core.Path.{refl, ◌∙◌, ap}
-use Prim.Native.Nat.{◌+◌, ◌*◌, ◌≤◌}
+use Prim.Native.Nat.{◌+◌, ◌*◌}
 use native.Mathlib.Omega.{arith}
 use Rattle.floats.specs.Fold.{fold_to}
-use Rattle.jet.specs.Lanes.{triangle, Lies}
+use Rattle.jet.specs.Lanes.{triangle}
 use Rattle.jet.proofs.Planes.{spread_cong, square-next}
 use Rattle.jet.proofs.Lanes.{triangle_next, triangle-below}
 use Rattle.jet.proofs.fill_rows.Goals as goal

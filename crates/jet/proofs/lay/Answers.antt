@@ -1,6 +1,5 @@
 -- `jet::lay` meets its contract. Assumes nothing.
 use mathlib.Core.Path.{refl, ◌∙◌, ap}
-use Prim.Native.Nat.{◌+◌, ◌≤◌}
 use native.Mathlib.Omega.{arith}
 use Rattle.floats.specs.Fold.{fold_to}
 use Rattle.floats.proofs.Folds.{fold_turn}

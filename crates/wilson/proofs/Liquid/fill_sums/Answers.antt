@@ -1,7 +1,5 @@
 use Prim.Native.Nat.{◌+◌, ◌*◌, ◌-◌}
-use mathlib.Core.Path.{◌≡◌, refl}
 use native.Mathlib.Omega.{arith}
-use Rattle.floats.specs.Fold.{fold_to}
 use Rattle.excess.proofs.Steps.{sum_same, sums-turn, sums_done}
 use Rattle.wilson.proofs.Entries.{ln_is, ln_one}
 use Rattle.wilson.proofs.Liquid.fill_sums.Goals as goal

@@ -1,7 +1,6 @@
 use native.Mathlib.Omega.{arith}
-use Rattle.floats.specs.Fold.{fold_to}
 use Rattle.jet.proofs.Sums.{sum_jet_turn}
-use Rattle.excess.proofs.Steps.{side-same, turning-start, turning-next, turning-done}
+use Rattle.excess.proofs.Steps.{turning-next}
 use Rattle.wilson.specs.Sums.{row_s}
 use Rattle.wilson.proofs.Liquid.row_sums.Goals as goal
 

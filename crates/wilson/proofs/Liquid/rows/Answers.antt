@@ -1,5 +1,5 @@
 use Prim.Native.Nat.{◌+◌, ◌*◌, ◌-◌}
-use mathlib.Core.Path.{◌≡◌, refl}
+use mathlib.Core.Path.{◌≡◌}
 use native.Mathlib.Omega.{arith}
 use Rattle.wilson.proofs.Entries.{rows_start, rows_next, rows_done}
 use Rattle.wilson.proofs.Liquid.rows.Goals as goal

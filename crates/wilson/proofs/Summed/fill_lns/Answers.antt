@@ -1,7 +1,5 @@
 use Prim.Native.Nat.{◌+◌, ◌*◌, ◌-◌, ◌/◌}
-use mathlib.Core.Path.{refl}
 use native.Mathlib.Omega.{arith}
-use Rattle.floats.specs.Vector.{fill}
 use Rattle.excess.proofs.Steps.{gammas_more, gammas_done}
 use Rattle.wilson.proofs.Summed.fill_lns.Goals as goal
 use Rattle.wilson.proofs.Summed.fill_lns.Goals.{then-n-ge2, else-n-ge2}
