@@ -123,6 +123,7 @@ pub fn floats_from(q: &[u8], from: usize, n: usize) -> [f64; 8]
 }
 
 // Word k of a whole block as a float, read with no test for its end.
+// Kept: book has such a reader too: shared it would be a `pub fn`, for two lines.
 #[tactic(auto, unfolding(blocks::specs::Words::word))]
 fn float_in(q: &[u8; 512], k: usize) -> f64
     ensures { result ≡ float (word q.now) (k % 64) }
