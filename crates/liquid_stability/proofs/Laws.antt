@@ -1,24 +1,24 @@
 -- Turns of the loops, the ways out of a turn of a trial, out of a trial and out of the trials. Assumes nothing.
 use Prim.Native.Nat.{ℕ, zero, suc, ◌+◌, ◌-◌, ◌<◌, ◌≤◌}
 use mathlib.Core.Path.{◌≡◌, refl, ◌∙◌, ap, sym}
-use mathlib.Core.Bool.{Bool, true, false, cond, ◌&&◌, ◌||◌, true≢false}
+use mathlib.Core.Bool.{Bool, true, false, cond, ◌&&◌}
 use mathlib.Core.List.{List}
 use native.Mathlib.Nat.{zero-add, suc-add}
 use native.Mathlib.Numerals.{add-one}
 use native.Mathlib.Omega.{arith}
 use lib.Dec.{T, ltb, le→leb}
 use lib.IntN.{pos}
-use lib.Ieee.{Float, binary64, lt, le, of_int, in_float}
+use lib.Ieee.{Float, nan, binary64, lt, le, of_int, in_float}
 use Rattle.std.specs.Prelude.{Result, Ok, Err}
 use Rattle.std.specs.declared.ops.ControlFlow.{ControlFlow}
 use Rattle.std.specs.declared.ops.ControlFlow.TheVariants.{Break, Continue}
-use Rattle.floats.specs.Arithmetic.{◌⊕◌, ◌⊖◌, ◌⊗◌, ◌⊘◌, 0f, 1f}
+use Rattle.floats.specs.Arithmetic.{◌⊕◌, ◌⊘◌, 0f}
 use Rattle.floats.specs.Small.{is_finite}
 use Rattle.floats.specs.Fold.{fold_to, active}
-use Rattle.floats.specs.Vector.{at, vec, zeros8, places}
+use Rattle.floats.specs.Vector.{at, vec, zeros8}
 use Rattle.floats.specs.Outcome.{Out, ok, no, bind, need, choose}
 use Rattle.floats.proofs.Folds.{fold_cong}
-use Rattle.floats.proofs.Fills.{fill_cong}
+use Rattle.floats.proofs.Fills.{fill-at, fill_cong}
 use Rattle.numerics.specs.Numerics.{exp_of}
 use Rattle.outcome.specs.Refused.{number, outcome_of}
 use Rattle.outcome.specs.declared.Refusal.{Refusal}
@@ -26,8 +26,8 @@ use Rattle.outcome.specs.declared.Refusal.TheVariants.{ResultNotFinite}
 use Rattle.thermo_types.specs.declared.ActivityOptions.{ActivityOptions}
 use Rattle.thermo_models.specs.Model.{Activity}
 use Rattle.liquid_stability.specs.declared.LiquidStabilityTrial.{LiquidStabilityTrial}
-use Rattle.liquid_stability.specs.Stability.{trivial_distance, ln_w_tolerance, present_count, start_of, others_in, total_of, trial_composition, distance_of, next_of, change_of, apart_of, trivial_at, unstable, trial_with, tangent, Trials, no_trials, with_trial, judge, trial_from, trials_to, stability_of}
-use Rattle.liquid_stability.specs.Steps.{after, TrialTurn}
+use Rattle.liquid_stability.specs.Stability.{trivial_distance, ln_w_tolerance, present_count, start_of, others_in, total_of, trial_composition, distance_of, next_of, change_of, apart_of, unstable, trial_with, tangent, Trials, no_trials, with_trial, judge, trial_from, trials_to, stability_of}
+use Rattle.liquid_stability.specs.Steps.{amounts_of, after, TrialTurn}
 
 -- ---- the solvents present
 at-present : {A : Type 0} (b : Bool) {u v : A} (w : A) → (b ≡ true → u ≡ v) → cond b u w ≡ cond b v w
@@ -43,25 +43,33 @@ unfolding present_count fold_to
 count_le x zero = omega arith
 count_le x (suc n) = suc_le (lt 0f (at x n)) (present_count x n) n (count_le x n)
 
--- what `exps` says of the first `places n` entries, for a count of at most eight
-pub in-places : (v big : List Float) {n : ℕ} → n ≤ 8 → ((k : ℕ) → k < places n → at big k ≡ exp_of (at v k)) → (k : ℕ) → k < n → at big k ≡ exp_of (at v k)
-in-places v big h f k l = f k (omega arith)
+-- a turn of a fold over the solvents present, at one present and at one absent
+module _ {S : Type 0} (x : List Float) (f : ℕ → S → S) (s₀ : S) (k : ℕ) {r s : S} (h : s ≡ fold_to (active (at x) f) s₀ k) where
+  pub present-turn : lt 0f (at x k) ≡ true → r ≡ f k s → r ≡ fold_to (active (at x) f) s₀ (k + 1)
+  unfolding fold_to
+  present-turn t e = rw (add-one, t, ← h) e
 
--- ---- a turn's composition and its distance from W, which `big` holds
-module _ (x lnW : List Float) (n : ℕ) (big : List Float) (pb : (k : ℕ) → k < n → at big k ≡ exp_of (at lnW k)) where
+  pub absent-turn : lt 0f (at x k) ≡ false → r ≡ s → r ≡ fold_to (active (at x) f) s₀ (k + 1)
+  unfolding fold_to
+  absent-turn t e = rw (add-one, t, ← h) e
+
+-- ---- a turn's composition from W
+module _ (x lnW : List Float) (n : ℕ) (h : n ≤ 8) {big : List Float} (pb : big ≡ amounts_of x lnW n) where
+  pub amount-at : (k : ℕ) → k < n → lt 0f (at x k) ≡ true → at big k ≡ exp_of (at lnW k)
+  unfolding amounts_of
+  amount-at k l t =
+      let e : at big k ≡ cond (lt 0f (at x k)) (exp_of (at lnW k)) 0f = ap (λ (m : List Float). at m k) pb ∙ fill-at
+      (λ i. cond (lt 0f (at x i)) (exp_of (at lnW i)) 0f) n zeros8 nan k h l in
+      rw t at e
+
   total-is : {s : Float} → s ≡ fold_to (active (at x) (λ i a. a ⊕ at big i)) 0f n → s ≡ total_of x lnW n
   unfolding total_of
-  total-is {s} e = e ∙ fold_cong 0f n (λ k a l. at-present (lt 0f (at x k)) a (λ t. ap (λ (v : Float). a ⊕ v) (pb k l)))
+  total-is {s} e = e ∙ fold_cong 0f n (λ k a l. at-present (lt 0f (at x k)) a (λ t. ap (λ (v : Float). a ⊕ v) (amount-at k l t)))
 
   composition-is : {s : Float} {w : List Float} → s ≡ fold_to (active (at x) (λ i a. a ⊕ at big i)) 0f n
       → w ≡ vec (λ i. cond (lt 0f (at x i)) (at big i ⊘ s) 0f) n → w ≡ trial_composition x lnW n
   unfolding trial_composition
-  composition-is {s} {w} e q = q ∙ fill_cong _ _ n zeros8 (λ k l. at-present (lt 0f (at x k)) 0f (λ t. rw (pb k l, total-is e)))
-
-  distance-is : (lg d : List Float) {tm : Float} → tm ≡ fold_to (active (at x) (λ i s. s ⊕ at big i ⊗ (at lnW i ⊕ at lg i ⊖ at d i ⊖ 1f))) 1f n → tm ≡ distance_of x lnW lg d n
-  unfolding distance_of
-  distance-is lg d e =
-      e ∙ fold_cong 1f n (λ k a l. at-present (lt 0f (at x k)) a (λ t. ap (λ (v : Float). a ⊕ v ⊗ (at lnW k ⊕ at lg k ⊖ at d k ⊖ 1f)) (pb k l)))
+  composition-is {s} {w} e q = q ∙ fill_cong _ _ n zeros8 (λ k l. at-present (lt 0f (at x k)) 0f (λ t. rw (amount-at k l t, total-is e)))
 
 -- ---- what only asks for ln γ of an outcome
 by_ln_gamma : {B : Type 0} (o : Out Activity) (k : List Float → Out B) → bind o (λ a. k a.ln_gamma) ≡ bind (bind o (λ a. ok a.ln_gamma)) k
@@ -79,14 +87,9 @@ not-trivial threshold tm true e = by_cases (lt tm threshold) e
     by_cases true e = sym e
     by_cases false e = sym e
 
-neither : (a b : Bool) → (a || b) ≡ false → (a ≡ false) × (b ≡ false)
-neither false false e = (refl, refl)
-neither false true e = absurd (true≢false e)
-neither true b e = absurd (true≢false e)
-
 -- ---- a whole turn: o is the outcome of ln γ at w
-module _ (E : List Float → Out Activity) (threshold : Float) (n : ℕ) (x d lnW : List Float) (j iteration : ℕ) (big : List Float) {w : List Float} {s : Float}
-    (pb : (k : ℕ) → k < n → at big k ≡ exp_of (at lnW k)) (ps : s ≡ fold_to (active (at x) (λ i a. a ⊕ at big i)) 0f n)
+module _ (E : List Float → Out Activity) (threshold : Float) (n : ℕ) (h : n ≤ 8) (x d lnW : List Float) (j iteration : ℕ) {big w : List Float} {s : Float}
+    (pb : big ≡ amounts_of x lnW n) (ps : s ≡ fold_to (active (at x) (λ i a. a ⊕ at big i)) 0f n)
     (pw : w ≡ vec (λ i. cond (lt 0f (at x i)) (at big i ⊘ s) 0f) n) where
   rest : (left done : ℕ) → List Float → Out LiquidStabilityTrial
   rest left done lg = judge threshold (distance_of x lnW lg d n) (change_of x lnW lg d n) (le (apart_of x w n) trivial_distance)
@@ -96,58 +99,43 @@ module _ (E : List Float → Out Activity) (threshold : Float) (n : ℕ) (x d ln
   goes_on : {o : Out (List Float)} → o ≡ bind (E w) (λ a. ok a.ln_gamma) → (left done : ℕ)
       → trial_from E threshold n x d j (suc left) done lnW ≡ bind o (rest left done)
   unfolding trial_from judge rest
-  goes_on e left done = rw (← composition-is x lnW n big pb ps pw, e) (by_ln_gamma (E w) (rest left done))
+  goes_on e left done = rw (← composition-is x lnW n h pb ps pw, e) (by_ln_gamma (E w) (rest left done))
 
   pub turn-refused : (e : Refusal) {r : Result (ControlFlow LiquidStabilityTrial (List Float)) Refusal} → no (number e) ≡ bind (E w) (λ a. ok a.ln_gamma) → outcome_of r ≡ no (number e)
       → TrialTurn E threshold n x d j iteration lnW r
   unfolding bind
   turn-refused e p q = record { goes = λ left done i. rw q (goes_on p left done) }
 
-  module _ {lg : List Float} (p : ok lg ≡ bind (E w) (λ a. ok a.ln_gamma)) {tm : Float}
-      (pd : tm ≡ fold_to (active (at x) (λ i a. a ⊕ at big i ⊗ (at lnW i ⊕ at lg i ⊖ at d i ⊖ 1f))) 1f n) where
-    tm-is : tm ≡ distance_of x lnW lg d n
-    tm-is = distance-is x lnW n big pb lg d pd
-
+  module _ {lg : List Float} (p : ok lg ≡ bind (E w) (λ a. ok a.ln_gamma)) {tm change apart : Float}
+      (pd : tm ≡ distance_of x lnW lg d n) (pc : change ≡ change_of x lnW lg d n) (pa : apart ≡ apart_of x w n) where
     pub turn-infinite : false ≡ is_finite tm → TrialTurn E threshold n x d j iteration lnW (Err ResultNotFinite)
     unfolding bind rest judge need
-    turn-infinite f = record { goes = λ left done i. rw (goes_on p left done, ← tm-is, ← f) }
+    turn-infinite f = record { goes = λ left done i. rw (goes_on p left done, ← pd, ← f) }
 
-    module _ (f : true ≡ is_finite tm) {settled : Bool} (pc : settled ≡ le (change_of x lnW lg d n) ln_w_tolerance) where
+    abbrev trivial : Bool
+    trivial = le apart trivial_distance
+
+    abbrev found : Bool → LiquidStabilityTrial
+    found b = trial_with j tm w iteration b
+
+    module _ (f : true ≡ is_finite tm) where
       turned : (left done : ℕ) → iteration ≡ suc done → trial_from E threshold n x d j (suc left) done lnW
-          ≡ choose (unstable threshold tm (trivial_at x w n)) (ok (trial_with j tm w iteration false)) (choose settled (ok (trial_with j tm w iteration (trivial_at x w n))) (trial_from E threshold n x d j left (suc done) (next_of d lg n)))
+          ≡ choose (unstable threshold tm trivial) (ok (found false)) (choose (le change ln_w_tolerance) (ok (found trivial)) (trial_from E threshold n x d j left (suc done) (next_of d lg n)))
       unfolding bind rest judge need
-      turned left done i = rw (goes_on p left done, ← tm-is, ← pc, ← f, i)
+      turned left done i = rw (goes_on p left done, ← pd, ← pc, ← pa, ← f, i)
 
-      goes-further : settled ≡ false → unstable threshold tm (trivial_at x w n) ≡ false → {nx : List Float} → nx ≡ next_of d lg n
-          → TrialTurn E threshold n x d j iteration lnW (Ok (Continue nx))
+      pub turn-unstable : true ≡ unstable threshold tm trivial → TrialTurn E threshold n x d j iteration lnW (Ok (Break (found trivial)))
       unfolding bind after choose
-      goes-further c u pn = record { goes = λ left done i. rw (turned left done i, u, c, ← pn) }
+      turn-unstable u = let t = not-trivial threshold tm trivial u in record { goes = λ left done i. rw (turned left done i, ← u, ← t) }
 
-      -- neither: tm is not below the threshold
-      pub turn-above : (settled || lt tm threshold) ≡ false → {nx : List Float} → nx ≡ next_of d lg n → TrialTurn E threshold n x d j iteration lnW (Ok (Continue nx))
-      unfolding unstable
-      turn-above e = let b = neither settled (lt tm threshold) e in goes-further b.0 (rw b.1)
-
-      module _ {trivial : Bool} (pt : trivial ≡ trivial_at x w n) where
-        ends-unstable : true ≡ unstable threshold tm trivial → TrialTurn E threshold n x d j iteration lnW (Ok (Break (trial_with j tm w iteration trivial)))
+      module _ (u : false ≡ unstable threshold tm trivial) where
+        pub turn-converged : le change ln_w_tolerance ≡ true → TrialTurn E threshold n x d j iteration lnW (Ok (Break (found trivial)))
         unfolding bind after choose
-        ends-unstable u = let t = not-trivial threshold tm trivial u in record { goes = λ left done i. rw (turned left done i, ← pt, ← u, ← t) }
+        turn-converged c = record { goes = λ left done i. rw (turned left done i, ← u, c) }
 
-        ends-settled : false ≡ unstable threshold tm trivial → settled ≡ true → TrialTurn E threshold n x d j iteration lnW (Ok (Break (trial_with j tm w iteration trivial)))
+        pub turn-on : le change ln_w_tolerance ≡ false → {nx : List Float} → nx ≡ next_of d lg n → TrialTurn E threshold n x d j iteration lnW (Ok (Continue nx))
         unfolding bind after choose
-        ends-settled u c = record { goes = λ left done i. rw (turned left done i, ← pt, ← u, c) }
-
-        ends : (a b : Bool) → a ≡ settled → b ≡ unstable threshold tm trivial → (a || b) ≡ true → TrialTurn E threshold n x d j iteration lnW (Ok (Break (trial_with j tm w iteration trivial)))
-        ends a true p q e = ends-unstable q
-        ends true false p q e = ends-settled q (sym p)
-        ends false false p q e = absurd (true≢false (sym e))
-
-        pub turn-ended : {b : Bool} → b ≡ unstable threshold tm trivial → (settled || b) ≡ true → TrialTurn E threshold n x d j iteration lnW (Ok (Break (trial_with j tm w iteration trivial)))
-        turn-ended {b} q e = ends settled b refl q e
-
-        pub turn-on : {b : Bool} → b ≡ unstable threshold tm trivial → (settled || b) ≡ false → {nx : List Float} → nx ≡ next_of d lg n
-            → TrialTurn E threshold n x d j iteration lnW (Ok (Continue nx))
-        turn-on {b} q e = let g = neither settled b e in goes-further g.0 (rw (← pt) (sym q ∙ g.1))
+        turn-on c pn = record { goes = λ left done i. rw (turned left done i, ← u, c, ← pn) }
 
 -- ---- a trial
 module _ (E : List Float → Out Activity) (threshold : Float) (n : ℕ) (x d : List Float) (j : ℕ) where
@@ -167,6 +155,12 @@ module _ (E : List Float → Out Activity) (threshold : Float) (n : ℕ) (x d : 
     trial_on l ps =
         let z : limit - done ≡ suc (limit - suc done) = omega arith in
         rw (add-one done) (sym (ps.goes (limit - suc done) done (add-one done)) ∙ rw z at whole)
+
+  pub trial-start : (limit : ℕ) (lnW : List Float) {l : List Float} → l ≡ lnW
+      → trial_from E threshold n x d j (limit - 0) 0 l ≡ trial_from E threshold n x d j limit 0 lnW
+  trial-start limit lnW e =
+      let z : limit - 0 ≡ limit = omega arith in
+      rw (z, e)
 
 -- ---- the trials
 module _ (E : List Float → Out Activity) (n : ℕ) (o : ActivityOptions) (x d : List Float) where

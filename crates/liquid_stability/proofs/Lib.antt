@@ -1,5 +1,3 @@
 -- Laws that callers of liquid_stability cite, and those of its own proofs. Assumes nothing.
 pub mod Laws
 pub mod Counts
-mod Largest
-mod Same

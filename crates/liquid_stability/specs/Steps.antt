@@ -1,13 +1,21 @@
 -- What the functions inside a trial ensure; `liquid_stability` itself is stated by Stability.antt alone. Assumes nothing.
-use Rattle.std.specs.Prelude.{ℕ, suc, ◌≡◌, List, Float, Result}
+use Rattle.std.specs.Prelude.{ℕ, suc, ◌≡◌, cond, List, Float, Result}
+use Rattle.std.specs.Float.Ieee.{lt}
 use Rattle.std.specs.declared.ops.ControlFlow.{ControlFlow}
 use Rattle.std.specs.declared.ops.ControlFlow.TheVariants.{Break, Continue}
+use Rattle.floats.specs.Arithmetic.{0f}
+use Rattle.floats.specs.Vector.{at, vec}
 use Rattle.floats.specs.Outcome.{Out, ok, bind}
+use Rattle.numerics.specs.Numerics.{exp_of}
 use Rattle.outcome.specs.Refused.{outcome_of}
 use Rattle.outcome.specs.declared.Refusal.{Refusal}
 use Rattle.thermo_models.specs.Model.{Activity}
 use Rattle.liquid_stability.specs.declared.LiquidStabilityTrial.{LiquidStabilityTrial}
 use Rattle.liquid_stability.specs.Stability.{trial_from}
+
+-- W_i of the solvents present, worked out once for the sums that use it
+unfoldable pub amounts_of : List Float → List Float → ℕ → List Float
+amounts_of x lnW n = vec (λ i. cond (lt 0f (at x i)) (exp_of (at lnW i)) 0f) n
 
 -- what a turn is followed by: the trial that it ends, or the rest from the next ln W
 unfoldable pub after : (List Float → Out LiquidStabilityTrial) → ControlFlow LiquidStabilityTrial (List Float) → Out LiquidStabilityTrial

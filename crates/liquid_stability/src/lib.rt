@@ -2,17 +2,16 @@
 // Compositions are `[f64; 8]`, 0.0 past n; a solvent is named by its index in the book.
 #![tactic(auto)]
 
-ghost use Rattle.std.specs.Prelude.{◌≡◌, cond, false};
-ghost use Rattle.std.specs.Float.Ieee.{lt, le};
-ghost use Rattle.floats.specs.Arithmetic.{◌⊕◌, ◌⊖◌, ◌⊗◌, ◌⊘◌, 0f, 1f};
+ghost use Rattle.std.specs.Prelude.{◌≡◌, cond};
+ghost use Rattle.std.specs.Float.Ieee.{lt};
+ghost use Rattle.floats.specs.Arithmetic.{◌⊕◌, ◌⊘◌, 0f};
 ghost use Rattle.floats.specs.Fold.{fold_to, active};
 ghost use Rattle.floats.specs.Vector.{at, vec, places};
 ghost use Rattle.floats.specs.Outcome.{ok, bind};
 ghost use Rattle.outcome.specs.Refused.{outcome_of};
 ghost use Rattle.thermo_models.specs.Activity.{activity_on};
-ghost use Rattle.liquid_stability.specs.Stability.{present_count, tangent, start_rest, others_in, start_of, change_of, ln_w_tolerance, trivial_at, next_of, unstable, no_trial, no_trials, trial_from, trials_to, stability_of};
-ghost use Rattle.numerics.specs.Numerics.{ln_of};
-ghost use Rattle.liquid_stability.specs.Steps.{TrialTurn};
+ghost use Rattle.liquid_stability.specs.Stability.{present_count, tangent, others_in, start_of, distance_of, change_of, apart_of, next_of, unstable, no_trial, no_trials, trial_from, trials_to, stability_of};
+ghost use Rattle.liquid_stability.specs.Steps.{amounts_of, TrialTurn};
 
 use floats::Count;
 use outcome::Refusal;
@@ -47,6 +46,14 @@ pub struct LiquidStability {
     pub stable: bool,
     pub count: usize,
     pub trials: [LiquidStabilityTrial; 8],
+}
+
+// The tangent-plane distance tm, the largest change of ln W, and the largest distance of w from x.
+#[derive(Clone, Copy)]
+struct Measured {
+    distance: f64,
+    change: f64,
+    apart: f64,
 }
 
 // How many of the first n fractions are positive.
@@ -91,13 +98,6 @@ pub fn no_trials() -> LiquidStability
     }
 }
 
-// The first n fractions, 0.0 past them.
-fn fractions(x: &[f64; 8], m: Count) -> [f64; 8]
-    ensures { result ≡ vec (at x.now) m.n }
-{
-    std::array::from_fn(|i| if i < m.n { x[i] } else { 0.0 })
-}
-
 // d_i = ln x_i + ln γ_i(x) of the solvents present.
 fn tangent(x: &[f64; 8], lg: &[f64; 8], m: Count) -> [f64; 8]
     ensures { result ≡ tangent x.now lg.now m.n }
@@ -120,8 +120,7 @@ const TRIVIAL_DISTANCE: f64 = 1e-6;
 // A trial has converged where ln W changes by at most this.
 const LN_W_TOLERANCE: f64 = 1e-10;
 
-// The liquid that is tested: its composition x, 0.0 past n, d of x, and ln W at the start of a trial, of the solvent that it is
-// near and of the others present.
+// The liquid that is tested: its composition x, d of x, and how many solvents are present beside the one that a trial is near.
 #[derive(Clone, Copy)]
 struct Tested<'a> {
     table: &'a [f64; 512],
@@ -130,11 +129,8 @@ struct Tested<'a> {
     o: ActivityOptions,
     x: &'a [f64; 8],
     d: &'a [f64; 8],
-    near: f64,
-    far: f64,
-    ghost near_one: { near ≡ ln_of (1f ⊖ start_rest) },
-    ghost far_others: { far ≡ ln_of (start_rest ⊘ others_in x.now m.n) },
-    ghost none_past: { lt 0f (at x.now m.n) ≡ false },
+    others: f64,
+    ghost others_present: { others ≡ others_in x.now m.n },
 }
 
 impl<'a> Tested<'a> {
@@ -142,68 +138,67 @@ impl<'a> Tested<'a> {
     fn start(self, j: usize) -> [f64; 8]
         ensures { result ≡ start_of self.entry.x.now self.entry.m.n j }
     {
+        let near = numerics::ln(1.0 - START_REST);
+        let far = numerics::ln(START_REST / self.others);
         std::array::from_fn(|i| {
             if i < self.m.n {
-                select_unpredictable(i == j, self.near, self.far)
+                select_unpredictable(i == j, near, far)
             } else {
                 0.0
             }
         })
     }
 
-    // Σ W of the solvents present.
-    // Kept: a test in the fold, here and in `distance`: by `filter` and `map` the trials of two solvents take 3 % longer, of four 1 %.
+    // W_i = exp ln W_i of the solvents present.
+    fn amounts(self, ln_w: &[f64; 8]) -> [f64; 8]
+        ensures { result ≡ amounts_of self.entry.x.now ln_w.now self.entry.m.n }
+    {
+        let all = numerics::exps(ln_w, self.m.n);
+        std::array::from_fn(|i| select_unpredictable(i < self.m.n && self.x[i] > 0.0, all[i], 0.0))
+    }
+
     fn total(self, big: &[f64; 8]) -> f64
         ensures { result ≡ fold_to (active (at self.entry.x.now) (λ i s. s ⊕ at big.now i)) 0f self.entry.m.n }
     {
-        (0..self.m.n).fold(0.0, |s, i| if self.x[i] > 0.0 { s + big[i] } else { s })
+        let present = (0..self.m.n).filter(|&i| self.x[i] > 0.0).map(|i| big[i]);
+        present.fold(0.0, |s, w| s + w)
     }
 
-    // w_i = W_i / Σ W, two solvents to a step: where n is odd the place past it has x = 0.
-    // Kept: a loop over pairs, which the machine divides at once; by `from_fn` each solvent has a branch and a division of its own.
+    // w_i = W_i / Σ W.
     fn composition(self, big: &[f64; 8], s: f64) -> [f64; 8]
         ensures { let l = self.entry in result ≡ vec (λ i. cond (lt 0f (at l.x.now i)) (at big.now i ⊘ s) 0f) l.m.n }
     {
-        let mut w = [0.0; 8];
-        for k in 0..(self.m.n + 1) / 2 {
-            let i = 2 * k;
-            let (a, b) = (big[i] / s, big[i + 1] / s);
-            w[i] = select_unpredictable(self.x[i] > 0.0, a, 0.0);
-            w[i + 1] = select_unpredictable(self.x[i + 1] > 0.0, b, 0.0);
-        }
-        w
+        std::array::from_fn(|i| select_unpredictable(
+            i < self.m.n && self.x[i] > 0.0,
+            big[i] / s,
+            0.0,
+        ))
     }
 
-    // tm = 1 + Σ W_i (ln W_i + ln γ_i(w) - d_i - 1).
-    fn distance(self, ln_w: &[f64; 8], big: &[f64; 8], lg: &[f64; 8]) -> f64
+    // tm = 1 + Σ W_i (ln W_i + ln γ_i(w) - d_i - 1), with the two largest differences.
+    // Kept: a loop, which moves three numbers of a struct in place; a fold would hand on a tuple, and the struct be made of it.
+    #[tactic(auto, unfolding(crate::specs::Stability::distance_of, crate::specs::Stability::change_of, crate::specs::Stability::apart_of, floats::specs::Fold::fold_to))]
+    fn measure(self, ln_w: &[f64; 8], big: &[f64; 8], lg: &[f64; 8], w: &[f64; 8]) -> Measured
+        requires { big.now ≡ amounts_of self.x.now ln_w.now self.m.n }
         ensures { let l = self.entry in
-            result ≡ fold_to (active (at l.x.now) (λ i s. s ⊕ at big.now i ⊗ (at ln_w.now i ⊕ at lg.now i ⊖ at l.d.now i ⊖ 1f))) 1f l.m.n }
+            (result.distance ≡ distance_of l.x.now ln_w.now lg.now l.d.now l.m.n) × (result.change ≡ change_of l.x.now ln_w.now lg.now l.d.now l.m.n) × (result.apart ≡ apart_of l.x.now w.now l.m.n) }
     {
-        (0..self.m.n).fold(1.0, |s, i| {
+        let mut measured = Measured {
+            distance: 1.0,
+            change: 0.0,
+            apart: 0.0,
+        };
+        for i in 0..self.m.n {
             if self.x[i] > 0.0 {
-                s + big[i] * (ln_w[i] + lg[i] - self.d[i] - 1.0)
-            } else {
-                s
+                measured.distance += big[i] * (ln_w[i] + lg[i] - self.d[i] - 1.0);
+                measured.change = floats::max(
+                    measured.change,
+                    floats::abs(self.d[i] - lg[i] - ln_w[i]),
+                );
+                measured.apart = floats::max(measured.apart, floats::abs(w[i] - self.x[i]));
             }
-        })
-    }
-
-    // The largest change of ln W is within the tolerance. The first solvent that moves further says no.
-    fn settled(self, ln_w: &[f64; 8], lg: &[f64; 8]) -> bool
-        ensures { let l = self.entry in result ≡ le (change_of l.x.now ln_w.now lg.now l.d.now l.m.n) ln_w_tolerance }
-    {
-        (0..self.m.n).all(|i| {
-            !(self.x[i] > 0.0) | !(floats::abs(self.d[i] - lg[i] - ln_w[i]) > LN_W_TOLERANCE)
-        })
-    }
-
-    // w is back at x.
-    fn trivial(self, w: &[f64; 8]) -> bool
-        ensures { let l = self.entry in result ≡ trivial_at l.x.now w.now l.m.n }
-    {
-        (0..self.m.n).all(|i| {
-            !(self.x[i] > 0.0) | !(floats::abs(w[i] - self.x[i]) > TRIVIAL_DISTANCE)
-        })
+        }
+        measured
     }
 
     // ln W_i = d_i - ln γ_i(w).
@@ -223,26 +218,23 @@ impl<'a> Tested<'a> {
         ensures { let l = self.entry in
             TrialTurn (activity_on l.table.now l.tabled) l.o.tm_threshold l.m.n l.x.now l.d.now j iteration ln_w.now result }
     {
-        let big = numerics::exps(ln_w, self.m.n);
+        let big = self.amounts(ln_w);
         let s = self.total(&big);
         let w = self.composition(&big, s);
         let lg = ln_gamma(self.table, self.tabled, &w)?;
-        let distance = self.distance(ln_w, &big, &lg);
-        if !floats::is_finite(distance) {
+        let measured = self.measure(ln_w, &big, &lg, &w);
+        if !floats::is_finite(measured.distance) {
             return Err(Refusal::ResultNotFinite);
         }
-        let settled = self.settled(ln_w, &lg);
-        if settled | (distance < self.o.tm_threshold) {
-            let found = LiquidStabilityTrial {
-                component: j,
-                distance,
-                composition: w,
-                iterations: iteration,
-                trivial: self.trivial(&w),
-            };
-            if settled | found.is_unstable(self.o.tm_threshold) {
-                return Ok(ControlFlow::Break(found));
-            }
+        let found = LiquidStabilityTrial {
+            component: j,
+            distance: measured.distance,
+            composition: w,
+            iterations: iteration,
+            trivial: measured.apart <= TRIVIAL_DISTANCE,
+        };
+        if found.is_unstable(self.o.tm_threshold) || measured.change <= LN_W_TOLERANCE {
+            return Ok(ControlFlow::Break(found));
         }
         Ok(ControlFlow::Continue(self.next(&lg)))
     }
@@ -297,19 +289,16 @@ pub fn liquid_stability(
     if count < 2 {
         return Ok(no_trials());
     }
-    let x = fractions(x, m);
-    let d = tangent(&x, &lg, m);
+    let d = tangent(x, &lg, m);
     let others = (count - 1) as f64;
-    let (near, far) = numerics::ln_two(1.0 - START_REST, START_REST / others);
     let tested = Tested {
         table,
         tabled: at,
         m,
         o,
-        x: &x,
+        x,
         d: &d,
-        near,
-        far,
+        others,
     };
     tested.trials()
 }

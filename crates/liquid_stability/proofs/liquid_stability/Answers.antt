@@ -1,11 +1,9 @@
 -- `liquid_stability::liquid_stability` meets its contract. Assumes nothing.
-use mathlib.Core.Path.{◌∙◌}
 use native.Mathlib.Omega.{arith}
 use borrow.Author.Tests.{lt-ltb, le-ltb}
 use Rattle.floats.specs.Outcome.{bind, choose}
 use Rattle.outcome.proofs.Exits.{met}
 use Rattle.liquid_stability.proofs.Laws.{from_ln_gamma, others-is, others-fit}
-use Rattle.liquid_stability.proofs.Same.{none-past, others-first, trials-first}
 use Rattle.liquid_stability.proofs.liquid_stability.Goals as goal
 
 pub returns-in_err-lg : goal.returns-in_err-lg
@@ -20,11 +18,7 @@ pub int_to_float-others : goal.int_to_float-others
 int_to_float-others c = others-fit _ _ c.present_count-count.ensures (omega arith)
 
 pub invariant_of-tested : goal.invariant_of-tested
-invariant_of-tested c = record {
-  near_one = c.ln_two-near.ensures.0;
-  far_others = rw (others-first _ _ c.of-m.result.few c.fractions-x.ensures, c.of-m.ensures, ← others-is _ _ c.present_count-count.ensures) c.ln_two-near.ensures.1;
-  none_past = none-past _ _ c.fractions-x.ensures;
-}
+invariant_of-tested c = record { others_present = rw c.of-m.ensures (others-is _ _ c.present_count-count.ensures) }
 
 pub returns : goal.returns
 unfolding bind choose
@@ -33,4 +27,5 @@ returns c = rw (
   ← c.present_count-count.ensures,
   le-ltb _ _ c.if-count-lt2.false,
   ← c.of-m.ensures,
-) (c.trials.ensures ∙ trials-first _ _ c.of-m.result.few c.fractions-x.ensures _ _ _ c.tangent-d.ensures)
+  ← c.tangent-d.ensures,
+) c.trials.ensures

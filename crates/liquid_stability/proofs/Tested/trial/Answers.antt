@@ -2,7 +2,7 @@ use mathlib.Core.Path.{◌∙◌}
 use Rattle.floats.specs.Outcome.{bind}
 use Rattle.outcome.proofs.Exits.{met}
 use Rattle.liquid_stability.specs.Steps.{after}
-use Rattle.liquid_stability.proofs.Laws.{trial_out, trial_on}
+use Rattle.liquid_stability.proofs.Laws.{trial-start, trial_out, trial_on}
 use Rattle.liquid_stability.proofs.Tested.trial.Goals as goal
 
 pub returns-in_err-found : goal.returns-in_err-found

@@ -1,8 +1,8 @@
-use mathlib.Core.Path.{◌∙◌, sym}
+use mathlib.Core.Path.{◌∙◌, refl, sym}
 use native.Mathlib.Numerals.{add-one}
 use native.Mathlib.Omega.{arith}
 use Rattle.outcome.proofs.Exits.{met}
-use Rattle.liquid_stability.specs.Stability.{with_trial}
+use Rattle.liquid_stability.specs.Stability.{no_trials, with_trial, trials_to}
 use Rattle.liquid_stability.proofs.Laws.{trials-refused, trials_skip, trials-more}
 use Rattle.liquid_stability.proofs.Tested.trials.Goals as goal
 use Rattle.liquid_stability.proofs.Tested.trials.Goals.{then-self-j+in_ok-found, else-self-j}

@@ -1,29 +1,31 @@
 -- `liquid_stability::Tested::turn` meets its contract. The parts of a turn, put together. Assumes nothing.
 use Rattle.liquid_stability.specs.Stability.{trial_with}
 use Rattle.outcome.proofs.Exits.{met}
-use Rattle.liquid_stability.proofs.Laws.{in-places, turn-refused, turn-infinite, turn-ended, turn-on, turn-above}
+use Rattle.liquid_stability.proofs.Laws.{turn-refused, turn-infinite, turn-unstable, turn-converged, turn-on}
 use Rattle.liquid_stability.proofs.Tested.turn.Goals as goal
-use Rattle.liquid_stability.proofs.Tested.turn.Goals.{then-settled-distance+else-settled-is_unstable, else-settled-distance}
+use Rattle.liquid_stability.proofs.Tested.turn.Goals.{then-is_unstable-via-then-is_unstable, then-is_unstable-via-else-is_unstable+then-measured}
 
 pub returns-in_err-lg : goal.returns-in_err-lg
-returns-in_err-lg c = turn-refused _ _ _ _ _ _ _ _ c.exps-big.result (in-places _ _ c.args.self.m.few c.exps-big.ensures) c.total-s.ensures c.composition-w.ensures
+returns-in_err-lg c = turn-refused _ _ _ c.args.self.m.few _ _ _ _ _ c.amounts-big.ensures c.total-s.ensures c.composition-w.ensures
     _ c.in_err-lg.ensures (met _ _ c.from_residual.ensures.1)
 
 pub returns-then-not-is_finite : goal.returns-then-not-is_finite
-returns-then-not-is_finite c = turn-infinite _ _ _ _ _ _ _ _ c.exps-big.result (in-places _ _ c.args.self.m.few c.exps-big.ensures) c.total-s.ensures c.composition-w.ensures
-    c.in_ok-lg.ensures c.distance-distance.ensures c.if-not-is_finite.ensures
+returns-then-not-is_finite c = let m = c.measure-measured.ensures in
+    turn-infinite _ _ _ c.args.self.m.few _ _ _ _ _ c.amounts-big.ensures c.total-s.ensures c.composition-w.ensures
+    c.in_ok-lg.ensures m.0 m.1 m.2 c.if-not-is_finite.ensures
 
-pub returns-then-settled-is_unstable : goal.returns-then-settled-is_unstable
+pub returns-then-is_unstable : goal.returns-then-is_unstable
 unfolding trial_with
-returns-then-settled-is_unstable c = turn-ended _ _ _ _ _ _ _ _ c.exps-big.result (in-places _ _ c.args.self.m.few c.exps-big.ensures) c.total-s.ensures c.composition-w.ensures
-    c.in_ok-lg.ensures c.distance-distance.ensures c.if-not-is_finite.ensures c.settled-settled.ensures c.trivial.ensures c.is_unstable.ensures c.if-settled-is_unstable.true
+returns-then-is_unstable c = let m = c.measure-measured.ensures in elim c.then-is_unstable.branch [
+  | then-is_unstable-via-then-is_unstable w ↦
+      turn-unstable _ _ _ c.args.self.m.few _ _ _ _ _ c.amounts-big.ensures c.total-s.ensures c.composition-w.ensures
+      c.in_ok-lg.ensures m.0 m.1 m.2 c.if-not-is_finite.ensures w.if-is_unstable.ensures
+  | then-is_unstable-via-else-is_unstable+then-measured w ↦
+      turn-converged _ _ _ c.args.self.m.few _ _ _ _ _ c.amounts-big.ensures c.total-s.ensures c.composition-w.ensures
+      c.in_ok-lg.ensures m.0 m.1 m.2 c.if-not-is_finite.ensures w.if-is_unstable.ensures w.if-measured.true
+]
 
 pub returns : goal.returns
-returns c = elim c.if-settled-distance.branch [
-  | then-settled-distance+else-settled-is_unstable w ↦
-      turn-on _ _ _ _ _ _ _ _ c.exps-big.result (in-places _ _ c.args.self.m.few c.exps-big.ensures) c.total-s.ensures c.composition-w.ensures
-      c.in_ok-lg.ensures c.distance-distance.ensures c.if-not-is_finite.ensures c.settled-settled.ensures w.trivial.ensures w.is_unstable.ensures w.if-settled-is_unstable.false c.next.ensures
-  | else-settled-distance w ↦
-      turn-above _ _ _ _ _ _ _ _ c.exps-big.result (in-places _ _ c.args.self.m.few c.exps-big.ensures) c.total-s.ensures c.composition-w.ensures
-      c.in_ok-lg.ensures c.distance-distance.ensures c.if-not-is_finite.ensures c.settled-settled.ensures w.if-settled-distance.false c.next.ensures
-]
+returns c = let m = c.measure-measured.ensures in
+    turn-on _ _ _ c.args.self.m.few _ _ _ _ _ c.amounts-big.ensures c.total-s.ensures c.composition-w.ensures
+    c.in_ok-lg.ensures m.0 m.1 m.2 c.if-not-is_finite.ensures c.if-is_unstable.ensures c.if-measured.false c.next.ensures
