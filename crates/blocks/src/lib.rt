@@ -71,6 +71,7 @@ pub fn block(book: &[u8], k: usize) -> &[u8]
 impl Rule {
     // The sum of words 0 to 62, modulo 2^64.
     // Kept: `match self` is the definition by cases.
+    #[inline(always)]
     #[tactic(auto, unfolding(crate::specs::Words::sum_by))]
     fn sum<F: Fn(usize) -> u64>(self, word: F) -> u64
         requires { TakesWords (F.pre word) }
@@ -85,6 +86,7 @@ impl Rule {
 
 // Kept: a `fold`'s closure asks `word` for any index, and a block has 63. `map(word)` asks for those alone, but std's law of what
 // it gives (`YieldsList-from_map`) is over any index too. Here and in `running_sum`.
+#[inline(always)]
 fn plain_sum<F: Fn(usize) -> u64>(word: F) -> u64
     requires { TakesWords (F.pre word) }
     ensures { (w : ℕ → ℕ) → GivesWords (F.post word) w → result ≡ check_sum w 63 }
@@ -173,6 +175,7 @@ pub fn check_right(rule: Rule, s: &[u8]) -> bool
     block_sum(rule, s) == word(s, 63)
 }
 
+#[inline]
 fn store_word(out: &mut [u8], k: usize, w: u64)
     requires { 8 * k + 8 ≤ length out.old }
     ensures { out.new ≡ put out.old (8 * k) (bytes w) }
@@ -191,6 +194,7 @@ pub fn write_word(out: &mut [u8], k: usize, w: u64)
 }
 
 // Words 0 to 62 of `ws`, then word 63.
+#[inline(always)]
 #[tactic(auto, unfolding(crate::specs::Bytes::row_to))]
 fn store_words(out: &mut [u8], ws: &[u64; 64], check: u64)
     requires { 512 ≤ length out.old }
@@ -202,6 +206,7 @@ fn store_words(out: &mut [u8], ws: &[u64; 64], check: u64)
     store_word(out, 63, check);
 }
 
+#[inline(always)]
 fn store_at(out: &mut [u8], b: usize, rule: Rule, ws: &[u64; 64])
     requires { 512 * b + 512 ≤ length out.old }
     ensures { out.new ≡ put out.old (512 * b) (block_bytes rule (word_at ws.now)) }
@@ -212,6 +217,8 @@ fn store_at(out: &mut [u8], b: usize, rule: Rule, ws: &[u64; 64])
 }
 
 // Block b of a slice is written: words 0 to 62 of `ws` and their check. Where the slice is too short, nothing.
+// Inlined with all that it calls: where the rule and the words' places are known, the words are summed and stored with no array.
+#[inline(always)]
 pub fn write_at(out: &mut [u8], b: usize, rule: Rule, ws: &[u64; 64])
     ensures { out.new ≡ stored out.old (512 * b) (block_bytes rule (word_at ws.now)) }
 {
@@ -221,6 +228,7 @@ pub fn write_at(out: &mut [u8], b: usize, rule: Rule, ws: &[u64; 64])
 }
 
 // The first block of a slice is written, as by `write_at`.
+#[inline(always)]
 pub fn write_block(out: &mut [u8], rule: Rule, ws: &[u64; 64])
     ensures { out.new ≡ stored out.old 0 (block_bytes rule (word_at ws.now)) }
 {

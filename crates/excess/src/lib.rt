@@ -2,13 +2,15 @@
 // a model and the finite tests behind it.
 #![tactic(auto)]
 
-ghost use Rattle.std.specs.Prelude.{◌≡◌};
+ghost use Rattle.std.specs.Prelude.{◌≡◌, ◌&&◌};
 ghost use Rattle.floats.specs.Vector.{at, places, zeros8};
 ghost use Rattle.floats.specs.Outcome.{ok};
 ghost use Rattle.outcome.specs.Refused.{outcome_of};
+ghost use Rattle.thermo_types.specs.Composition.{all_finite};
 ghost use Rattle.excess.specs.State.{state_with, finite_state, with_state};
 ghost use Rattle.excess.specs.Answers.{Gives, energies_at, energies_finite};
 
+use floats::Count;
 use jet::Jet;
 use outcome::Refusal;
 use thermo_types::Temperature;
@@ -27,8 +29,7 @@ pub struct Energies {
 const GAS_CONSTANT: f64 = 8.31446261815324;
 
 // T is finite and positive (13), and the first n of x are mole fractions (15, 16, 18).
-// Not inlined: a model's loops then begin with a test of n of their own, by which they are unrolled.
-#[inline(never)]
+#[inline(always)]
 pub fn with_state(t: Temperature, x: &[f64; 8], n: usize) -> Result<(), Refusal>
     ensures { outcome_of result ≡ with_state t.0 (at x.now) (places n) (ok tt) }
 {
@@ -76,6 +77,7 @@ pub fn clear(values: &mut [f64; 8], slopes: &mut [f64; 8])
 }
 
 // The state of e = g^E/(RT) and of the ln γ and slopes in the arrays; 25 where an energy isn't finite.
+#[inline(always)]
 pub fn state(
     e: Jet,
     t: Temperature,
@@ -92,7 +94,24 @@ pub fn state(
     Ok(r)
 }
 
+// Whether the first n of both are finite.
+// Kept: a `for`: two tests to a turn, with no early way out.
+#[inline(always)]
+#[tactic(auto, unfolding(floats::specs::Fold::all_to))]
+fn both_finite(values: &[f64; 8], slopes: &[f64; 8], m: Count) -> bool
+    ensures { result ≡ (all_finite (at values.now) m.n && all_finite (at slopes.now) m.n) }
+{
+    let mut of_values = true;
+    let mut of_slopes = true;
+    for i in 0..m.n {
+        of_values = of_values & floats::is_finite(values[i]);
+        of_slopes = of_slopes & floats::is_finite(slopes[i]);
+    }
+    of_values & of_slopes
+}
+
 // The same where the first n ln γ and slopes are finite, else 25.
+#[inline(always)]
 #[tactic(auto, unfolding(crate::specs::State::finite_state, floats::specs::Outcome::need))]
 pub fn finite_state(
     e: Jet,
@@ -103,7 +122,7 @@ pub fn finite_state(
 ) -> Result<Energies, Refusal>
     ensures { Gives (finite_state e (places n) t.0 values.old slopes.old) result values.new slopes.new }
 {
-    if !(thermo_types::all_finite(values, n) && thermo_types::all_finite(slopes, n)) {
+    if !both_finite(values, slopes, Count::of(n)) {
         clear(values, slopes);
         return Err(Refusal::ResultNotFinite);
     }

@@ -180,12 +180,10 @@ fn excess_in(
 ) -> Result<(), Refusal>
     ensures { ExcessGives (excess_in (mixture_of book.now (places n)) t.0 x.now) (number_in result) out.old out.new }
 {
-    let mut parameters = [0.0; 384];
     let mut table = [0.0; 512];
     let mut lg = [0.0; 8];
     let mut sl = [0.0; 8];
-    records::parameters(book, b"", n, &mut parameters);
-    let s = thermo_models::tables(book, &parameters, n, t, &mut table);
+    let s = thermo_models::book_tables(book, b"", n, t, &mut table);
     let e = thermo_models::excess(&table, s, x, &mut lg, &mut sl)?;
     let a = thermo_models::validity(book, b"", n, t, x);
     store_state(&lg, &sl, e, a, out);
@@ -265,14 +263,11 @@ fn repeat(table: &[f64; 512], s: Tabled, x: &[f64; 8], count: u64) -> u64
     count
 }
 
-// Kept: parameters, then tables, as in `excess_in`: two lines, and a function of its own would repeat the contract of `tables`.
 fn repeat_from(book: &[u8], n: usize, t: Temperature, x: &[f64; 8], count: u64) -> u64
     ensures { result ≡ count }
 {
-    let mut parameters = [0.0; 384];
     let mut table = [0.0; 512];
-    records::parameters(book, b"", n, &mut parameters);
-    let s = thermo_models::tables(book, &parameters, n, t, &mut table);
+    let s = thermo_models::book_tables(book, b"", n, t, &mut table);
     repeat(&table, s, x, count)
 }
 

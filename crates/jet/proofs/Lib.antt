@@ -2,3 +2,4 @@
 pub mod Sums
 pub mod Near
 pub mod Planes
+pub mod Lanes

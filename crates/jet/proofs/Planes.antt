@@ -1,11 +1,10 @@
 -- What stands where in a table of planes: place e of plane k, after one pair, a row, all rows; a Jet and its first two of a table. Assumes nothing.
-use Prim.Native.Nat.{ℕ, zero, suc, ◌+◌, ◌*◌, ◌%◌, ◌<◌, ◌≤◌}
+use Prim.Native.Nat.{ℕ, zero, suc, ◌+◌, ◌*◌, ◌<◌, ◌≤◌}
 use mathlib.Core.Path.{◌≡◌, refl, sym, ◌∙◌, ap}
 use mathlib.Core.Logic.{⊎_elim}
 use mathlib.Core.List.{List}
 use native.Mathlib.Nat.{eq-or-lt_of_le}
 use native.Mathlib.Omega.{arith}
-use borrow.Author.Tests.{eq-eqb, ne_eqb}
 use lib.ListN.{length, set, length-set}
 use lib.Seq.{get_or-set_same, get_or-set_other, set_comm}
 use lib.Ieee.{Float, nan}
@@ -15,7 +14,7 @@ use Rattle.floats.proofs.Folds.{fold_turn, fold_cong}
 use Rattle.floats.proofs.Squares.{fold_past, square-turn}
 use Rattle.jet.specs.declared.Jet.{Jet}
 use Rattle.jet.specs.Jets.{two_j}
-use Rattle.jet.specs.Planes.{spread, plane_row, plane_rows, plane_pairs, Holds, six, cell_of, jet_at, jets, twos, first_two}
+use Rattle.jet.specs.Planes.{spread, plane_row, plane_rows, plane_pairs, jet_at, jets, twos, first_two}
 use Rattle.jet.proofs.Near.{◌≃◌, two-near}
 
 -- ---- one pair
@@ -104,19 +103,9 @@ spread_cong e m l h = fold_cong l m (λ k a q. ap (set a (k * 64 + e)) (h k q))
 pub rows_cong : {f g : ℕ → ℕ → ℕ → Float} (m n r : ℕ) (l : List Float) → ((i j k : ℕ) → f i j k ≡ g i j k) → plane_rows f m n r l ≡ plane_rows g m n r l
 rows_cong m n r l h = fold_cong l r (λ i a _. fold_cong a n (λ j b _. spread_cong (i * 8 + j) m b (λ k _. h i j k)))
 
--- ---- the cells of a pair and of the diagonal
-module _ (f : List Float → ℕ → Float) (g : ℕ → Float) (P : List Float) where
-  pub cell-pair : (c : List Float) {p : List Float} (i j m : ℕ) (l : List Float) → i < 8 → j < 8 → (i ≡ j → ⊥) → p ≡ six P (i % 8 * 8 + j % 8) → Holds (f p) m c
-      → spread (at c) (i * 8 + j) m l ≡ spread (cell_of f g P i j) (i * 8 + j) m l
-  unfolding cell_of
-  cell-pair c i j m l i8 j8 n e h =
-      let a : i % 8 ≡ i = omega arith in
-      let b : j % 8 ≡ j = omega arith in
-      spread_cong (i * 8 + j) m l (λ k q. h k q ∙ rw (ne_eqb i j n, e, a, b))
-
-  pub cell-own : (c : List Float) (i m : ℕ) (l : List Float) → Holds g m c → spread (at c) (i * 8 + i) m l ≡ spread (cell_of f g P i i) (i * 8 + i) m l
-  unfolding cell_of
-  cell-own c i m l h = spread_cong (i * 8 + i) m l (λ k q. h k q ∙ rw (eq-eqb i i refl))
+-- the same below n
+pub rows_same : {f g : ℕ → ℕ → ℕ → Float} (m n r : ℕ) (l : List Float) → ((i j k : ℕ) → i < r → j < n → f i j k ≡ g i j k) → plane_rows f m n r l ≡ plane_rows g m n r l
+rows_same m n r l h = fold_cong l r (λ i a p. fold_cong a n (λ j b q. spread_cong (i * 8 + j) m b (λ k _. h i j k p q)))
 
 pub pairs_turn : (f : ℕ → ℕ → ℕ → Float) (m i j : ℕ) (old : List Float) {l l' : List Float} → l' ≡ spread (f j i) (j * 8 + i) m (spread (f i j) (i * 8 + j) m l)
     → l ≡ plane_pairs f m i j old → l' ≡ plane_pairs f m i (j + 1) old

@@ -6,7 +6,9 @@ ghost use Rattle.std.specs.Prelude.{◌≡◌, ℕ, ◌≤◌, ◌<◌, ◌+◌,
 ghost use Rattle.floats.specs.Vector.{at, places};
 ghost use Rattle.jet.specs.Jets.{const_j, two_j, add_j, sub_j, neg_j, mul_j, scale_j, div_j, exp_with, exp_j, ln_with, ln_j};
 ghost use Rattle.jet.specs.Planes.{Holds, six, cell_of, spread, plane_pairs, plane_rows};
+ghost use Rattle.jet.specs.Lanes.{two_of, first_of, second_of, raised_two, lane_of, lane_in, laid_border, laid, triangle, raised_to, Lies, AllLie, cell_in};
 
+use floats::Count;
 use std::ops::{Add, Div, Mul, Neg, Sub};
 
 // A quantity with its derivatives by the temperature, 1/K and 1/K².
@@ -164,20 +166,118 @@ impl Neg for Jet {
 
 // What a table keeps of each ordered pair, in M planes.
 pub trait Pairs<const M: usize> {
+    ghost use Rattle.jet.specs.declared.Jet.{Jet};
+
     ghost cells: { Self → List Float → ℕ → Float };
 
     ghost own_cells: { Self → ℕ → Float };
 
-    // Of the pairs (i, j) and (j, i), from six parameters each: their exponentials side by side.
-    fn both(&self, p: [f64; 6], q: [f64; 6]) -> ([f64; M], [f64; M])
-        ensures first { Holds (cells self.now p) M result.0 }
-        ensures second { Holds (cells self.now q) M result.1 };
+    // Of a pair's six parameters: what is kept beside, and the exponent of what is kept.
+    ghost beside_of: { Self → List Float → Jet };
+
+    ghost exponent_of: { Self → List Float → Jet };
+
+    ghost made_of: { Self → Jet → Jet → ℕ → Float };
+
+    fn beside(&self, p: [f64; 6]) -> Jet
+        ensures { result ≡ beside_of self.now p };
+
+    fn exponent(&self, p: [f64; 6]) -> Jet
+        ensures { result ≡ exponent_of self.now p };
+
+    // The cells, from what is kept beside and from the exponential g.
+    fn made(&self, a: Jet, g: Jet) -> [f64; M]
+        ensures { Holds (made_of self.now a g) M result };
 
     // Of a solvent with itself.
     fn own(&self) -> [f64; M]
         ensures { Holds (own_cells self.now) M result };
 
+    ghost makes: { (s : Self) (p : List Float) → made_of s (beside_of s p) (exp_j (exponent_of s p)) ≡ cells s p };
+
     ghost few: { M ≤ 8 };
+}
+
+// The six parameters of each ordered pair of some solvents.
+pub trait Source {
+    ghost size: { Self → ℕ };
+
+    ghost six: { Self → ℕ → ℕ → List Float };
+
+    fn count(&self) -> Count
+        ensures { result.n ≡ size self.now };
+
+    // Of (i, j) and of (j, i).
+    fn both(&self, i: usize, j: usize) -> ([f64; 6], [f64; 6])
+        requires { (i < j) × (j < size self.now) }
+        ensures first { result.0 ≡ six self.now i j }
+        ensures second { result.1 ≡ six self.now j i };
+}
+
+// Two Jets, like parts side by side, so that both are worked out at once.
+#[derive(Clone, Copy)]
+struct Two {
+    v0: f64,
+    v1: f64,
+    d0: f64,
+    d1: f64,
+    dd0: f64,
+    dd1: f64,
+}
+
+impl Two {
+    #[tactic(auto, unfolding(crate::specs::Lanes::two_of))]
+    fn of(a: Jet, b: Jet) -> Two
+        ensures { result ≡ two_of a b }
+    {
+        Two {
+            v0: a.v,
+            v1: b.v,
+            d0: a.d,
+            d1: b.d,
+            dd0: a.dd,
+            dd1: b.dd,
+        }
+    }
+
+    #[tactic(auto, unfolding(crate::specs::Lanes::first_of))]
+    fn first(self) -> Jet
+        ensures { result ≡ first_of self }
+    {
+        Jet {
+            v: self.v0,
+            d: self.d0,
+            dd: self.dd0,
+        }
+    }
+
+    #[tactic(auto, unfolding(crate::specs::Lanes::second_of))]
+    fn second(self) -> Jet
+        ensures { result ≡ second_of self }
+    {
+        Jet {
+            v: self.v1,
+            d: self.d1,
+            dd: self.dd1,
+        }
+    }
+
+    // The exponentials of the values in their place.
+    #[inline(always)]
+    #[tactic(auto, unfolding(crate::specs::Lanes::raised_two))]
+    fn raised(self) -> Two
+        ensures { result ≡ raised_two self }
+    {
+        let (v0, v1) = numerics::exp_two(self.v0, self.v1);
+        Two { v0, v1, ..self }
+    }
+}
+
+// Of a pair of solvents, both ways: what is kept beside, and the exponents.
+#[derive(Clone, Copy)]
+struct Lane {
+    beside: Two,
+    exponent: Two,
 }
 
 // The six parameters of the pair (i, j), from (i * 8 + j) * 6 on; indices modulo 8.
@@ -186,6 +286,85 @@ pub fn pair(parameters: &[f64; 384], i: usize, j: usize) -> [f64; 6]
 {
     let e = (i % 8 * 8 + j % 8) * 6;
     std::array::from_fn(|k| parameters[e + k])
+}
+
+// Those of the first m solvents in a flat plane.
+#[derive(Clone, Copy)]
+pub struct Plane<'a> {
+    pub parameters: &'a [f64; 384],
+    pub m: Count,
+}
+
+impl Source for Plane<'_> {
+    ghost size = { λ s. s.m.n };
+
+    ghost six = { λ s i j. six s.parameters.now (i % 8 * 8 + j % 8) };
+
+    fn count(&self) -> Count {
+        self.m
+    }
+
+    fn both(&self, i: usize, j: usize) -> ([f64; 6], [f64; 6]) {
+        (pair(self.parameters, i, j), pair(self.parameters, j, i))
+    }
+}
+
+fn started<const M: usize, P: Pairs<M>>(pairs: &P, p: [f64; 6], q: [f64; 6]) -> Lane
+    ensures { result ≡ lane_of (P.beside_of pairs.now) (P.exponent_of pairs.now) p q }
+{
+    Lane {
+        beside: Two::of(pairs.beside(p), pairs.beside(q)),
+        exponent: Two::of(pairs.exponent(p), pairs.exponent(q)),
+    }
+}
+
+// The lanes of the pairs (j, i) for j below i, from place q on.
+#[tactic(auto, unfolding(floats::specs::Fold::fold_to))]
+fn lay_border<const M: usize, const K: usize, P: Pairs<M>, S: Source>(
+    pairs: &P,
+    source: &S,
+    i: usize,
+    q: usize,
+    lanes: &mut [Lane; K],
+)
+    requires { (i < S.size source.now) × (q + i ≤ K) }
+    ensures { lanes.new ≡ laid_border (lane_in (P.beside_of pairs.now) (P.exponent_of pairs.now) (S.six source.now)) i q i lanes.old }
+{
+    for j in 0..i {
+        let (a, b) = source.both(j, i);
+        lanes[q + j] = started(pairs, a, b);
+    }
+}
+
+// Those of all pairs (j, i), j < i, row by row; how many.
+#[tactic(auto, unfolding(floats::specs::Fold::fold_to))]
+fn lay<const M: usize, const K: usize, P: Pairs<M>, S: Source>(
+    pairs: &P,
+    source: &S,
+    n: usize,
+    lanes: &mut [Lane; K],
+) -> usize
+    requires { (n ≤ S.size source.now) × (triangle n ≤ K) × (K ≤ 28) }
+    ensures count { result ≡ triangle n }
+    ensures lanes { lanes.new ≡ laid (lane_in (P.beside_of pairs.now) (P.exponent_of pairs.now) (S.six source.now)) n lanes.old }
+{
+    let mut q = 0;
+    for i in 0..n {
+        lay_border(pairs, source, i, q, lanes);
+        q += i;
+    }
+    q
+}
+
+// The exponentials of the first `count`, in a loop of their own, whose turns overlap.
+#[tactic(auto, unfolding(floats::specs::Fold::fold_to, crate::specs::Lanes::raised_lane))]
+fn raise<const K: usize>(count: usize, lanes: &mut [Lane; K])
+    requires { count ≤ K }
+    ensures { lanes.new ≡ raised_to count lanes.old }
+{
+    for k in 0..count {
+        lanes[k].exponent = lanes[k].exponent.raised();
+    }
 }
 
 // Kept: by index, here and below: the cells of a pair lie 64 apart in a flat table, the caller's memory. i, j and e are a loop's
@@ -200,26 +379,87 @@ fn keep<const M: usize>(cells: [f64; M], e: usize, table: &mut [f64; 512])
     }
 }
 
-// Row i up to the diagonal, and column i.
+// Row i up to the diagonal, and column i, from the lanes at q on.
 #[tactic(auto, unfolding(floats::specs::Fold::fold_to))]
-fn fill_border<const M: usize, P: Pairs<M>>(
+fn fill_border<const M: usize, const K: usize, P: Pairs<M>>(
     pairs: &P,
-    parameters: &[f64; 384],
+    lanes: &[Lane; K],
     i: usize,
+    q: usize,
     table: &mut [f64; 512],
 )
-    requires { i < 8 }
-    ensures { table.new ≡ plane_pairs (cell_of (P.cells pairs.now) (P.own_cells pairs.now) parameters.now) M i i table.old }
+    requires { (i < 8) × (q + i ≤ K) }
+    ensures { (f : ℕ → ℕ → ℕ → Float) → Lies (P.made_of pairs.now) lanes.now f i q i → table.new ≡ plane_pairs f M i i table.old }
 {
     for j in 0..i {
-        let (a, b) = pairs.both(pair(parameters, i, j), pair(parameters, j, i));
-        keep(a, i * 8 + j, table);
-        keep(b, j * 8 + i, table);
+        let l = lanes[q + j];
+        let (u, v) = (l.exponent.first(), l.exponent.second());
+        let b = pairs.made(l.beside.second(), v.exp_with(v.v));
+        keep(b, i * 8 + j, table);
+        let a = pairs.made(l.beside.first(), u.exp_with(u.v));
+        keep(a, j * 8 + i, table);
+    }
+}
+
+// All rows.
+#[tactic(auto, unfolding(floats::specs::Fold::fold_to))]
+fn fill_rows<const M: usize, const K: usize, P: Pairs<M>>(
+    pairs: &P,
+    lanes: &[Lane; K],
+    m: Count,
+    table: &mut [f64; 512],
+)
+    requires { (triangle m.n ≤ K) × (K ≤ 28) }
+    ensures { (f : ℕ → ℕ → ℕ → Float) → AllLie (P.made_of pairs.now) (P.own_cells pairs.now) lanes.now f m.n → table.new ≡ plane_rows f M m.n m.n table.old }
+{
+    let mut q = 0;
+    for i in 0..m.n {
+        fill_border(pairs, lanes, i, q, table);
+        keep(pairs.own(), i * 8 + i, table);
+        q += i;
+    }
+}
+
+// Parameters to lanes, their exponentials, lanes to cells: three loops, each over all pairs.
+fn fill_lanes<const M: usize, const K: usize, P: Pairs<M>, S: Source>(
+    pairs: &P,
+    source: &S,
+    m: Count,
+    table: &mut [f64; 512],
+)
+    requires { (m.n ≡ S.size source.now) × (triangle m.n ≤ K) × (K ≤ 28) }
+    ensures { table.new ≡ plane_rows (cell_in (P.cells pairs.now) (P.own_cells pairs.now) (S.six source.now)) M m.n m.n table.old }
+{
+    let none = Two::of(Jet::constant(0.0), Jet::constant(0.0));
+    let mut lanes = [Lane {
+        beside: none,
+        exponent: none,
+    }; K];
+    let count = lay(pairs, source, m.n, &mut lanes);
+    raise(count, &mut lanes);
+    fill_rows(pairs, &lanes, m, table);
+}
+
+// All ordered pairs of the source; the table's other places stay as they are.
+pub fn fill_from<const M: usize, P: Pairs<M>, S: Source>(
+    pairs: &P,
+    source: &S,
+    table: &mut [f64; 512],
+)
+    ensures { table.new ≡ plane_rows (cell_in (P.cells pairs.now) (P.own_cells pairs.now) (S.six source.now)) M (S.size source.now) (S.size source.now) table.old }
+{
+    let m = source.count();
+    // Kept: room for the pairs of 2, 4 and 8 solvents: cleared for 28 pairs, the lanes of one pair cost as much as its cells.
+    if m.n <= 2 {
+        fill_lanes::<M, 1, P, S>(pairs, source, m, table);
+    } else if m.n <= 4 {
+        fill_lanes::<M, 6, P, S>(pairs, source, m, table);
+    } else {
+        fill_lanes::<M, 28, P, S>(pairs, source, m, table);
     }
 }
 
 // All ordered pairs of n solvents; the table's other places stay as they are.
-#[tactic(auto, unfolding(floats::specs::Fold::fold_to))]
 pub fn fill_pairs<const M: usize, P: Pairs<M>>(
     pairs: &P,
     parameters: &[f64; 384],
@@ -228,8 +468,9 @@ pub fn fill_pairs<const M: usize, P: Pairs<M>>(
 )
     ensures { table.new ≡ plane_rows (cell_of (P.cells pairs.now) (P.own_cells pairs.now) parameters.now) M (places n) (places n) table.old }
 {
-    for i in 0..floats::places(n) {
-        fill_border(pairs, parameters, i, table);
-        keep(pairs.own(), i * 8 + i, table);
-    }
+    let plane = Plane {
+        parameters,
+        m: Count::of(n),
+    };
+    fill_from::<M, P, Plane>(pairs, &plane, table);
 }

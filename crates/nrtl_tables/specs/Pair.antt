@@ -1,7 +1,7 @@
 -- τ, α and G of one ordered pair at a temperature (Renon and Prausnitz 1968, with the Rust's terms in T). The parameters P are a flat list:
 -- t0 to t3, a0 and a1 of the pair (i, j) from (i * 8 + j) * 6 on. Assumes nothing.
-use Rattle.std.specs.Prelude.{ℕ, ◌+◌, ◌*◌, Bool, true, false, not, cond, List, eqb, Float}
-use Rattle.std.specs.Float.Ieee.{neg, le, is_nan}
+use Rattle.std.specs.Prelude.{ℕ, ◌+◌, ◌*◌, Bool, true, false, not, cond, ◌&&◌, List, eqb, Float}
+use Rattle.std.specs.Float.Ieee.{neg, le, lt, is_nan}
 use Rattle.floats.specs.Arithmetic.{◌⊗◌, ◌⊘◌, 0f, 1f, 2f}
 use Rattle.floats.specs.Fold.{all_to}
 use Rattle.floats.specs.Vector.{at}
@@ -70,3 +70,13 @@ all_right P b n = all_to (λ i. all_to (alpha_right P b i) n) n
 
 abbrev pub alphas_right : List Float → Float → ℕ → Bool
 alphas_right P t n = all_right P (basis_of t) n
+
+-- ---- the same of the six parameters of each pair that a source gives
+unfoldable pub alpha_above : Basis → List Float → Bool
+alpha_above b p = lt 0f (alpha_j p b 0).v
+
+unfoldable pub both_above : Basis → (ℕ → ℕ → List Float) → ℕ → ℕ → Bool
+both_above b S i j = alpha_above b (S j i) && alpha_above b (S i j)
+
+unfoldable pub all_above : Basis → (ℕ → ℕ → List Float) → ℕ → Bool
+all_above b S n = all_to (λ i. all_to (both_above b S i) i) n

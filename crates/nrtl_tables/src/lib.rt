@@ -4,17 +4,18 @@
 // entry (i, j) of plane k at k * 64 + i * 8 + j: G, τ G, each with two derivatives, then τ with one.
 #![tactic(auto)]
 
-ghost use Rattle.std.specs.Prelude.{◌≡◌, ℕ, ◌<◌};
+ghost use Rattle.std.specs.Prelude.{◌≡◌, ℕ, ◌<◌, List, Float, refl};
 ghost use Rattle.std.proofs.Math.Nat.{le_refl};
 ghost use Rattle.floats.specs.Arithmetic.{0f, 1f};
 ghost use Rattle.floats.specs.Fold.{all_to};
 ghost use Rattle.floats.specs.Vector.{at, places};
 ghost use Rattle.jet.specs.Jets.{const_j, exp_j};
-ghost use Rattle.nrtl_tables.specs.Pair.{basis_of, tau_j, alpha_j, exponent_j, alpha_right, all_right};
+ghost use Rattle.jet.specs.Lanes.{Lists};
+ghost use Rattle.nrtl_tables.specs.Pair.{basis_of, tau_j, alpha_j, exponent_j, alpha_above, both_above, all_above};
 ghost use Rattle.nrtl_tables.specs.Table.{kept_of, Filled};
 
 use floats::Count;
-use jet::{Jet, Pairs};
+use jet::{Jet, Pairs, Plane, Source};
 use outcome::Refusal;
 use thermo_types::Temperature;
 
@@ -90,16 +91,26 @@ impl Pairs<8> for Basis {
 
     ghost own_cells = { λ b. kept_of (const_j 0f) (const_j 1f) };
 
+    ghost beside_of = { λ b p. tau_j p b 0 };
+
+    ghost exponent_of = { λ b p. exponent_j p b 0 };
+
+    ghost made_of = { λ b. kept_of };
+
+    ghost makes = { λ b p. refl };
+
     ghost few = { le_refl 8 };
 
-    fn both(&self, p: [f64; 6], q: [f64; 6]) -> ([f64; 8], [f64; 8]) {
-        let u = exponent(p, *self);
-        let v = exponent(q, *self);
-        let (e, f) = numerics::exp_two(u.v, v.v);
-        (
-            kept(tau_of(p, *self), u.exp_with(e)),
-            kept(tau_of(q, *self), v.exp_with(f)),
-        )
+    fn beside(&self, p: [f64; 6]) -> Jet {
+        tau_of(p, *self)
+    }
+
+    fn exponent(&self, p: [f64; 6]) -> Jet {
+        exponent(p, *self)
+    }
+
+    fn made(&self, a: Jet, g: Jet) -> [f64; 8] {
+        kept(a, g)
     }
 
     fn own(&self) -> [f64; 8] {
@@ -109,31 +120,54 @@ impl Pairs<8> for Basis {
 
 // ---- question 24
 
-// Kept: two of the three take (parameters, b, m), and a struct of them makes no contract shorter; i and j are a loop's own.
-#[tactic(auto, unfolding(crate::specs::Pair::alpha_right))]
-fn alpha_right(parameters: &[f64; 384], b: Basis, i: usize, j: usize) -> bool
-    requires { (i < 8) × (j < 8) }
-    ensures { result ≡ alpha_right parameters.now b i j }
+#[tactic(auto, unfolding(crate::specs::Pair::alpha_above))]
+fn alpha_right(p: [f64; 6], b: Basis) -> bool
+    ensures { result ≡ alpha_above b p }
 {
-    i == j || 0.0 < alpha_of(jet::pair(parameters, i, j), b).v
+    0.0 < alpha_of(p, b).v
 }
 
-fn row_right(parameters: &[f64; 384], b: Basis, m: Count, i: usize) -> bool
-    requires { i < 8 }
-    ensures { result ≡ all_to (alpha_right parameters.now b i) m.n }
+// Of a pair, both ways.
+fn pair_right<S: Source>(source: &S, b: Basis, j: usize, i: usize) -> bool
+    requires { (j < i) × (i < S.size source.now) }
+    ensures { result ≡ both_above b (S.six source.now) i j }
 {
-    (0..m.n).all(|j| alpha_right(parameters, b, i, j))
+    let (p, q) = source.both(j, i);
+    alpha_right(p, b) & alpha_right(q, b)
 }
 
-fn all_right(parameters: &[f64; 384], b: Basis, m: Count) -> bool
-    ensures { result ≡ all_right parameters.now b m.n }
+fn row_right<S: Source>(source: &S, b: Basis, i: usize) -> bool
+    requires { i < S.size source.now }
+    ensures { result ≡ all_to (both_above b (S.six source.now) i) i }
 {
-    (0..m.n).all(|i| row_right(parameters, b, m, i))
+    (0..i).all(|j| pair_right(source, b, j, i))
+}
+
+fn all_right<S: Source>(source: &S, b: Basis) -> bool
+    ensures { result ≡ all_above b (S.six source.now) (S.size source.now) }
+{
+    (0..source.count().n).all(|i| row_right(source, b, i))
 }
 
 // ---- the table
 
 // The table at t; refused (24) and left alone where an α isn't positive.
+pub fn tables_from<S: Source>(
+    source: &S,
+    t: Temperature,
+    table: &mut [f64; 512],
+) -> Result<(), Refusal>
+    ensures { (P : List Float) → Lists (S.six source.now) (S.size source.now) P → Filled P (S.size source.now) t.0 result table.old table.new }
+{
+    let b = basis_at(t.value());
+    if !all_right(source, b) {
+        return Err(Refusal::AlphaNotPositive);
+    }
+    jet::fill_from::<8, Basis, S>(&b, source, table);
+    Ok(())
+}
+
+// The same from parameters in a flat plane.
 pub fn tables(
     parameters: &[f64; 384],
     n: usize,
@@ -142,10 +176,9 @@ pub fn tables(
 ) -> Result<(), Refusal>
     ensures { Filled parameters.now (places n) t.0 result table.old table.new }
 {
-    let b = basis_at(t.value());
-    if !all_right(parameters, b, Count::of(n)) {
-        return Err(Refusal::AlphaNotPositive);
-    }
-    jet::fill_pairs::<8, Basis>(&b, parameters, n, table);
-    Ok(())
+    let plane = Plane {
+        parameters,
+        m: Count::of(n),
+    };
+    tables_from::<Plane>(&plane, t, table)
 }

@@ -2,21 +2,23 @@
 // the rest (13 to 21), put to that feed; 34 where mass fractions can't be brought to moles.
 #![tactic(auto)]
 
-ghost use Rattle.std.specs.Prelude.{◌≡◌, ◌+◌};
+ghost use Rattle.std.specs.Prelude.{◌≡◌, ◌+◌, ◌%◌, ◌≤◌, ◌&&◌};
 ghost use Rattle.floats.specs.Arithmetic.{◌⊘◌};
 ghost use Rattle.floats.specs.Small.{float};
 ghost use Rattle.floats.specs.Vector.{at, vec, places};
 ghost use Rattle.floats.specs.Outcome.{ok, need};
+ghost use Rattle.thermo_types.specs.Composition.{all_finite, none_negative, all_positive, sums_to_one, normalize_of};
 ghost use Rattle.outcome.specs.Refused.{outcome_of};
 ghost use Rattle.blocks.specs.Words.{word};
 ghost use Rattle.book.specs.Places.{words};
 ghost use Rattle.book.specs.Book.{molar_mass};
 ghost use Rattle.question.specs.Inputs.{is_task, task_number, task_found, needs_temperature, needs_pressure, needs_options, needs_ratios, if_needed};
-ghost use Rattle.question.specs.Asked.{task_in, kind_right, feed_of, temperature_right, pressure_right, inputs_finite, ratios_positive, inputs_right, tolerance_right, options_right, limited, limits_some, limits_few, limits_right, moles_of, options_in, question_from, rest_of, question_of};
+ghost use Rattle.question.specs.Asked.{task_in, kind_right, feed_of, temperature_right, pressure_right, inputs_finite, ratios_positive, inputs_right, tolerance_right, options_right, limited, limits_some, limits_few, limits_right, ratios_of, moles_of, options_in, question_from, rest_of, question_of};
 
 use blocks::{Rule, word};
 use book::float_at;
 use outcome::Refusal;
+use std::hint::select_unpredictable;
 use thermo_types::ActivityOptions;
 
 // What is asked, by the number in word 1.
@@ -120,6 +122,26 @@ pub fn floats_from(q: &[u8], from: usize, n: usize) -> [f64; 8]
     })
 }
 
+// Word k of a whole block as a float, read with no test for its end.
+// Kept: book has such a reader too: shared it would be a `pub fn`, for two lines.
+#[tactic(auto, unfolding(blocks::specs::Words::word))]
+fn float_in(q: &[u8; 512], k: usize) -> f64
+    ensures { result ≡ float (word q.now) (k % 64) }
+{
+    let from = 8 * (k % 64);
+    floats::float_of(u64::from_le_bytes(q[from..from + 8].try_into().unwrap()))
+}
+
+// The first n floats of a whole block from word `from` on, 0.0 past them. All eight are read, so that none waits for a test.
+#[inline(always)]
+fn floats_in(q: &[u8; 512], from: usize, n: usize) -> [f64; 8]
+    requires { from ≤ 56 }
+    ensures { result ≡ vec (λ i. float (word q.now) (from + i)) (places n) }
+{
+    let m = floats::places(n);
+    std::array::from_fn(|i| select_unpredictable(i < m, float_in(q, from.saturating_add(i)), 0.0))
+}
+
 // 13
 fn temperature_right(q: &[u8]) -> bool
     ensures { result ≡ temperature_right (word q.now) }
@@ -201,6 +223,7 @@ fn limits_few(q: &[u8]) -> bool
 }
 
 // Six fields by their words.
+#[inline(always)]
 #[tactic(auto, unfolding(crate::specs::Asked::options_in))]
 fn options_in(q: &[u8]) -> ActivityOptions
     ensures { result ≡ options_in (word q.now) }
@@ -215,6 +238,7 @@ fn options_in(q: &[u8]) -> ActivityOptions
     }
 }
 
+#[inline(always)]
 #[tactic(auto, unfolding(crate::specs::Asked::question_from))]
 fn question_from(q: &[u8], x: &[f64; 8], k: &[f64; 8]) -> Question
     ensures { result ≡ question_from (word q.now) x.now k.now }
@@ -252,20 +276,31 @@ fn over_masses(book: &[u8], n: usize, x: &[f64; 8]) -> [f64; 8]
     })
 }
 
+// Of mass fractions: 34.
+#[cold]
+#[inline(never)]
+fn moles_by_mass(book: &[u8], n: usize, x: &[f64; 8]) -> Result<[f64; 8], Refusal>
+    ensures { outcome_of result ≡ normalize_of (λ i. at x.now i ⊘ molar_mass (words book.now) i) (places n) }
+{
+    let amounts = over_masses(book, n, x);
+    thermo_types::normalize(&amounts, n)
+}
+
 // The mole fractions of a feed by word 27.
+#[inline(always)]
 #[tactic(auto, unfolding(crate::specs::Asked::moles_of, floats::specs::Outcome::choose))]
 fn moles(q: &[u8], book: &[u8], n: usize, x: &[f64; 8]) -> Result<[f64; 8], Refusal>
     ensures { outcome_of result ≡ moles_of (word q.now) (molar_mass (words book.now)) (places n) x.now }
 {
     if word(q, 27) == 1 {
-        let amounts = over_masses(book, n, x);
-        thermo_types::normalize(&amounts, n)
+        moles_by_mass(book, n, x)
     } else {
         Ok(*x)
     }
 }
 
 // Questions 19 to 21.
+#[inline(always)]
 #[tactic(auto, unfolding(crate::specs::Asked::limits_right, floats::specs::Outcome::need))]
 fn check_limits(q: &[u8]) -> Result<(), Refusal>
     ensures { outcome_of result ≡ limits_right (word q.now) (ok tt) }
@@ -282,10 +317,22 @@ fn check_limits(q: &[u8]) -> Result<(), Refusal>
     Ok(())
 }
 
-// Questions 13 to 18 of the feed x and the K values k.
-// Kept: four parameters and no struct: `inputs_finite` alone reads them all.
+// Questions 13 to 18 of the feed x and the K values k, in one reading of each.
+// Kept: four parameters and no struct, here and below: `inputs_finite` alone reads them all.
+#[inline(always)]
+fn inputs_pass(q: &[u8], n: usize, x: &[f64; 8], k: &[f64; 8]) -> bool
+    ensures { result ≡ ((temperature_right (word q.now) && pressure_right (word q.now)) && (((all_finite (at x.now) (places n) && none_negative (at x.now) (places n)) && sums_to_one (at x.now) (places n)) && if_needed (needs_ratios (word q.now 1)) (all_finite (at k.now) (places n) && all_positive (at k.now) (places n)))) }
+{
+    (temperature_right(q) && pressure_right(q))
+        && (thermo_types::are_fractions(x, n)
+            && (!needs_ratios(word(q, 1)) || thermo_types::are_ratios(k, n)))
+}
+
+// Questions 13 to 18 one after the other, where one of them is answered no.
+#[cold]
+#[inline(never)]
 #[tactic(auto, unfolding(crate::specs::Asked::inputs_right, floats::specs::Outcome::need))]
-fn check_inputs(q: &[u8], n: usize, x: &[f64; 8], k: &[f64; 8]) -> Result<(), Refusal>
+fn first_wrong(q: &[u8], n: usize, x: &[f64; 8], k: &[f64; 8]) -> Result<(), Refusal>
     ensures { outcome_of result ≡ inputs_right (word q.now) (places n) x.now k.now (ok tt) }
 {
     if !temperature_right(q) {
@@ -309,6 +356,18 @@ fn check_inputs(q: &[u8], n: usize, x: &[f64; 8], k: &[f64; 8]) -> Result<(), Re
     Ok(())
 }
 
+// Questions 13 to 18.
+#[inline(always)]
+#[tactic(auto)]
+fn check_inputs(q: &[u8], n: usize, x: &[f64; 8], k: &[f64; 8]) -> Result<(), Refusal>
+    ensures { outcome_of result ≡ inputs_right (word q.now) (places n) x.now k.now (ok tt) }
+{
+    if inputs_pass(q, n, x, k) {
+        return Ok(());
+    }
+    first_wrong(q, n, x, k)
+}
+
 // Questions 11 and 12: the task.
 #[tactic(auto, unfolding(crate::specs::Asked::task_in, floats::specs::Outcome::need))]
 pub fn read_task(rule: Rule, q: &[u8]) -> Result<Task, Refusal>
@@ -327,18 +386,34 @@ pub fn read_feed(q: &[u8], n: usize) -> [f64; 8]
     floats_from(q, 4, n)
 }
 
+// Questions 13 to 21, put to the feed x with the K values k: what the solvers read, or the first that is answered no.
+#[inline(always)]
+fn rest_with(
+    q: &[u8],
+    book: &[u8],
+    n: usize,
+    x: &[f64; 8],
+    k: &[f64; 8],
+) -> Result<Question, Refusal>
+    requires { k.now ≡ ratios_of q.now (places n) }
+    ensures { outcome_of result ≡ rest_of q.now (molar_mass (words book.now)) (places n) x.now }
+{
+    check_inputs(q, n, x, k)?;
+    let z = moles(q, book, n, x)?;
+    check_limits(q)?;
+    Ok(question_from(q, &z, k))
+}
+
 // Questions 13 to 21, put to the feed x: what the solvers read, or the first that is answered no.
 pub fn read_rest(q: &[u8], book: &[u8], n: usize, x: &[f64; 8]) -> Result<Question, Refusal>
     ensures { outcome_of result ≡ rest_of q.now (molar_mass (words book.now)) (places n) x.now }
 {
-    let k = floats_from(q, 19, n);
-    check_inputs(q, n, x, &k)?;
-    let z = moles(q, book, n, x)?;
-    check_limits(q)?;
-    Ok(question_from(q, &z, &k))
+    rest_with(q, book, n, x, &floats_from(q, 19, n))
 }
 
 // The question for a book of that version and n solvents, or the first of questions 11 to 21 and 36 that is answered no.
+// By way of the whole block, whose words are read with no test. Inlined, so that the question is made where it is used.
+#[inline(always)]
 #[tactic(auto, unfolding(crate::specs::Asked::question_of, floats::specs::Outcome::bind, floats::specs::Outcome::need))]
 pub fn read_question(
     rule: Rule,
@@ -349,9 +424,14 @@ pub fn read_question(
 ) -> Result<Question, Refusal>
     ensures { outcome_of result ≡ question_of rule q.now version (molar_mass (words book.now)) (places n) }
 {
+    let Ok(whole) = <&[u8; 512]>::try_from(q) else {
+        return Err(Refusal::QuestionBlock);
+    };
     read_task(rule, q)?;
     if !kind_right(version, q) {
         return Err(Refusal::FeedKind);
     }
-    read_rest(q, book, n, &read_feed(q, n))
+    let x = floats_in(whole, 4, n);
+    let k = floats_in(whole, 19, n);
+    rest_with(q, book, n, &x, &k)
 }

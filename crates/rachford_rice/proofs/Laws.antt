@@ -1,7 +1,7 @@
 -- The sums over the feed, the tests of `validate` in a row, and the turns of the iteration. Assumes nothing.
 use Prim.Native.Nat.{ℕ, suc, ◌+◌, ◌-◌, ◌<◌, ◌≤◌}
 use mathlib.Core.Path.{◌≡◌, refl, sym, ◌∙◌, ap}
-use mathlib.Core.Bool.{Bool, true, false, cond}
+use mathlib.Core.Bool.{Bool, true, false, cond, ◌&&◌, true≢false}
 use mathlib.Core.List.{List}
 use native.Mathlib.Numerals.{add-one}
 use native.Mathlib.Omega.{arith}
@@ -16,7 +16,7 @@ use Rattle.floats.specs.Outcome.{Out, ok, no, bind, need, choose}
 use Rattle.floats.proofs.Folds.{fold_map}
 use Rattle.floats.proofs.Fills.{vec-at}
 use Rattle.floats.proofs.Outcomes.{need_then}
-use Rattle.thermo_types.specs.Composition.{shares_of}
+use Rattle.thermo_types.specs.Composition.{all_finite, none_negative, all_positive, sums_to_one, shares_of}
 use Rattle.thermo_types.proofs.Normalizing.{shares_cong}
 use Rattle.rachford_rice.specs.declared.Bracket.{Bracket}
 use Rattle.rachford_rice.specs.declared.RachfordRice.{RachfordRice}
@@ -66,6 +66,21 @@ module _ (z k : ℕ → Float) (n : ℕ) (h : n ≤ 8) (β : Float) {x y : List 
 pub validate_then : {A : Type 0} (z k : ℕ → Float) (n : ℕ) (o : Out A) → bind (validate z k n (ok (tt {0}))) (λ _. o) ≡ validate z k n o
 unfolding validate bind
 validate_then z k n o = rw (need_then, need_then, need_then, need_then)
+
+-- the same tests in another order
+all_passed : {A : Type 0} (f m s g h : Bool) (o : Out A) → (((f && m) && s) && (g && h)) ≡ true → need (f && g) 15 (need m 16 (need h 17 (need s 18 o))) ≡ o
+unfolding need
+all_passed true true true true true o e = refl
+all_passed true true true true false o e = absurd (true≢false (sym e))
+all_passed true true true false h o e = absurd (true≢false (sym e))
+all_passed true true false g h o e = absurd (true≢false (sym e))
+all_passed true false s g h o e = absurd (true≢false (sym e))
+all_passed false m s g h o e = absurd (true≢false (sym e))
+
+pub valid : {A : Type 0} (z k : ℕ → Float) (n : ℕ) (o : Out A) {a b : Bool} → a ≡ ((all_finite z n && none_negative z n) && sums_to_one z n)
+    → b ≡ (all_finite k n && all_positive k n) → (a && b) ≡ true → validate z k n o ≡ o
+unfolding validate
+valid z k n o p q e = all_passed (all_finite z n) (none_negative z n) (sums_to_one z n) (all_finite k n) (all_positive k n) o (rw (p, q) at e)
 
 -- ---- the iteration, after `done` of `limit` turns: what is left to run from here is the whole run W
 module _ (z k : ℕ → Float) (n limit done : ℕ) (lo hi β : Float) {W : Out Solution} (run : iterate z k n (limit - done) done lo hi β ≡ W) where

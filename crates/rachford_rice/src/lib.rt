@@ -56,9 +56,11 @@ struct Bracket {
 
 // ---- validate
 
-// z and K are finite, z not negative, K positive, and z sums to 1.
+// The tests one after the other, where one of them is answered no.
+#[cold]
+#[inline(never)]
 #[tactic(auto, unfolding(crate::specs::Rachford::validate, floats::specs::Outcome::need))]
-fn validate(z: &[f64; 8], k: &[f64; 8], n: usize) -> Result<(), Refusal>
+fn first_wrong(z: &[f64; 8], k: &[f64; 8], n: usize) -> Result<(), Refusal>
     ensures { outcome_of result ≡ validate (at z.now) (at k.now) (places n) (ok tt) }
 {
     if !(thermo_types::all_finite(z, n) & thermo_types::all_finite(k, n)) {
@@ -74,6 +76,17 @@ fn validate(z: &[f64; 8], k: &[f64; 8], n: usize) -> Result<(), Refusal>
         return Err(Refusal::FractionSum);
     }
     Ok(())
+}
+
+// z and K are finite, z not negative, K positive, and z sums to 1: in one reading of each.
+#[inline(always)]
+fn validate(z: &[f64; 8], k: &[f64; 8], n: usize) -> Result<(), Refusal>
+    ensures { outcome_of result ≡ validate (at z.now) (at k.now) (places n) (ok tt) }
+{
+    if thermo_types::are_fractions(z, n) && thermo_types::are_ratios(k, n) {
+        return Ok(());
+    }
+    first_wrong(z, k, n)
 }
 
 // ---- answers

@@ -4,3 +4,4 @@ pub mod Rows
 pub mod Loads
 pub mod Entries
 pub mod Unread
+pub mod Sources

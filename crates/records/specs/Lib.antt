@@ -2,3 +2,4 @@
 pub mod Records
 pub mod Parameters
 pub mod Offered
+pub mod Sources

@@ -1,20 +1,23 @@
 // The records that the models read from a book. Every reader is total: past the book's end a word is 0.
 #![tactic(auto)]
 
-ghost use Rattle.std.specs.Prelude.{◌≡◌, ◌≤◌, ◌<◌, ◌+◌, ◌*◌, set};
+ghost use Rattle.std.specs.Prelude.{◌≡◌, ◌≤◌, ◌<◌, ◌+◌, ◌*◌, set, List, [], get_or, length, leb, false, MatchOption};
 ghost use Rattle.blocks.specs.Words.{word, block};
 ghost use Rattle.floats.specs.Arithmetic.{0f};
 ghost use Rattle.floats.specs.Vector.{vec, places, fill_from};
-ghost use Rattle.book.specs.Places.{words, row_from, pair_place};
+ghost use Rattle.book.specs.Places.{words, block_count, row_from, pair_place};
 ghost use Rattle.floats.specs.Small.{float};
+ghost use Rattle.book.specs.declared.Model.TheVariants.{Nrtl, Wilson};
 ghost use Rattle.book.specs.Book.{model_of};
 ghost use Rattle.records.specs.Records.{ancillary_of, range_of, regression_of, pair_of};
 ghost use Rattle.records.specs.Offered.{offered_place, pair_at, with_pair};
 ghost use Rattle.records.specs.Parameters.{terms_of, term_in, wilson_term, pair_term, lower_from, offered_parameter, parameter_both, parameter_border, parameter_rows, parameters_of};
+ghost use Rattle.records.specs.Sources.{six_in, six_by, Reads};
 
 use blocks::word;
 use book::{Model, float_at};
 use floats::Count;
+use jet::Source;
 
 // A correlation of document 003: t_r, low and high in K, the reducing value in Pa; the first `count` of n and t are
 // its terms.
@@ -370,4 +373,81 @@ pub fn parameters(book: &[u8], offered: &[u8], n: usize, plane: &mut [f64; 384])
         m,
     };
     pairs.fill(plane);
+}
+
+// ---- a book's own pairs, read where they stand
+
+// The blocks of a book that has whole ones for all pairs of its first solvents.
+#[derive(Clone, Copy)]
+pub struct WholePairs<'a> {
+    blocks: &'a [[u8; 512]],
+    m: Count,
+    ghost enough: { block_count m.n ≤ length blocks.now },
+}
+
+impl<'a> WholePairs<'a> {
+    // Of a book of n solvents.
+    pub fn of(book: &'a [u8], n: usize) -> Option<WholePairs<'a>>
+        ensures { MatchOption result (leb (512 * block_count (places n)) (length book.now) ≡ false) (λ s. Reads s.blocks.now s.m.n book.now (places n)) }
+    {
+        let (blocks, _) = book.as_chunks::<512>();
+        let m = Count::of(n);
+        if blocks.len() < 1 + m.n + m.n * m.n.saturating_sub(1) / 2 {
+            return None;
+        }
+        Some(WholePairs { blocks, m })
+    }
+
+    // That of the pair (i, j).
+    fn block(self, i: usize, j: usize) -> &'a [u8; 512]
+        requires { (i < j) × (j < self.m.n) }
+        ensures { result.now ≡ get_or self.entry.blocks.now (pair_place self.entry.m.n i j) [] }
+    {
+        let n = self.m.n;
+        &self.blocks[1 + n + (i * (2 * n - i) - i) / 2 + (j - i - 1)]
+    }
+}
+
+#[tactic(auto, unfolding(crate::specs::Sources::six_in))]
+fn six(t: Terms) -> [f64; 6]
+    ensures { result ≡ six_in t }
+{
+    [t.t0, t.t1, t.t2, t.t3, t.a0, t.a1]
+}
+
+// By NRTL, whatever the book says, and by Wilson: two types, so that no pair asks which.
+#[derive(Clone, Copy)]
+pub struct NrtlPairs<'a>(pub WholePairs<'a>);
+
+#[derive(Clone, Copy)]
+pub struct WilsonPairs<'a>(pub WholePairs<'a>);
+
+impl Source for NrtlPairs<'_> {
+    ghost size = { λ s. s.0.m.n };
+
+    ghost six = { λ s. six_by Nrtl s.0.blocks.now s.0.m.n };
+
+    fn count(&self) -> Count {
+        self.0.m
+    }
+
+    fn both(&self, i: usize, j: usize) -> ([f64; 6], [f64; 6]) {
+        let (upper, lower) = both_terms(Model::Nrtl, self.0.block(i, j));
+        (six(upper), six(lower))
+    }
+}
+
+impl Source for WilsonPairs<'_> {
+    ghost size = { λ s. s.0.m.n };
+
+    ghost six = { λ s. six_by Wilson s.0.blocks.now s.0.m.n };
+
+    fn count(&self) -> Count {
+        self.0.m
+    }
+
+    fn both(&self, i: usize, j: usize) -> ([f64; 6], [f64; 6]) {
+        let (upper, lower) = both_terms(Model::Wilson, self.0.block(i, j));
+        (six(upper), six(lower))
+    }
 }

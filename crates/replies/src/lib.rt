@@ -68,6 +68,7 @@ fn status_number(status: ValidityStatus) -> u64
     status as u64
 }
 
+#[inline(always)]
 #[tactic(auto, unfolding(crate::specs::Blocks::state_words))]
 fn state_words(s: State) -> [u64; 10]
     ensures { result ≡ state_words s }
@@ -86,6 +87,7 @@ fn state_words(s: State) -> [u64; 10]
     ]
 }
 
+#[inline(always)]
 #[tactic(auto, unfolding(crate::specs::Blocks::model_words))]
 fn model_words(m: ModelState) -> [u64; 8]
     ensures { result ≡ model_words m }
@@ -102,6 +104,7 @@ fn model_words(m: ModelState) -> [u64; 8]
     ]
 }
 
+#[inline(always)]
 fn put_words(ws: &mut [u64; 64], from: usize, words: &[u64])
     requires { from + length words.now ≤ 64 }
     ensures { ws.new ≡ put ws.old from words.now }
@@ -111,6 +114,7 @@ fn put_words(ws: &mut [u64; 64], from: usize, words: &[u64])
 
 // Kept: a loop: `put_words` of `from_fn(|i| bits_of(x[i]))` takes 4.5 ns for 5.8, but the proof didn't close: the law of what
 // `from_fn` made (`filled`) wants the closure's value past the eight too, which no index reaches.
+#[inline(always)]
 #[tactic(auto, unfolding(floats::specs::Vector::fill_from))]
 fn put_floats(ws: &mut [u64; 64], from: usize, x: &[f64; 8])
     requires { from + 8 ≤ 64 }
@@ -121,6 +125,7 @@ fn put_floats(ws: &mut [u64; 64], from: usize, x: &[f64; 8])
     }
 }
 
+#[inline(always)]
 #[tactic(auto, unfolding(crate::specs::Blocks::state_words, crate::specs::Blocks::model_words, crate::specs::Blocks::answer_words, floats::specs::Vector::fill_from))]
 pub fn answer_words(task: u64, b: AnswerBlock) -> [u64; 64]
     ensures { result ≡ answer_words task b }
@@ -207,6 +212,7 @@ pub fn write_refusal(rule: Rule, question: &[u8], number: u64, out: &mut [u8])
 // ---- the answer block of each task
 
 // Of a task that has none of the model's words but, in 6 and 7, whether the liquid is stable.
+#[inline(always)]
 fn plain_block(
     outcome: u64,
     state: State,
@@ -318,6 +324,7 @@ pub fn flash_block(t: f64, p: f64, f: ActivityTpFlash) -> AnswerBlock
 }
 
 // Tasks 8 and 9.
+#[inline(always)]
 #[tactic(auto, unfolding(crate::specs::Answers::rice_block))]
 pub fn rice_block(outcome: RachfordRiceOutcome, liquid: [f64; 8], vapor: [f64; 8]) -> AnswerBlock
     ensures { result ≡ rice_block outcome liquid vapor }

@@ -65,7 +65,8 @@ pub struct ActivitySaturation {
 pub fn gap(lg: f64, ps: f64, ln_p: f64, x: f64, y: f64) -> f64
     ensures { result ≡ abs_of (ln_of y ⊕ ln_p ⊖ ln_of x ⊖ lg ⊖ ln_of ps) }
 {
-    floats::abs(numerics::ln(y) + ln_p - numerics::ln(x) - lg - numerics::ln(ps))
+    let (ln_y, ln_x) = numerics::ln_two(y, x);
+    floats::abs(ln_y + ln_p - ln_x - lg - numerics::ln(ps))
 }
 
 // What modified Raoult has of a liquid: ln γ and the vapor pressures of its solvents.

@@ -5,3 +5,4 @@ pub mod Stands
 pub mod Pairs
 pub mod Unread
 pub mod Offered
+mod Whole

@@ -10,6 +10,8 @@ ghost use Rattle.floats.specs.Fold.{all_to};
 ghost use Rattle.floats.specs.Vector.{at, vec, places};
 ghost use Rattle.numerics.specs.Numerics.{exp_of};
 ghost use Rattle.records.specs.Offered.{offered_place, with_pair};
+ghost use Rattle.records.specs.Parameters.{parameters_of};
+ghost use Rattle.records.specs.Sources.{Reads};
 ghost use Rattle.liquid.specs.Vapor.{vapor_of};
 ghost use Rattle.excess.specs.Answers.{Gives};
 ghost use Rattle.outcome.specs.Refused.{outcome_of};
@@ -22,7 +24,7 @@ use book::Model;
 use excess::Energies;
 use floats::Count;
 use outcome::Refusal;
-use records::Interval;
+use records::{Interval, NrtlPairs, WholePairs, WilsonPairs};
 use thermo_types::{HIGHEST_KELVIN, LOWEST_KELVIN, Temperature};
 
 // ---- the domain of temperatures and pressures
@@ -196,6 +198,67 @@ pub fn tables(
         n: floats::places(n),
         t,
     }
+}
+
+// The same, read from the pairs' blocks where they stand.
+fn whole_tables(
+    book: &[u8],
+    pairs: WholePairs,
+    n: usize,
+    t: Temperature,
+    table: &mut [f64; 512],
+) -> Tabled
+    requires { Reads pairs.blocks.now pairs.m.n book.now (places n) }
+    ensures { Stands book.now (parameters_of book.now (places n)) (places n) t result table.old table.new }
+{
+    let model = book::model_of(book);
+    let alphas = match model {
+        Model::Nrtl => nrtl_tables::tables_from::<NrtlPairs>(&NrtlPairs(pairs), t, table),
+        Model::Wilson => {
+            wilson_tables::tables_from::<WilsonPairs>(&WilsonPairs(pairs), t, table);
+            Ok(())
+        }
+    };
+    Tabled {
+        model,
+        alphas,
+        n: floats::places(n),
+        t,
+    }
+}
+
+// Kept: a function of its own: in `book_tables` the plane would be cleared at each call, 30 ns, also where it isn't used.
+fn plane_tables(
+    book: &[u8],
+    offered: &[u8],
+    n: usize,
+    t: Temperature,
+    table: &mut [f64; 512],
+) -> Tabled
+    ensures { Stands book.now (parameters_of (with_pair (places n) book.now offered.now) (places n)) (places n) t result table.old table.new }
+{
+    let mut parameters = [0.0; 384];
+    records::parameters(book, offered, n, &mut parameters);
+    tables(book, &parameters, n, t, table)
+}
+
+// The tables of a book of n solvents at t, a pair offered in the place of its own: as by `records::parameters` and `tables`, and
+// with nothing offered without that plane between.
+pub fn book_tables(
+    book: &[u8],
+    offered: &[u8],
+    n: usize,
+    t: Temperature,
+    table: &mut [f64; 512],
+) -> Tabled
+    ensures { Stands book.now (parameters_of (with_pair (places n) book.now offered.now) (places n)) (places n) t result table.old table.new }
+{
+    if offered.is_empty() {
+        if let Some(pairs) = WholePairs::of(book, n) {
+            return whole_tables(book, pairs, n, t, table);
+        }
+    }
+    plane_tables(book, offered, n, t, table)
 }
 
 // ln γ, slopes and energies of x, from a table and what it stands for.

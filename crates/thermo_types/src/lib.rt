@@ -1,14 +1,14 @@
 // Typed quantities and mole fractions (thermo-types). Each function equals its definition in specs/.
 #![tactic(auto)]
 
-ghost use Rattle.std.specs.Prelude.{◌≡◌};
+ghost use Rattle.std.specs.Prelude.{◌≡◌, ◌&&◌};
 ghost use Rattle.floats.specs.Arithmetic.{◌⊘◌};
 ghost use Rattle.floats.specs.Fold.{sum_to};
 ghost use Rattle.floats.specs.Vector.{at, vec, places};
 ghost use Rattle.floats.specs.Outcome.{ok};
 ghost use Rattle.outcome.specs.Refused.{number, outcome_of};
 ghost use Rattle.thermo_types.specs.Quantities.{positive_of, temperature_of, pressure_of};
-ghost use Rattle.thermo_types.specs.Composition.{all_finite, none_negative, all_positive, sums_to_one, with_fractions, shares_of, normalize_of};
+ghost use Rattle.thermo_types.specs.Composition.{sum_tolerance, all_finite, none_negative, all_positive, sums_to_one, with_fractions, shares_of, normalize_of};
 
 use outcome::Refusal;
 
@@ -121,9 +121,35 @@ pub fn sums_to_one(x: &[f64; 8], n: usize) -> bool
     !(floats::abs(sum(x, n) - 1.0) > SUM_TOLERANCE)
 }
 
-// The first n mole fractions are finite, not negative and sum to 1 within 1e-10.
+// Mole fractions that pass all three tests, in one reading: where one fails, which is first takes readings of their own.
+#[inline(always)]
+pub fn are_fractions(x: &[f64; 8], n: usize) -> bool
+    ensures { result ≡ ((all_finite (at x.now) (places n) && none_negative (at x.now) (places n)) && sums_to_one (at x.now) (places n)) }
+{
+    let entries = 0..floats::places(n);
+    let (sum, right) = entries.fold((0.0, true), |s, i| {
+        let v = x[i];
+        (s.0 + v, s.1 & (floats::is_finite(v) & !(v < 0.0)))
+    });
+    right & !(floats::abs(sum - 1.0) > SUM_TOLERANCE)
+}
+
+// K values that pass both tests, in one reading.
+#[inline(always)]
+pub fn are_ratios(k: &[f64; 8], n: usize) -> bool
+    ensures { result ≡ (all_finite (at k.now) (places n) && all_positive (at k.now) (places n)) }
+{
+    let entries = 0..floats::places(n);
+    entries.fold(true, |right, i| {
+        right & (floats::is_finite(k[i]) & (0.0 < k[i]))
+    })
+}
+
+// The three questions in turn.
+#[cold]
+#[inline(never)]
 #[tactic(auto, unfolding(crate::specs::Composition::with_fractions, floats::specs::Outcome::need))]
-pub fn with_fractions(x: &[f64; 8], n: usize) -> Result<(), Refusal>
+fn asked_in_turn(x: &[f64; 8], n: usize) -> Result<(), Refusal>
     ensures { outcome_of result ≡ with_fractions (at x.now) (places n) (ok tt) }
 {
     if !all_finite(x, n) {
@@ -136,6 +162,17 @@ pub fn with_fractions(x: &[f64; 8], n: usize) -> Result<(), Refusal>
         return Err(Refusal::FractionSum);
     }
     Ok(())
+}
+
+// The first n mole fractions are finite, not negative and sum to 1 within 1e-10: asked in one reading, and in turn only where that
+// fails.
+pub fn with_fractions(x: &[f64; 8], n: usize) -> Result<(), Refusal>
+    ensures { outcome_of result ≡ with_fractions (at x.now) (places n) (ok tt) }
+{
+    if are_fractions(x, n) {
+        return Ok(());
+    }
+    asked_in_turn(x, n)
 }
 
 // Each of the first n entries over s; 0.0 past them.

@@ -6,22 +6,44 @@ use mathlib.Core.List.{List}
 use native.Mathlib.Numerals.{add-one}
 use native.Mathlib.Omega.{arith}
 use lib.Ieee.{Float, nan, lt, le}
-use Rattle.floats.specs.Arithmetic.{0f}
-use Rattle.floats.specs.Vector.{at, vec, zeros8}
+use Rattle.floats.specs.Arithmetic.{◌⊕◌, ◌⊖◌, 0f, 1f}
+use Rattle.floats.specs.Small.{max_of, abs_of}
+use Rattle.floats.specs.Fold.{fold_to, active}
+use Rattle.floats.specs.Vector.{at, vec, zeros8, places}
 use Rattle.floats.specs.Outcome.{Out, ok, no, bind, choose}
-use Rattle.floats.proofs.Fills.{fill-at}
+use Rattle.floats.proofs.Folds.{fold_cong}
+use Rattle.floats.proofs.Fills.{fill-at, vec-at, fill_cong}
+use Rattle.numerics.specs.Numerics.{exp_of, ln_of}
 use Rattle.thermo_types.specs.Composition.{normalize_of}
 use Rattle.thermo_types.proofs.Normalizing.{normalize_cong}
 use Rattle.thermo_models.specs.Model.{Activity}
 use Rattle.rachford_rice.specs.Rachford.{Solution, negative, two_phase}
 use Rattle.rachford_rice.specs.declared.RachfordRice.{RachfordRice}
-use Rattle.tp_flash.specs.Split.{Split, Turn, k_values, phase_of, rice_limit, fraction_in, turn_at, split_turn, split_from}
+use Rattle.tp_flash.specs.Split.{Split, Turn, k_values, phase_of, split_gap, rice_limit, fraction_in, turn_at, split_turn, split_from}
 
 -- ---- a phase of the split
 pub phase_is : (z l : List Float) (n : ℕ) {w : List Float} {o : Out (List Float)} → n ≤ 8 → w ≡ vec (λ i. cond (lt 0f (at z i)) (at l i) 0f) n → o ≡ normalize_of (at w) n
     → o ≡ phase_of z l n
 unfolding phase_of
 phase_is z l n h e q = q ∙ normalize_cong n (λ k b. ap (λ (m : List Float). at m k) e ∙ fill-at _ n zeros8 nan k h b)
+
+-- ---- K and the gap from logarithms that were worked out before the first turn
+module _ (z ps : List Float) (n : ℕ) (h : n ≤ 8) (p : Float) {lnps : List Float} {lnp : Float} (of_ps : lnps ≡ vec (λ i. ln_of (at ps i)) n) (of_p : lnp ≡ ln_of p) where
+  ln-at : (k : ℕ) → k < n → at lnps k ≡ ln_of (at ps k)
+  ln-at k l = rw of_ps (vec-at _ n k h l)
+
+  pub k-values-is : (lg e : List Float) {lnk w : List Float} → lnk ≡ vec (λ i. at lg i ⊕ at lnps i ⊖ lnp) n → ((k : ℕ) → k < places n → at e k ≡ exp_of (at lnk k))
+      → w ≡ vec (λ i. cond (lt 0f (at z i)) (at e i) 1f) n → w ≡ k_values z ps p lg n
+  unfolding k_values
+  k-values-is lg e {lnk} of_k exps q =
+      let of : (k : ℕ) → k < n → at lnk k ≡ at lg k ⊕ at lnps k ⊖ lnp = λ k l. rw of_k (vec-at _ n k h l) in
+      let one : (k : ℕ) → k < n → at e k ≡ exp_of (at lg k ⊕ ln_of (at ps k) ⊖ ln_of p) = λ k l. rw (exps k (omega arith), of k l, ln-at k l, of_p) in
+      q ∙ fill_cong _ _ n zeros8 (λ k l. rw (one k l))
+
+  pub split-gap-is : (lg x y : List Float) {r : Float} → r ≡ fold_to (active (at z) (λ i s. max_of s (abs_of (ln_of (at y i) ⊕ lnp ⊖ ln_of (at x i) ⊖ at lg i ⊖ at lnps i)))) 0f n
+      → r ≡ split_gap z lg ps p x y n
+  unfolding split_gap
+  split-gap-is lg x y q = q ∙ fold_cong 0f n (λ k a l. rw (ln-at k l, of_p))
 
 module _ (E : List Float → Out Activity) (ps : List Float) (n : ℕ) (p : Float) (z : List Float) where
   -- ---- a turn of the split, from the code's solution of Rachford-Rice

@@ -3,9 +3,10 @@
 #![tactic(auto)]
 
 ghost use Rattle.std.specs.Prelude.{◌≡◌};
-ghost use Rattle.floats.specs.Vector.{places};
+ghost use Rattle.floats.specs.Vector.{at, vec, places};
 ghost use Rattle.floats.specs.Outcome.{ok};
 ghost use Rattle.outcome.specs.Refused.{outcome_of};
+ghost use Rattle.numerics.specs.Numerics.{ln_of};
 ghost use Rattle.thermo_models.specs.Activity.{activity_on};
 ghost use Rattle.tp_flash.specs.Split.{k_values, phase_of, split_gap, balance_of, fraction_in, turn_at, split_turn, split_from};
 ghost use Rattle.tp_flash.specs.Tp.{inside, near_edge, stable_liquid, dew_of, single_phase, as_vapor, as_liquid, as_both, boundary_of, from_split, between_of, phases_of};
@@ -138,58 +139,53 @@ struct Feed<'a> {
     ps: &'a [f64; 8],
 }
 
-impl<'a> Feed<'a> {
-    // ---- the split at T and p
+// The split of a feed at T and p, with what no turn changes: ln of its vapor pressures, and ln p.
+#[derive(Clone, Copy)]
+struct Splitting<'a> {
+    feed: Feed<'a>,
+    ln_ps: &'a [f64; 8],
+    ln_p: f64,
+    ghost of_pressures: { ln_ps.now ≡ vec (λ i. ln_of (at feed.ps.now i)) (places feed.at.n) },
+    ghost of_p: { ln_p ≡ ln_of feed.p.0 },
+}
 
-    // Kept: `places(self.at.n)`, four times: a Count beside `at` would want a ghost field that it is `places at.n`.
+impl<'a> Splitting<'a> {
     // K_i = γ_i p_i^sat / p where the feed is positive, else 1.0, which no sum of Rachford-Rice reads.
     fn k_values(self, lg: &[f64; 8]) -> [f64; 8]
-        ensures { let f = self.entry in result ≡ k_values f.z.now f.ps.now f.p.0 lg.now (places f.at.n) }
+        ensures { let f = self.entry.feed in result ≡ k_values f.z.now f.ps.now f.p.0 lg.now (places f.at.n) }
     {
-        let n = floats::places(self.at.n);
-        let ln_p = numerics::ln(self.p.value());
-        std::array::from_fn(|i| {
-            if i >= n {
-                0.0
-            } else if self.z[i] > 0.0 {
-                numerics::exp(lg[i] + numerics::ln(self.ps[i]) - ln_p)
+        let n = floats::places(self.feed.at.n);
+        let ln_k = std::array::from_fn(|i| {
+            if i < n {
+                lg[i] + self.ln_ps[i] - self.ln_p
             } else {
-                1.0
+                0.0
+            }
+        });
+        let k = numerics::exps(&ln_k, n);
+        std::array::from_fn(|i| {
+            if i < n {
+                select_unpredictable(self.feed.z[i] > 0.0, k[i], 1.0)
+            } else {
+                0.0
             }
         })
     }
 
-    // The entries of a phase where the feed is positive, over their sum (34).
-    fn phase_of(self, l: &[f64; 8]) -> Result<[f64; 8], Refusal>
-        ensures { outcome_of result ≡ phase_of self.entry.z.now l.now (places self.entry.at.n) }
-    {
-        let n = floats::places(self.at.n);
-        let w = std::array::from_fn(|i| select_unpredictable(i < n && self.z[i] > 0.0, l[i], 0.0));
-        thermo_types::normalize(&w, self.at.n)
-    }
-
     // max_i |ln(y_i p) - ln(x_i γ_i p_i^sat)| where the feed is positive.
-    // Kept: saturation's largest_gap counts other solvents: one public function for both would take which ones by a closure, and
-    // require F.pre, or by an array filled for it.
     fn split_gap(self, lg: &[f64; 8], x: &[f64; 8], y: &[f64; 8]) -> f64
-        ensures { let f = self.entry in result ≡ split_gap f.z.now lg.now f.ps.now f.p.0 x.now y.now (places f.at.n) }
+        ensures { let f = self.entry.feed in result ≡ split_gap f.z.now lg.now f.ps.now f.p.0 x.now y.now (places f.at.n) }
     {
-        let ln_p = numerics::ln(self.p.value());
-        let gaps = (0..floats::places(self.at.n))
-            .filter(|&i| self.z[i] > 0.0)
-            .map(|i| saturation::gap(lg[i], self.ps[i], ln_p, x[i], y[i]));
-        gaps.fold(0.0, floats::max)
-    }
-
-    // max_i |β y_i + (1 - β) x_i - z_i|.
-    fn balance(self, beta: f64, x: &[f64; 8], y: &[f64; 8]) -> f64
-        ensures { result ≡ balance_of beta x.now y.now self.entry.z.now (places self.entry.at.n) }
-    {
-        (0..floats::places(self.at.n)).fold(0.0, |r, i| {
-            floats::max(
-                r,
-                floats::abs(beta * y[i] + (1.0 - beta) * x[i] - self.z[i]),
-            )
+        (0..floats::places(self.feed.at.n)).fold(0.0, |r, i| {
+            if self.feed.z[i] > 0.0 {
+                let (ln_y, ln_x) = numerics::ln_two(y[i], x[i]);
+                floats::max(
+                    r,
+                    floats::abs(ln_y + self.ln_p - ln_x - lg[i] - self.ln_ps[i]),
+                )
+            } else {
+                r
+            }
         })
     }
 
@@ -202,9 +198,9 @@ impl<'a> Feed<'a> {
         y: [f64; 8],
         iteration: u64,
     ) -> Result<SplitTurn, Refusal>
-        ensures { let f = self.entry in outcome_of result ≡ turn_at (activity_on f.table.now f.at) f.ps.now (places f.at.n) f.p.0 f.z.now beta x y iteration }
+        ensures { let f = self.entry.feed in outcome_of result ≡ turn_at (activity_on f.table.now f.at) f.ps.now (places f.at.n) f.p.0 f.z.now beta x y iteration }
     {
-        let activity = thermo_models::activity(self.table, self.at, &x)?;
+        let activity = thermo_models::activity(self.feed.table, self.feed.at, &x)?;
         let residual = self.split_gap(&activity.ln_gamma, &x, &y);
         if !floats::is_finite(residual) {
             return Err(Refusal::ResultNotFinite);
@@ -223,17 +219,17 @@ impl<'a> Feed<'a> {
 
     // One turn from ln γ.
     fn split_turn(self, lg: &[f64; 8], iteration: u64) -> Result<SplitTurn, Refusal>
-        ensures { let f = self.entry in outcome_of result ≡ split_turn (activity_on f.table.now f.at) f.ps.now (places f.at.n) f.p.0 f.z.now lg.now iteration }
+        ensures { let f = self.entry.feed in outcome_of result ≡ split_turn (activity_on f.table.now f.at) f.ps.now (places f.at.n) f.p.0 f.z.now lg.now iteration }
     {
         let k = self.k_values(lg);
         let rr = rachford_rice::rachford_rice_negative(
-            self.z,
+            self.feed.z,
             &k,
-            self.at.n,
+            self.feed.at.n,
             RACHFORD_RICE_MAX_ITERATIONS,
         )?;
-        let x = self.phase_of(&rr.liquid)?;
-        let y = self.phase_of(&rr.vapor)?;
+        let x = self.feed.phase_of(&rr.liquid)?;
+        let y = self.feed.phase_of(&rr.vapor)?;
         let beta = vapor_fraction(rr.outcome);
         self.turn_at(beta, x, y, iteration)
     }
@@ -241,17 +237,43 @@ impl<'a> Feed<'a> {
     // Successive substitution from ln γ of the feed, `start`; 27 where the turns are used up.
     #[tactic(auto, using(crate::proofs::Laws::loop_out))]
     fn split_from(self, start: &[f64; 8]) -> Result<SplitPoint, Refusal>
-        ensures { let f = self.entry in outcome_of result ≡ split_from (activity_on f.table.now f.at) f.ps.now (places f.at.n) f.p.0 f.z.now f.o.tolerance f.o.max_iterations 0 start.now }
+        ensures { let f = self.entry.feed in outcome_of result ≡ split_from (activity_on f.table.now f.at) f.ps.now (places f.at.n) f.p.0 f.z.now f.o.tolerance f.o.max_iterations 0 start.now }
     {
         let mut lg = *start;
-        for done in 0..self.o.max_iterations {
+        for done in 0..self.feed.o.max_iterations {
             let turn = self.split_turn(&lg, done + 1)?;
-            if turn.split.residual <= self.o.tolerance {
+            if turn.split.residual <= self.feed.o.tolerance {
                 return Ok(turn.split);
             }
             lg = turn.activity.ln_gamma;
         }
         Err(Refusal::NotConverged)
+    }
+}
+
+impl<'a> Feed<'a> {
+    // ---- the phases of a split
+
+    // Kept: `places(self.at.n)`, here and below: a Count beside `at` would want a ghost field that it is `places at.n`.
+    // The entries of a phase where the feed is positive, over their sum (34).
+    fn phase_of(self, l: &[f64; 8]) -> Result<[f64; 8], Refusal>
+        ensures { outcome_of result ≡ phase_of self.entry.z.now l.now (places self.entry.at.n) }
+    {
+        let n = floats::places(self.at.n);
+        let w = std::array::from_fn(|i| select_unpredictable(i < n && self.z[i] > 0.0, l[i], 0.0));
+        thermo_types::normalize(&w, self.at.n)
+    }
+
+    // max_i |β y_i + (1 - β) x_i - z_i|.
+    fn balance(self, beta: f64, x: &[f64; 8], y: &[f64; 8]) -> f64
+        ensures { result ≡ balance_of beta x.now y.now self.entry.z.now (places self.entry.at.n) }
+    {
+        (0..floats::places(self.at.n)).fold(0.0, |r, i| {
+            floats::max(
+                r,
+                floats::abs(beta * y[i] + (1.0 - beta) * x[i] - self.z[i]),
+            )
+        })
     }
 
     // ---- the phases of the feed
@@ -342,6 +364,13 @@ impl<'a> Feed<'a> {
         }
     }
 
+    fn ln_pressures(self) -> [f64; 8]
+        ensures { result ≡ vec (λ i. ln_of (at self.entry.ps.now i)) (places self.entry.at.n) }
+    {
+        let n = floats::places(self.at.n);
+        std::array::from_fn(|i| if i < n { numerics::ln(self.ps[i]) } else { 0.0 })
+    }
+
     // p ≥ bubble is liquid, then p ≤ dew is vapor, else the split from the activity of the feed.
     fn between(
         self,
@@ -358,7 +387,13 @@ impl<'a> Feed<'a> {
         if pressure <= saturated.dew {
             return self.as_vapor(saturated, GAMMA_PHI);
         }
-        let split = self.split_from(&activity.ln_gamma)?;
+        let ln_ps = self.ln_pressures();
+        let splitting = Splitting {
+            feed: self,
+            ln_ps: &ln_ps,
+            ln_p: numerics::ln(pressure),
+        };
+        let split = splitting.split_from(&activity.ln_gamma)?;
         self.from_split(saturated, split)
     }
 

@@ -2,7 +2,7 @@
 // g^E/(RT) = −Σ_i x_i ln S_i, S_i = Σ_j x_j Λ_ij, ln γ_i = 1 − ln S_i − Σ_k x_k Λ_ki / S_k.
 #![tactic(auto)]
 
-ghost use Rattle.std.specs.Prelude.{◌≡◌, ◌≤◌, ◌<◌, ◌+◌, ◌*◌};
+ghost use Rattle.std.specs.Prelude.{◌≡◌, ℕ, ◌≤◌, ◌<◌, ◌+◌, ◌*◌};
 ghost use Rattle.floats.specs.Vector.{at, fill_from, places, zeros8};
 ghost use Rattle.floats.specs.Arithmetic.{1f};
 ghost use Rattle.jet.specs.Jets.{const_j, div_j, scale_j, sub_j};
@@ -52,19 +52,50 @@ struct Liquid<'a> {
 }
 
 impl Liquid<'_> {
-    // S_i.
+    // Λ_ij times x_j.
+    fn part(self, i: usize, j: usize) -> Jet
+        requires { (i < 8) × (j < 8) }
+        ensures { let q = self.entry in result ≡ scale_j (jets q.table.now 0 i j) (at q.x.now j) }
+    {
+        jet_at(self.table, i * 8 + j).scale(self.x[j])
+    }
+
+    // S of W solvents from i on, side by side: their sums don't depend on each other, so the machine's lanes share the loop.
     // Kept: `for`s, here and below, as in nrtl: each turn adds to a sum or to the entries of one array. Sums are flat, four floats of
     // solvent i from i * 4 on, as the definitions read them.
+    #[inline(always)]
     #[tactic(auto, unfolding(crate::specs::Sums::row_s, floats::specs::Fold::fold_to))]
-    fn row_sum(self, i: usize) -> Jet
-        requires { i < 8 }
-        ensures { let q = self.entry in result ≡ row_s (jets q.table.now 0) (at q.x.now) q.m.n i }
+    fn row_sums<const W: usize>(self, i: usize) -> [Jet; W]
+        requires { i + W ≤ 8 }
+        ensures { let q = self.entry in Side (row_s (jets q.table.now 0) (at q.x.now) q.m.n) i W result }
     {
-        let mut s = Jet::constant(0.0);
+        let mut s = [Jet::constant(0.0); W];
         for j in 0..self.m.n {
-            s = s + jet_at(self.table, i * 8 + j).scale(self.x[j]);
+            for w in 0..W {
+                s[w] = s[w] + self.part(i + w, j);
+            }
         }
         s
+    }
+
+    // S of each.
+    // Kept: a pass of its own: with the logarithms in it an activity of six and seven solvents takes a sixth longer.
+    #[inline(always)]
+    fn rows(self) -> [Jet; 8]
+        ensures { let q = self.entry in (k : ℕ) → k < q.m.n → jet_of result k ≡ s_on q.table.now (at q.x.now) q.m.n k }
+    {
+        let n = self.m.n;
+        let mut rows = [Jet::constant(0.0); 8];
+        for h in 0..n / 2 {
+            let [s, r] = self.row_sums::<2>(2 * h);
+            rows[2 * h] = s;
+            rows[2 * h + 1] = r;
+        }
+        if n % 2 == 1 {
+            let [s] = self.row_sums::<1>(n - 1);
+            rows[n - 1] = s;
+        }
+        rows
     }
 
     // S_i and its logarithm l into `sums`; the next partial sum of x_i ln S_i.
@@ -80,21 +111,23 @@ impl Liquid<'_> {
     }
 
     // Two solvents to a step: their logarithms side by side.
+    #[inline(always)]
     #[tactic(auto, unfolding(floats::specs::Fold::fold_to))]
     fn fill_sums(self, sums: &mut [f64; 32]) -> Jet
         ensures { let q = self.entry in SumsTo (s_on q.table.now (at q.x.now) q.m.n) (ln_s_on q.table.now (at q.x.now) q.m.n) (at q.x.now) q.m.n result sums.old sums.new }
     {
         let n = self.m.n;
+        let rows = self.rows();
         let mut total = Jet::constant(0.0);
         for h in 0..n / 2 {
             let (i, j) = (2 * h, 2 * h + 1);
-            let (s, r) = (self.row_sum(i), self.row_sum(j));
+            let (s, r) = (rows[i], rows[j]);
             let (k, l) = numerics::ln_two(s.v, r.v);
             total = self.keep_sum(total, i, s, s.ln_with(k), sums);
             total = self.keep_sum(total, j, r, r.ln_with(l), sums);
         }
         if n % 2 == 1 {
-            let s = self.row_sum(n - 1);
+            let s = rows[n - 1];
             total = self.keep_sum(total, n - 1, s, s.ln(), sums);
         }
         total
@@ -141,7 +174,8 @@ impl Summed<'_> {
         two_at(self.of.table, k * 8 + i).scale(self.of.x[k]) / two_of(self.sums, k * 4)
     }
 
-    // Of W solvents from i on, side by side: their sums don't depend on each other, so the machine's lanes share the loop.
+    // Of W solvents from i on, side by side.
+    #[inline(always)]
     #[tactic(auto, unfolding(crate::specs::Sums::quotients, floats::specs::Fold::fold_to))]
     fn quotients_from<const W: usize>(self, i: usize) -> [Jet; W]
         requires { i + W ≤ 8 }
@@ -164,6 +198,7 @@ impl Summed<'_> {
         Jet::constant(1.0) - two_of(self.sums, i * 4 + 2) - q
     }
 
+    #[inline(always)]
     #[tactic(auto, unfolding(crate::specs::Sums::wilson_from))]
     fn lns_from<const W: usize>(self, i: usize) -> [Jet; W]
         requires { i + W ≤ 8 }
@@ -176,13 +211,18 @@ impl Summed<'_> {
         l
     }
 
+    #[inline(always)]
     #[tactic(auto, unfolding(floats::specs::Vector::fill))]
     fn fill_lns(self, ln_gamma: &mut [f64; 8], slopes: &mut [f64; 8])
         ensures { let q = self.entry in GammasTo (wilson_from (twos q.of.table.now 0) (s_in q.sums.now) (r_in q.sums.now) (at q.of.x.now) q.of.m.n) q.of.m.n ln_gamma.old slopes.old ln_gamma.new slopes.new }
     {
         let n = self.of.m.n;
-        for h in 0..n / 2 {
-            keep_lns(self.lns_from::<2>(2 * h), 2 * h, ln_gamma, slopes);
+        for h in 0..n / 4 {
+            keep_lns(self.lns_from::<4>(4 * h), 4 * h, ln_gamma, slopes);
+        }
+        let i = n / 4 * 4;
+        if n % 4 >= 2 {
+            keep_lns(self.lns_from::<2>(i), i, ln_gamma, slopes);
         }
         if n % 2 == 1 {
             keep_lns(self.lns_from::<1>(n - 1), n - 1, ln_gamma, slopes);
@@ -195,6 +235,7 @@ impl Summed<'_> {
 // ln γ, slopes and energies of the liquid, into arrays that hold 0.0 everywhere.
 // Kept: the arrays are the caller's, as in crate excess, which has the figures: by value an activity of two solvents takes 95 ns
 // for 68.
+#[inline(always)]
 fn state(
     of: Liquid,
     t: Temperature,
@@ -208,6 +249,29 @@ fn state(
     let total = of.fill_sums(&mut sums);
     Summed { of, sums: &sums }.fill_lns(ln_gamma, slopes);
     excess::finite_state(-total, of.m.n, t, ln_gamma, slopes)
+}
+
+// Kept: arms of one text, as in nrtl: by a number of solvents that is known each loop is unrolled.
+fn state_by_count(
+    of: Liquid,
+    t: Temperature,
+    ln_gamma: &mut [f64; 8],
+    slopes: &mut [f64; 8],
+) -> Result<Energies, Refusal>
+    requires { (ln_gamma.now ≡ zeros8) × (slopes.now ≡ zeros8) }
+    ensures { let q = of.entry in Gives (state_from (reduced_on q.table.now (at q.x.now) q.m.n) (ln_gamma_on q.table.now (at q.x.now) q.m.n) q.m.n t.0) result ln_gamma.new slopes.new }
+{
+    match of.m.n {
+        1 => state(of, t, ln_gamma, slopes),
+        2 => state(of, t, ln_gamma, slopes),
+        3 => state(of, t, ln_gamma, slopes),
+        4 => state(of, t, ln_gamma, slopes),
+        5 => state(of, t, ln_gamma, slopes),
+        6 => state(of, t, ln_gamma, slopes),
+        7 => state(of, t, ln_gamma, slopes),
+        8 => state(of, t, ln_gamma, slopes),
+        _ => state(of, t, ln_gamma, slopes),
+    }
 }
 
 // ln γ and slopes (1/K), 0.0 past n, and the energies at t and the mole fractions x, from a table.
@@ -224,5 +288,5 @@ pub fn excess(
     excess::clear(ln_gamma, slopes);
     excess::with_state(t, x, n)?;
     let m = Count::of(n);
-    state(Liquid { table, x, m }, t, ln_gamma, slopes)
+    state_by_count(Liquid { table, x, m }, t, ln_gamma, slopes)
 }

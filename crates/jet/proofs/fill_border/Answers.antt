@@ -1,19 +1,24 @@
+-- `jet::fill_border` meets its contract. Assumes nothing.
 use mathlib.Core.Path.{◌∙◌, ap}
 use Prim.Native.Nat.{◌+◌, ◌*◌}
+use lib.ListN.{get_or}
 use native.Mathlib.Omega.{arith}
-use Rattle.jet.specs.Planes.{cell_of, spread}
-use Rattle.jet.proofs.Planes.{cell-pair, pairs_turn}
+use Rattle.jet.specs.Planes.{spread}
+use Rattle.jet.specs.Lanes.{no_lane}
+use Rattle.jet.proofs.Planes.{pairs_turn}
+use Rattle.jet.proofs.Lanes.{made_first, made_second}
 use Rattle.jet.proofs.fill_border.Goals as goal
 
 pub loop-j-preserved : goal.loop-j-preserved
-loop-j-preserved g c =
+loop-j-preserved g c f h =
     let i = c.args.i in
     let j = c.loop-j.j in
-    let f = g.P.Pairs.cells c.args.pairs.now in
-    let d = g.P.Pairs.own_cells c.args.pairs.now in
-    let P = c.args.parameters.now in
-    pairs_turn (cell_of f d P) g.row.M i j c.args.table.now
-    (c.keep-in-loop-j.ensures ∙ cell-pair f d P c.both-a.result.1 j i g.row.M c.keep.new.table (omega arith) (omega arith) (λ e. omega arith) c.pair-in-loop-j.ensures c.both-a.ensures.second
-    ∙ ap (spread (cell_of f d P j i) (j * 8 + i) g.row.M)
-    (c.keep.ensures ∙ cell-pair f d P c.both-a.result.0 i j g.row.M c.loop-j.table (omega arith) (omega arith) (λ e. omega arith) c.pair.ensures c.both-a.ensures.first))
-    c.loop-j.invariant
+    let m = g.P.Pairs.made_of c.args.pairs.now in
+    let lane = get_or c.args.lanes.now (c.args.q + j) no_lane in
+    let makes = h j (omega arith) in
+    pairs_turn f g.row.M i j c.args.table.now
+    (c.keep-in-loop-j.ensures
+    ∙ made_first m f j i lane makes g.row.M c.keep.new.table c.made-a.result (j * 8 + i) c.first.ensures c.first-u.ensures c.exp_with-in-loop-j.ensures c.made-a.ensures
+    ∙ ap (spread (f j i) (j * 8 + i) g.row.M)
+    (c.keep.ensures ∙ made_second m f j i lane makes g.row.M c.loop-j.table c.made-b.result (i * 8 + j) c.second.ensures c.second-v.ensures c.exp_with.ensures c.made-b.ensures))
+    (c.loop-j.invariant f h)

@@ -18,4 +18,4 @@ pub returns : goal.returns
 unfolding bind
 returns c =
     let a = c.args in
-    gives (asked a.table.now (places a.n) a.t.0 (at a.x.now) _ _ c.with_state.ensures c.and.ensures ∙ rw c.in_ok-and.was) (rw c.of-m.ensures at c.state.ensures)
+    gives (asked a.table.now (places a.n) a.t.0 (at a.x.now) _ _ c.with_state.ensures c.and.ensures ∙ rw c.in_ok-and.was) (rw c.of-m.ensures at c.state_by_count.ensures)

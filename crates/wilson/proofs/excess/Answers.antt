@@ -12,4 +12,4 @@ returns-in_err-with_state c =
 
 pub returns : goal.returns
 unfolding wilson_on
-returns c = asked-ok _ _ _ _ c.in_ok-with_state.ensures (rw c.of-m.ensures at c.state.ensures)
+returns c = asked-ok _ _ _ _ c.in_ok-with_state.ensures (rw c.of-m.ensures at c.state_by_count.ensures)

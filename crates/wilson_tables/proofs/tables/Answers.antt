@@ -1,6 +1,6 @@
 -- `wilson_tables::tables` meets its contract. Assumes nothing.
-use Rattle.wilson_tables.proofs.Cells.{filled}
+use Rattle.jet.proofs.Lanes.{plane_lists}
 use Rattle.wilson_tables.proofs.tables.Goals as goal
 
 pub returns : goal.returns
-returns c = rw (← c.value.ensures) (filled _ _ _ _ c.fill_pairs.ensures)
+returns c = rw c.of.ensures at (c.tables_from.ensures c.args.parameters.now (plane_lists c.args.parameters.now c.of.result.few))

@@ -1,7 +1,5 @@
 -- `sheet::Asked::write_alone` meets its contract. Assumes nothing.
-use native.Mathlib.Omega.{arith}
-use Rattle.sheet.proofs.Laws.{alone_yes}
 use Rattle.sheet.proofs.Asked.write_alone.Goals as goal
 
-pub returns : goal.returns
-returns c = alone_yes _ _ _ (omega arith) c.requires c.answer_words.ensures c.write_block.ensures
+pub returns-in-Plain : goal.returns-in-Plain
+returns-in-Plain c = rw c.in-Plain.is c.write_by.ensures
