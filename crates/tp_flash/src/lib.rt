@@ -254,8 +254,8 @@ impl<'a> Splitting<'a> {
 impl<'a> Feed<'a> {
     // ---- the phases of a split
 
-    // Kept: `places(self.at.n)`, here and below: a Count beside `at` would want a ghost field that it is `places at.n`.
     // The entries of a phase where the feed is positive, over their sum (34).
+    // Kept: `places(self.at.n)`, here and below: a Count beside `at` would want a ghost field that it is `places at.n`.
     fn phase_of(self, l: &[f64; 8]) -> Result<[f64; 8], Refusal>
         ensures { outcome_of result ≡ phase_of self.entry.z.now l.now (places self.entry.at.n) }
     {
