@@ -1,14 +1,14 @@
 -- What stands in the lanes of n solvents' pairs, and that their cells are those of the parameters. Assumes nothing.
 use Prim.Native.Nat.{ℕ, zero, suc, ◌+◌, ◌*◌, ◌%◌, ◌<◌, ◌≤◌}
 use mathlib.Core.Path.{◌≡◌, refl, ◌∙◌, ap}
-use mathlib.Core.Bool.{Bool, true, false, cond}
+use mathlib.Core.Bool.{Bool}
 use mathlib.Core.Logic.{⊎_elim}
 use mathlib.Core.List.{List}
 use native.Mathlib.Nat.{eq-or-lt_of_le}
 use native.Mathlib.Numerals.{add-one}
 use native.Mathlib.Omega.{arith}
 use borrow.Author.Tests.{eq-eqb, ne_eqb, leb-true}
-use lib.Dec.{eqb, leb}
+use lib.Dec.{leb}
 use lib.ListN.{length, set, get_or, replicate, length-set, length-replicate}
 use lib.Seq.{get_or-set_same, get_or-set_other}
 use lib.Ieee.{Float}
@@ -19,9 +19,9 @@ use Rattle.jet.specs.declared.Jet.{Jet}
 use Rattle.jet.specs.declared.Two.{Two}
 use Rattle.jet.specs.declared.Lane.{Lane}
 use Rattle.jet.specs.Jets.{exp_with, exp_j}
-use Rattle.jet.specs.Planes.{Holds, spread, six, cell_of, plane_rows}
+use Rattle.jet.specs.Planes.{Holds, spread, six}
 use Rattle.jet.specs.Lanes.{two_of, first_of, second_of, raised_two, lane_of, lane_in, raised_lane, triangle, laid_border, laid, no_lane, raised_to, Makes, AllLie, cell_in, Lists}
-use Rattle.jet.proofs.Planes.{spread_cong, rows_same}
+use Rattle.jet.proofs.Planes.{spread_cong}
 
 -- ---- places of pairs
 pub triangle_next : (n : ℕ) → triangle (n + 1) ≡ triangle n + n
@@ -167,25 +167,6 @@ module _ (B E : List Float → Jet) (m : Jet → Jet → ℕ → Float) (cells :
       }
 
 -- ---- parameters in a flat plane
-module _ (cells : List Float → ℕ → Float) (own : ℕ → Float) (P : List Float) where
-  cell-same : (i j k : ℕ) → i < 8 → j < 8 → cell_in cells own (λ i j. six P (i % 8 * 8 + j % 8)) i j k ≡ cell_of cells own P i j k
-  unfolding cell_in cell_of
-  cell-same i j k i8 j8 = pick (eqb i j)
-    where
-      a : i % 8 ≡ i
-      a = omega arith
-
-      b : j % 8 ≡ j
-      b = omega arith
-
-      pick : (c : Bool) → cond c own (cells (six P (i % 8 * 8 + j % 8))) k ≡ cond c (own k) (cells (six P (i * 8 + j)) k)
-      pick true = refl
-      pick false = rw (a, b)
-
-  pub plane_cells : (M : ℕ) {m n : ℕ} (old : List Float) {t : List Float} → m ≡ n → n ≤ 8 → t ≡ plane_rows (cell_in cells own (λ i j. six P (i % 8 * 8 + j % 8))) M m m old
-      → t ≡ plane_rows (cell_of cells own P) M n n old
-  plane_cells M {m} {n} old e a p = rw e at p ∙ rows_same M n n old (λ i j k h l. cell-same i j k (omega arith) (omega arith))
-
 pub plane_lists : (P : List Float) {m : ℕ} → m ≤ 8 → Lists (λ i j. six P (i % 8 * 8 + j % 8)) m P
 plane_lists P a i j h l n =
     let x : i % 8 ≡ i = omega arith in

@@ -1,5 +1,5 @@
 -- Jets of ordered pairs in a flat table of planes of 64: entry (i, j) of plane k at k * 64 + i * 8 + j. Assumes nothing.
-use Rattle.std.specs.Prelude.{ℕ, ◌+◌, ◌*◌, ◌<◌, ◌≡◌, cond, eqb, List, [], ◌∷◌, set, Float}
+use Rattle.std.specs.Prelude.{ℕ, ◌+◌, ◌*◌, ◌<◌, ◌≡◌, List, [], ◌∷◌, set, Float}
 use Rattle.floats.specs.Fold.{fold_to}
 use Rattle.floats.specs.Vector.{at}
 use Rattle.jet.specs.declared.Jet.{Jet}
@@ -28,10 +28,6 @@ Holds f m l = (k : ℕ) → k < m → at l k ≡ f k
 -- the six parameters of the pair at e = i * 8 + j, in a flat list from e * 6 on
 abbrev pub six : List Float → ℕ → List Float
 six P e = at P (e * 6) ∷ at P (e * 6 + 1) ∷ at P (e * 6 + 2) ∷ at P (e * 6 + 3) ∷ at P (e * 6 + 4) ∷ at P (e * 6 + 5) ∷ []
-
--- entry (i, j) of plane k: f of the pair's six parameters, and g of a solvent with itself
-unfoldable pub cell_of : (List Float → ℕ → Float) → (ℕ → Float) → List Float → ℕ → ℕ → ℕ → Float
-cell_of f g P i j k = cond (eqb i j) (g k) (f (six P (i * 8 + j)) k)
 
 -- the Jet whose three planes begin at b, and the one of two planes
 unfoldable pub jet_at : List Float → ℕ → ℕ → Jet

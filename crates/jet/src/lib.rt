@@ -3,9 +3,9 @@
 #![tactic(auto)]
 
 ghost use Rattle.std.specs.Prelude.{◌≡◌, ℕ, ◌≤◌, ◌<◌, ◌+◌, ◌*◌, ◌%◌, List, Float};
-ghost use Rattle.floats.specs.Vector.{at, places};
+ghost use Rattle.floats.specs.Vector.{at};
 ghost use Rattle.jet.specs.Jets.{const_j, two_j, add_j, sub_j, neg_j, mul_j, scale_j, div_j, exp_with, exp_j, ln_with, ln_j};
-ghost use Rattle.jet.specs.Planes.{Holds, six, cell_of, spread, plane_pairs, plane_rows};
+ghost use Rattle.jet.specs.Planes.{Holds, six, spread, plane_pairs, plane_rows};
 ghost use Rattle.jet.specs.Lanes.{two_of, first_of, second_of, raised_two, lane_of, lane_in, laid_border, laid, triangle, raised_to, Lies, AllLie, cell_in};
 
 use floats::Count;
@@ -207,11 +207,10 @@ pub trait Source {
     fn count(&self) -> Count
         ensures { result.n ≡ size self.now };
 
-    // Of (i, j) and of (j, i).
+    // Of (i, j) and of (j, i), where i < j below the count; nothing is said of others.
     fn both(&self, i: usize, j: usize) -> ([f64; 6], [f64; 6])
-        requires { (i < j) × (j < size self.now) }
-        ensures first { result.0 ≡ six self.now i j }
-        ensures second { result.1 ≡ six self.now j i };
+        ensures first { i < j → j < size self.now → result.0 ≡ six self.now i j }
+        ensures second { i < j → j < size self.now → result.1 ≡ six self.now j i };
 }
 
 // Two Jets, like parts side by side, so that both are worked out at once.
@@ -457,20 +456,4 @@ pub fn fill_from<const M: usize, P: Pairs<M>, S: Source>(
     } else {
         fill_lanes::<M, 28, P, S>(pairs, source, m, table);
     }
-}
-
-// All ordered pairs of n solvents; the table's other places stay as they are.
-pub fn fill_pairs<const M: usize, P: Pairs<M>>(
-    pairs: &P,
-    parameters: &[f64; 384],
-    n: usize,
-    table: &mut [f64; 512],
-)
-    ensures { table.new ≡ plane_rows (cell_of (P.cells pairs.now) (P.own_cells pairs.now) parameters.now) M (places n) (places n) table.old }
-{
-    let plane = Plane {
-        parameters,
-        m: Count::of(n),
-    };
-    fill_from::<M, P, Plane>(pairs, &plane, table);
 }

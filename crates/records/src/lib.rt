@@ -398,12 +398,14 @@ impl<'a> WholePairs<'a> {
         Some(WholePairs { blocks, m })
     }
 
-    // That of the pair (i, j).
+    // That of the pair (i, j), where there is one, else block 0.
     fn block(self, i: usize, j: usize) -> &'a [u8; 512]
-        requires { (i < j) × (j < self.m.n) }
-        ensures { result.now ≡ get_or self.entry.blocks.now (pair_place self.entry.m.n i j) [] }
+        ensures { i < j → j < self.entry.m.n → result.now ≡ get_or self.entry.blocks.now (pair_place self.entry.m.n i j) [] }
     {
         let n = self.m.n;
+        if j <= i || n <= j {
+            return &self.blocks[0];
+        }
         &self.blocks[1 + n + (i * (2 * n - i) - i) / 2 + (j - i - 1)]
     }
 }

@@ -4,4 +4,4 @@ use Rattle.nrtl_tables.proofs.pair_right.Goals as goal
 
 pub returns : goal.returns
 unfolding both_above
-returns g c = rw (c.alpha_right.ensures, c.alpha_right-2.ensures, c.both.ensures.first, c.both.ensures.second)
+returns g c = let (h, l) = c.requires in rw (c.alpha_right.ensures, c.alpha_right-2.ensures, c.both.ensures.first h l, c.both.ensures.second h l)

@@ -11,11 +11,11 @@ use Rattle.records.proofs.WholePairs.block.Goals as goal
 pub bounds-self-n : goal.bounds-self-n
 bounds-self-n c =
     let s = c.args.self in
-    let (h, l) = c.requires in
+    let h = c.if-j-i.false in
+    let l = c.if-n-j.false in
     omega (arith, s.enough, place_code s.m.n c.args.i c.args.j s.m.few h l, place-within s.m.n c.args.i c.args.j s.m.few h l)
 
 pub returns : goal.returns
 returns c =
     let s = c.args.self in
-    let (h, l) = c.requires in
-    ap (λ (k : ℕ). get_or s.blocks.now k []) (place_code s.m.n c.args.i c.args.j s.m.few h l)
+    λ h l. ap (λ (k : ℕ). get_or s.blocks.now k []) (place_code s.m.n c.args.i c.args.j s.m.few h l)

@@ -4,7 +4,7 @@ use Rattle.records.proofs.Sources.{upper_six, lower_six}
 use Rattle.records.proofs.WilsonPairsSource.both.Goals as goal
 
 pub returns-clause-first : goal.returns-clause-first
-returns-clause-first c = upper_six Wilson _ _ _ _ c.requires.0 c.block.ensures c.both_terms.ensures.upper c.six.ensures
+returns-clause-first c = λ h l. upper_six Wilson _ _ _ _ h (c.block.ensures h l) c.both_terms.ensures.upper c.six.ensures
 
 pub returns-clause-second : goal.returns-clause-second
-returns-clause-second c = lower_six Wilson _ _ _ _ c.requires.0 c.block.ensures c.both_terms.ensures.lower c.six-2.ensures
+returns-clause-second c = λ h l. lower_six Wilson _ _ _ _ h (c.block.ensures h l) c.both_terms.ensures.lower c.six-2.ensures
