@@ -15,7 +15,7 @@ docs/LINKING.md has more of this, docs/FORMAT.md what the words of an answer hol
 from pathlib import Path
 from typing import Union
 
-from . import answer, batch, pool, refusals
+from . import answer, batch, pool, queue, refusals
 from .answer import Blocks
 from .book import Book, Correlation, Interval, Model, Pair, Solvent, WilsonPair, encode
 from .core import Core
@@ -41,5 +41,5 @@ __all__ = [
     "Blocks", "Book", "Core", "Correlation", "DeskError", "Drum", "Interval", "Library", "Model", "Options", "Pair",
     "Preview", "Question", "Solvent", "Task", "WilsonPair", "BUBBLE_PRESSURE", "BUBBLE_TEMPERATURE", "DEW_PRESSURE",
     "DEW_TEMPERATURE", "EXCESS", "FLASH", "RACHFORD_RICE", "RACHFORD_RICE_NEGATIVE", "STABILITY", "TASKS", "answer",
-    "batch", "encode", "find", "open_book", "open_core", "open_yard", "pair_block", "pool", "refusals",
+    "batch", "encode", "find", "open_book", "open_core", "open_yard", "pair_block", "pool", "queue", "refusals",
 ]  # fmt: skip

@@ -11,10 +11,10 @@ from .tasks import Task
 KIND_ANSWER, KIND_TRIAL = 9, 10
 TASK, REFUSAL, OUTCOME, TRIALS, NOTES = 1, 2, 3, 12, 13
 T, P, BUBBLE, DEW, ITERATIONS, RESIDUAL, BALANCE, VAPOR_FRACTION = 4, 5, 6, 7, 8, 9, 10, 11
-LIQUID, VAPOR, ENERGIES, VALIDITY, INFERRED, STABLE = 14, 22, 30, 35, 36, 37
+LIQUID, VAPOR, ENERGIES, VALIDITY, INFERRED, STABLE, EVALUATIONS = 14, 22, 30, 35, 36, 37, 38
 TRIAL_COMPONENT, TRIAL_DISTANCE, TRIAL_ITERATIONS, TRIAL_TRIVIAL, TRIAL_FRACTIONS = 1, 2, 3, 4, 5
 
-LIQUID_ONLY, VAPOR_ONLY, BOTH = 1, 2, 3
+LIQUID_ONLY, VAPOR_ONLY, BOTH, PUT_OFF = 1, 2, 3, 4  # the last of a queued question that wasn't run
 OUTCOMES = {LIQUID_ONLY: "liquid", VAPOR_ONLY: "vapor", BOTH: "liquid and vapor"}
 VALIDITIES = {0: "unassessed", 1: "within the regression intervals", 2: "extrapolated"}
 NOTE_WORDS = (
@@ -48,6 +48,11 @@ class Blocks:
     @property
     def accepted(self) -> bool:
         return self.refusal == 0
+
+    @property
+    def put_off(self) -> bool:
+        """Of a question in a queue: not run."""
+        return self.accepted and self.head[OUTCOME] == PUT_OFF
 
     def real(self, at: int) -> float:
         return float_of(self.head[at])

@@ -44,6 +44,11 @@ TRY_HELP = (
 )
 TRYING = "./sheet bubble-temperature --drum ethanol=0.3,water=0.7 --pressure 1atm --try yard/try.txt"
 MANY = "./sheet flash --drums yard/week.csv --temperature 76C --pressure 1bar"
+SHIFT = "./sheet queue --questions yard/shift.csv --allowance 5000"
+QUESTIONS_HELP = (
+    "a table as CSV, a line for each flash: a column for each solvent and one called label as --drums has them, and "
+    "columns temperature, pressure, max iterations, tolerance and threshold for what differs from line to line"
+)
 TEMPERATURE_HELP = "with its unit: 351.44K, 78.29C or 78.29°C"
 PRESSURE_HELP = "with its unit: 90000Pa, 90kPa, 0.9bar, 900mbar, 1atm, 675mmHg, 675Torr or 13psi"
 BRACKET_HELP = "temperatures between which a point is looked for (default 273.16K:450K, narrowed to the book's ranges)"
@@ -58,8 +63,8 @@ WEIGHED = (
     "./sheet flash --drum ethanol=40kg,water=12kg --drum ethanol=9kmol,acetone=7mol --temperature 78C --pressure 1atm",
 )
 STATUSES = (
-    "exit status: 0 an answer, 1 a refusal (of the core, or no layers that can be shown), 2 bad usage,\n"
-    "3 an answer that is not what it looks like: the sheet says so above its numbers"
+    "exit status: 0 an answer, 1 a refusal (of the core, or no layers that can be shown, or a question that the queue\n"
+    "put off), 2 bad usage, 3 an answer that is not what it looks like: the sheet says so above its numbers"
 )
 
 
@@ -93,7 +98,7 @@ def parser() -> Parser:
         + "\n  ".join(EXAMPLES.values())
         + "\n  ./sheet strike flash --drum ethanol=0.5,water=0.5 --temperature 78.29C --pressure 90kPa"
         + "\n  "
-        + "\n  ".join((*WEIGHED, MANY, TRYING, *LAYERS))
+        + "\n  ".join((*WEIGHED, MANY, SHIFT, TRYING, *LAYERS))
         + "\n  ./sheet diagram txy --pair ethanol,water --pressure 101325Pa -o txy.svg"
         + f"\n\n{STATUSES}",
     )
@@ -102,6 +107,7 @@ def parser() -> Parser:
     for task in tasks.TASKS:
         _add_task(commands, task)
     _add_layers(commands)
+    _add_queue(commands)
     _add_strike(commands)
     _add_diagram(commands)
     _add_book(commands)
@@ -187,10 +193,10 @@ def _add_task(commands, task: tasks.Task) -> None:
 
 def _add_list_options(command: Parser) -> None:
     command.add_argument(
-        "--by-mass", action="store_true", help="with --drums: its numbers without a unit are mass fractions"
+        "--by-mass", action="store_true", help="of a list: its numbers without a unit are mass fractions"
     )
-    command.add_argument("--skip", metavar="NAME,NAME", help="with --drums: columns to pass over")
-    command.add_argument("--csv", action="store_true", help="with --drums: a table for a spreadsheet, with all digits")
+    command.add_argument("--skip", metavar="NAME,NAME", help="of a list: columns to pass over")
+    command.add_argument("--csv", action="store_true", help="of a list: a table for a spreadsheet, with all digits")
 
 
 def _add_sheet_options(command: Parser) -> None:
@@ -199,7 +205,9 @@ def _add_sheet_options(command: Parser) -> None:
         "--normalize", action="store_true", help="divide the fractions by their sum; the sheet shows both"
     )
     command.add_argument(
-        "--details", action="store_true", help="all digits, task number, iterations, residual, balance and every trial"
+        "--details",
+        action="store_true",
+        help="all digits, task number, iterations, residual, balance, evaluations and every trial",
     )
     command.add_argument(
         "--json", action="store_true", help="machine-readable; with --details the exact bits of each float too"
@@ -224,6 +232,31 @@ def _add_layers(commands) -> None:
     command.add_argument("--pressure", metavar="P", help=f"at which the layers boil, {PRESSURE_HELP}")
     command.add_argument("--bracket", metavar="LOW:HIGH", help=BRACKET_HELP)
     _add_sheet_options(command)
+
+
+def _add_queue(commands) -> None:
+    command = _add(
+        commands,
+        "queue",
+        "a shift's flashes in order, as far as one allowance of activity evaluations goes; what doesn't fit is put off",
+        SHIFT,
+        f"{SHIFT} --max-iterations 100 --details",
+        "./sheet queue --questions drums.csv --temperature 76C --pressure 1bar --allowance 20000 --csv",
+    )
+    _add_book_options(command)
+    command.add_argument("--questions", required=True, metavar="FILE", help=QUESTIONS_HELP)
+    command.add_argument(
+        "--allowance",
+        required=True,
+        metavar="N",
+        help="evaluations that may be begun: a flash of m solvents asks for (m + 2) times its --max-iterations, and 4",
+    )
+    command.add_argument("--temperature", metavar="T", help=f"of lines that have none, {TEMPERATURE_HELP}")
+    command.add_argument("--pressure", metavar="P", help=f"of lines that have none, {PRESSURE_HELP}")
+    command.set_defaults(tried=None)  # the core has no call for both
+    _add_list_options(command)
+    _add_sheet_options(command)
+    _add_options(command)
 
 
 def _add_try(command: Parser) -> None:

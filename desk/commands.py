@@ -5,12 +5,12 @@ import contextlib
 import os
 import sys
 from dataclasses import replace
-from typing import Iterator, Optional, Tuple, Union
+from typing import Iterator, List, Optional, Tuple, Union
 
 from . import (
     answer, batch, building, core, diagram, drumlist, explain, files, jsonsheet, layersreport, library, listreport
 )
-from . import picture, refusals, report, strikereport, tasks, text, units, yardcheck
+from . import picture, queuereport, refusals, report, strikereport, tasks, text, units, yardcheck
 from .arguments import commands_of, options_of, parser
 from .book import VERSION, Model, encode
 from .errors import CoreRefusal, DeskError, quoted, suggestion
@@ -19,10 +19,11 @@ from .judgement import judged
 from .layersheet import layers_sheet
 from .listsheet import MARKED as MARKED_ROW
 from .listsheet import REFUSED as REFUSED_ROW
-from .listsheet import list_sheet
+from .listsheet import RowSheet, list_sheet
 from .openbook import bracket_of, feed_of, is_binary, k_values_of, open_book, open_yard, place_of, shown, yard_of
 from .preview import Preview
 from .question import Question
+from .queuesheet import PUT_OFF, SETTINGS, question_of, queue_sheet
 from .ranges import Ranges, ranges_at
 from .sheet import SHORT, NamedBook, Sheet, checksum, today
 from .showbook import listing
@@ -103,25 +104,60 @@ def ask_many(arguments: argparse.Namespace) -> int:
     """Of one of the tasks at a temperature, a list of drums."""
     if arguments.strike:
         raise DeskError("strike takes one drum at a time, --drum or --mass")
-    if arguments.csv and arguments.json:
-        raise DeskError("--csv and --json are two forms of one sheet; give one of them")
+    _expect_one_form(arguments)
     book = open_book(arguments.book, arguments.names)
-    skip = [name.strip() for name in arguments.skip.split(",")] if arguments.skip else []
-    drums = drumlist.read(arguments.drums, book, arguments.by_mass, arguments.normalize, skip)
+    drums = drumlist.read(arguments.drums, book, arguments.by_mass, arguments.normalize, _skip(arguments))
     question = _question(arguments, book, Feed(()))
     with _asking(arguments, book, "zektonk_feeds") as (program, asked, tried):
         _expect_offered(tried)
         sheet = list_sheet(program, asked, shown(arguments.drums), drums, question, _label(arguments), tried)
+    return _printed(arguments, sheet, listreport)
+
+
+def ask_queue(arguments: argparse.Namespace) -> int:
+    """A shift's flashes under one allowance."""
+    _expect_one_form(arguments)
+    allowance = units.whole(arguments.allowance, "--allowance")
+    book, path = open_book(arguments.book, arguments.names), arguments.questions
+    drums = drumlist.read(path, book, arguments.by_mass, arguments.normalize, _skip(arguments), SETTINGS)
+    given = {
+        name: getattr(units, name)(getattr(arguments, name), f"--{name}")
+        for name in ("temperature", "pressure")
+        if getattr(arguments, name) is not None
+    }
+    options = options_of(arguments, bracket_of(book))
+    try:
+        questions = [question_of(drum, given, options) for drum in drums]
+    except DeskError as error:
+        raise DeskError(f"{path}, {error}") from None
+    with _asking(arguments, book, "zektonk_queue") as (program, _, _):
+        sheet = queue_sheet(program, book, shown(path), drums, questions, allowance, _label(arguments))
+    return _printed(arguments, sheet, queuereport)
+
+
+def _expect_one_form(arguments: argparse.Namespace) -> None:
+    if arguments.csv and arguments.json:
+        raise DeskError("--csv and --json are two forms of one sheet; give one of them")
+
+
+def _skip(arguments: argparse.Namespace) -> List[str]:
+    return [name.strip() for name in arguments.skip.split(",")] if arguments.skip else []
+
+
+def _printed(arguments: argparse.Namespace, sheet: RowSheet, form) -> int:
+    """A list in the form asked for, and its status."""
     if arguments.csv:
-        sys.stdout.write(listreport.written(sheet))
+        sys.stdout.write(form.written(sheet))
     elif arguments.json:
-        sys.stdout.write(jsonsheet.dumped(listreport.document(sheet, arguments.details)))
+        sys.stdout.write(jsonsheet.dumped(form.document(sheet, arguments.details)))
     else:
-        sys.stdout.write(listreport.render(sheet, arguments.details))
+        sys.stdout.write(form.render(sheet, arguments.details))
     if sheet.line():
         sys.stdout.flush()
         print(f"sheet: {sheet.line()}", file=sys.stderr)
-    return REFUSED if sheet.of(REFUSED_ROW) else MARKED if sheet.of(MARKED_ROW) else 0
+    if sheet.of(REFUSED_ROW) or sheet.of(PUT_OFF):
+        return REFUSED
+    return MARKED if sheet.of(MARKED_ROW) else 0
 
 
 def _label(arguments: argparse.Namespace) -> str:

@@ -5,9 +5,9 @@ import select
 import subprocess
 import tempfile
 from pathlib import Path
-from typing import Dict, List, Sequence
+from typing import Dict, List, Sequence, Tuple
 
-from . import answer, batch, pool, preview
+from . import answer, batch, pool, preview, queue
 from .blocks import rule_of, sealed
 from .errors import DeskError
 from .feed import Fractions
@@ -65,6 +65,15 @@ class Core:
         if offered not in self._copies:
             self._copies[offered] = Core(preview.copy_of(self.book, offered), self.program)
         return self._copies[offered].ask_block(block)
+
+    def ask_queue(self, questions: Sequence[Question], allowance: int) -> List[answer.Blocks]:
+        """1 to 64 flash questions in order, under one allowance of evaluations. A refused one that may have begun some
+        takes all that it asked for."""
+        return queue.ask_plainly(self, questions, allowance)
+
+    def begun(self, question: Question, number: int) -> Tuple[int, bool]:
+        """How many evaluations a flash that was refused with the number may have begun, and whether that is exact."""
+        return queue.begun_at_most(self, question, number)
 
     def ask_block(self, block: bytes) -> answer.Blocks:
         if block not in self._answers:

@@ -3,14 +3,15 @@
     label;ethanol (kg);water (kg)
     drum 17;40;12,5
 
-Every line is read before anything is asked, and what can't be read is said with its line."""
+A queue's questions have columns for what differs from line to line besides, as temperature and pressure. Every line is
+read before anything is asked, and what can't be read is said with its line."""
 
 import csv
 import io
 import re
-from dataclasses import dataclass
+from dataclasses import dataclass, field
 from decimal import Decimal
-from typing import Dict, Iterator, List, NamedTuple, Optional, Sequence, Tuple
+from typing import Any, Callable, Dict, Iterator, List, NamedTuple, Optional, Sequence, Tuple
 
 from . import files, units
 from .errors import CoreRefusal, DeskError, quoted, suggestion
@@ -19,7 +20,7 @@ from .openbook import Amount, drum_of, place_of
 from .sheet import NamedBook
 
 LABELS = ("label", "drum")
-LABEL, SOLVENT, SKIPPED, NAMELESS = "label", "solvent", "skipped", "nameless"
+LABEL, SOLVENT, SETTING, SKIPPED, NAMELESS = "label", "solvent", "setting", "skipped", "nameless"
 PERCENT = "%"
 UNITS = (PERCENT, *units.WEIGHT_UNITS, *units.MOLE_UNITS)
 SEPARATORS = (";", "\t", ",")
@@ -28,13 +29,24 @@ DECIMAL_COMMA = re.compile(r"([^.,]*),([^.,]*)")
 MOST_NAMED = 5  # lines in a complaint
 
 
+class Setting(NamedTuple):
+    """A column that isn't a solvent's: how its head may begin, the units that may stand in it, and how a cell is
+    read."""
+
+    name: str
+    heads: Tuple[str, ...]
+    units: Tuple[str, ...]
+    read: Callable[[str, str], Any]
+
+
 @dataclass(frozen=True)
 class Listed:
-    """A drum, and where it stands."""
+    """A drum, where it stands, and what its line gives of the settings."""
 
     line: int
     label: str
     feed: Feed
+    given: Dict[str, Any] = field(default_factory=dict)
 
     @property
     def name(self) -> str:
@@ -42,12 +54,13 @@ class Listed:
 
 
 class Column(NamedTuple):
-    """What its cells are, and of a solvent its place in the book and the unit in the head."""
+    """What its cells are; of a solvent its place in the book, of a setting that; and the unit in the head."""
 
     kind: str
     head: str
     place: Optional[int] = None
     unit: str = ""
+    setting: Optional[Setting] = None
 
 
 class Row(NamedTuple):
@@ -56,14 +69,20 @@ class Row(NamedTuple):
 
 
 def read(
-    path: str, book: NamedBook, by_mass: bool = False, normalize: bool = False, skip: Sequence[str] = ()
+    path: str,
+    book: NamedBook,
+    by_mass: bool = False,
+    normalize: bool = False,
+    skip: Sequence[str] = (),
+    settings: Sequence[Setting] = (),
 ) -> List[Listed]:
     """Bare numbers are mole fractions, or mass fractions with `by_mass`. Columns of the names in `skip` are passed
     over."""
     separator, rows = _rows(path)
     if not rows:
         raise DeskError(f"{path} is empty; a list of drums begins with a line of the solvents' names")
-    columns = _columns(f"{path}, line {rows[0].line}", rows[0].cells, book, _skipped(path, rows[0].cells, skip))
+    skipped = _skipped(path, rows[0].cells, skip)
+    columns = _columns(f"{path}, line {rows[0].line}", rows[0].cells, book, skipped, settings)
     found: List[Listed] = []
     wrong: List[Tuple[int, str]] = []
     for row in rows[1:]:
@@ -122,35 +141,65 @@ def _skipped(path: str, heads: List[str], skip: Sequence[str]) -> List[str]:
     return [name.lower() for name in skip]
 
 
-def _columns(where: str, heads: List[str], book: NamedBook, skip: List[str]) -> List[Column]:
+def _columns(
+    where: str, heads: List[str], book: NamedBook, skip: List[str], settings: Sequence[Setting]
+) -> List[Column]:
     columns: List[Column] = []
     for head in heads:
-        column = Column(SKIPPED, head) if head.lower() in skip else _column(where, head, book)
-        same = [other for other in columns if (other.kind, other.place) == (column.kind, column.place)]
-        if same and column.kind in (LABEL, SOLVENT):
-            raise DeskError(f"{where}: {quoted(same[0].head)} and {quoted(head)} are two columns of one {column.kind}")
+        column = Column(SKIPPED, head) if head.lower() in skip else _column(where, head, book, settings)
+        same = [other for other in columns if _what(other) == _what(column)]
+        if same and column.kind in (LABEL, SOLVENT, SETTING):
+            what = column.setting.name if column.setting else column.kind
+            raise DeskError(f"{where}: {quoted(same[0].head)} and {quoted(head)} are two columns of one {what}")
         columns.append(column)
     if not any(column.kind == SOLVENT for column in columns):
         raise DeskError(f"{where} names no solvent of {book.file}, which has {', '.join(book.names)}")
     return columns
 
 
-def _column(where: str, head: str, book: NamedBook) -> Column:
+def _what(column: Column) -> Tuple[Any, ...]:
+    return column.kind, column.place, column.setting
+
+
+def _column(where: str, head: str, book: NamedBook, settings: Sequence[Setting]) -> Column:
     """A name may be followed by a unit, in brackets or without."""
     if not head or head.lower() in LABELS:
         return Column(LABEL if head else NAMELESS, head)
     if _place(head, book) is not None:
         return Column(SOLVENT, head, _place(head, book))
+    for setting in settings:
+        found = _setting(where, head, setting)
+        if found:
+            return found
     name, _, behind = head.partition(" ")
     unit = behind.strip("()[] ")
     if _place(name, book) is None or not unit:
+        names = ["'label'", *(quoted(setting.name) for setting in settings)]
         known = f"which has {', '.join(book.names)}; --skip passes over a column{suggestion(name, book.names)}"
-        raise DeskError(f"{where}: {quoted(head)} is neither 'label' nor a solvent of {book.file}, {known}")
-    if unit not in UNITS:
         raise DeskError(
-            f"{where}: unit {quoted(unit)} in {quoted(head)} is none of {', '.join(UNITS)}{suggestion(unit, UNITS)}"
+            f"{where}: {quoted(head)} is neither {', '.join(names)} nor a solvent of {book.file}, {known}"
         )
-    return Column(SOLVENT, head, _place(name, book), unit)
+    return Column(SOLVENT, head, _place(name, book), _unit(where, head, unit, UNITS))
+
+
+def _setting(where: str, head: str, setting: Setting) -> Optional[Column]:
+    """Where the head is that of the setting, alone or with a unit."""
+    lowered = head.lower().replace("-", " ")
+    for name in setting.heads:
+        if lowered == name:
+            return Column(SETTING, head, setting=setting)
+        if lowered.startswith(f"{name} ") and setting.units:
+            unit = head[len(name) :].strip("()[] ")
+            return Column(SETTING, head, unit=_unit(where, head, unit, setting.units), setting=setting)
+    return None
+
+
+def _unit(where: str, head: str, unit: str, known: Sequence[str]) -> str:
+    if unit not in known:
+        raise DeskError(
+            f"{where}: unit {quoted(unit)} in {quoted(head)} is none of {', '.join(known)}{suggestion(unit, known)}"
+        )
+    return unit
 
 
 def _place(name: str, book: NamedBook) -> Optional[int]:
@@ -179,13 +228,34 @@ def _drum(
             amounts[column.place] = Amount(name, _value(cell, column.unit, separator, f"{where}: {name}"))
     if not amounts:
         raise DeskError(f"{where}: {quoted(label) if label else 'the drum'} has no amounts")
-    return Listed(row.line, label, drum_of(book, amounts, by_mass, normalize, where))
+    given = {
+        column.setting.name: column.setting.read(
+            _with_unit(cell, column.unit, separator, f"{where}: {column.setting.name}"),
+            f"{where}: {column.setting.name}",
+        )
+        for cell, column in zip(row.cells, columns)
+        if cell and column.kind == SETTING
+    }
+    return Listed(row.line, label, drum_of(book, amounts, by_mass, normalize, where), given)
+
+
+def _pointed(cell: str, separator: str) -> str:
+    """Where cells aren't separated by commas, a comma is a decimal point."""
+    comma = DECIMAL_COMMA.fullmatch(cell) if separator != "," else None
+    return ".".join(comma.groups()) if comma else cell
+
+
+def _with_unit(cell: str, unit: str, separator: str, what: str) -> str:
+    """With the unit of its column, where it has none of its own."""
+    value = _pointed(cell, separator)
+    if unit and units.has_unit(value):
+        raise DeskError(f"{what}: {quoted(cell)} has a unit, and its column too, {unit}")
+    return value + unit
 
 
 def _value(cell: str, unit: str, separator: str, what: str) -> str:
-    """As --drum takes it. Where cells aren't separated by commas, a comma is a decimal point."""
-    comma = DECIMAL_COMMA.fullmatch(cell) if separator != "," else None
-    value = ".".join(comma.groups()) if comma else cell
+    """As --drum takes it."""
+    value = _pointed(cell, separator)
     if "," in value or not (units.is_bare(value) or units.has_unit(value)):
         raise DeskError(f"{what}: {quoted(cell)} is not a number")
     if unit and not units.is_bare(value):

@@ -151,6 +151,7 @@ class Document:
             )
             fields["trials"] = [self._trial(words) for words in blocks.trials]
         if command == "flash":
+            fields["evaluations"] = blocks.head[answer.EVALUATIONS]
             book, judgement, present = self.sheet.book, self.sheet.judgement, self.sheet.present()
             fields["bubble_of_a_stable_liquid"] = book.one_layer(judgement.bubble_holds, present)
             fields["dew_of_a_stable_liquid"] = book.one_layer(judgement.dew_holds, present)

@@ -3,9 +3,9 @@
 import ctypes
 import os
 from pathlib import Path
-from typing import Callable, List, Optional, Sequence
+from typing import Callable, List, Optional, Sequence, Tuple
 
-from . import answer, batch
+from . import answer, batch, queue
 from .blocks import BLOCK, rule_of, sealed, words_of
 from .core import ROOT
 from .errors import DeskError
@@ -19,6 +19,8 @@ ANSWER_ROOM = 9 * BLOCK
 # as much as the program reads: one block more than any book has, one byte more than a question
 BOOK_MOST, QUESTION_MOST = 38 * BLOCK, BLOCK + 1
 WITHOUT_TASK = (*range(1, 13), 35, 37, 38)  # refusals that are found before the task is known
+_LENT = [ctypes.c_char_p, ctypes.c_size_t]
+_ARGUMENTS = {"zektonk_answer": _LENT * 3, "zektonk_queue": [*_LENT * 2, ctypes.c_uint64, *_LENT]}  # else four slices
 
 
 def folder() -> Path:
@@ -78,12 +80,8 @@ class Library:
 
     def ask_feeds(self, question: Question, feeds: Sequence[Fractions]) -> List[answer.Blocks]:
         """With each of 1 to 64 feeds in place of the question's fractions, in one call."""
-        count, room = len(feeds), ctypes.create_string_buffer(ANSWER_ROOM * max(len(feeds), 1))
-        call = _loaded(self.path, "zektonk_feeds")
-        number = call(*_lent(self.book, question.block(self.rule), batch.bytes_of(feeds)), room, len(room))
-        if number:
-            raise batch.CallRefused(number)
-        return batch.parts_of(room.raw, count, self.rule)
+        lent = _lent(self.book, question.block(self.rule), batch.bytes_of(feeds))
+        return self._parts("zektonk_feeds", len(feeds), *lent)
 
     def ask_preview(self, block: bytes, offered: bytes) -> answer.Blocks:
         """With an offered block in place of the book's pair of the same two solvents."""
@@ -93,6 +91,23 @@ class Library:
         """The same as `ask_bytes` with an offered block."""
         asked = block[:QUESTION_MOST]
         return self._ended(_loaded(self.path, "zektonk_preview"), asked, _lent(self.book, offered, asked))
+
+    def ask_queue(self, questions: Sequence[Question], allowance: int) -> List[answer.Blocks]:
+        """1 to 64 flash questions in one call, under one allowance of evaluations."""
+        lent = _lent(self.book, queue.bytes_of(questions, self.rule))
+        return self._parts("zektonk_queue", len(questions), *lent, allowance)
+
+    def begun(self, question: Question, number: int) -> Tuple[int, bool]:
+        """How many evaluations a flash began that was refused with the number."""
+        return queue.begun_by(self, question, number)
+
+    def _parts(self, name: str, count: int, *lent: object) -> List[answer.Blocks]:
+        """What a call writes that has so many parts of the answer slice."""
+        room = ctypes.create_string_buffer(ANSWER_ROOM * max(count, 1))
+        number = _loaded(self.path, name)(*lent, room, len(room))
+        if number:
+            raise batch.CallRefused(number)
+        return batch.parts_of(room.raw, count, self.rule)
 
     def _written(self, call: Callable[..., int], block: bytes, *drums: bytes) -> bytes:
         asked = block[:QUESTION_MOST]
@@ -119,6 +134,6 @@ def _loaded(path: Path, name: str = "zektonk_answer") -> Callable[..., int]:
         call = ctypes.CDLL(str(path))[name]
     except (OSError, AttributeError) as error:
         raise DeskError(f"the library {path} can't be called: {error}") from None
-    call.argtypes = [ctypes.c_char_p, ctypes.c_size_t] * (3 if name == "zektonk_answer" else 4)
+    call.argtypes = _ARGUMENTS.get(name, _LENT * 4)
     call.restype = ctypes.c_uint64
     return call

@@ -17,6 +17,7 @@ from .progress import Progress
 from .question import Question
 from .ranges import PairRemark, Ranges, ranges_at
 from .sheet import NamedBook, Sheet, today
+from .tasks import Task
 from .tried import Tried
 
 Asked = Union[Core, Library, Preview]
@@ -45,16 +46,15 @@ class Row:
 
 
 @dataclass(frozen=True)
-class ListSheet:
-    """`question` is that of every drum but for its fractions."""
+class RowSheet:
+    """Rows of a list, and what it is a list of."""
 
     book: NamedBook
     file: str
-    question: Question
     rows: Tuple[Row, ...]
     label: str
     date: str
-    tried: Optional[Tried] = None  # then `book` is the copy that holds the pair
+    noun = "drum"
 
     def of(self, status: str) -> List[Row]:
         return [row for row in self.rows if row.status == status]
@@ -74,6 +74,32 @@ class ListSheet:
             if count > 1
         }
 
+    def line(self) -> str:
+        """What isn't as it looks, for standard error; nothing where all have ordinary answers."""
+        refused, marked = self.of(REFUSED), self.of(MARKED)
+        numbers = sorted({row.sheet.blocks.refusal for row in refused})
+        said = []
+        if refused:
+            said.append(f"{self._share(refused)} refused, number {', '.join(map(str, numbers))}")
+        if marked:
+            said.append(f"{self._share(marked)} marked, the first is {marked[0].drum.name}")
+        return "; ".join(said)
+
+    def _share(self, rows: Sequence[Row]) -> str:
+        return f"{len(rows)} of {len(self.rows)} {self.noun}s"
+
+
+@dataclass(frozen=True)
+class ListSheet(RowSheet):
+    """`question` is that of every drum but for its fractions."""
+
+    question: Question
+    tried: Optional[Tried] = None  # then `book` is the copy that holds the pair
+
+    @property
+    def task(self) -> Task:
+        return self.question.task
+
     @property
     def ranges(self) -> Ranges:
         """The pairs of all drums with something to say, at the one temperature."""
@@ -84,17 +110,6 @@ class ListSheet:
         order = {name: place for place, name in enumerate(self.book.names)}
         remarks = sorted(found.values(), key=lambda remark: [order[name] for name in remark.names])
         return Ranges(self.question.temperature, None, None, tuple(remarks))
-
-    def line(self) -> str:
-        """What isn't as it looks, for standard error; nothing where all drums have ordinary answers."""
-        refused, marked = self.of(REFUSED), self.of(MARKED)
-        numbers = sorted({row.sheet.blocks.refusal for row in refused})
-        said = []
-        if refused:
-            said.append(f"{len(refused)} of {len(self.rows)} drums refused, number {', '.join(map(str, numbers))}")
-        if marked:
-            said.append(f"{len(marked)} of {len(self.rows)} drums marked, the first is {marked[0].drum.name}")
-        return "; ".join(said)
 
 
 def list_sheet(
@@ -110,8 +125,8 @@ def list_sheet(
     with Progress(file, len(drums), of="drums") as progress:
         for places in _calls(drums):
             for k, blocks in zip(places, _asked(core, [drums[k] for k in places], question)):
-                rows[k] = progress.stepped(Row(drums[k], _sheet(core, book, drums[k], question, blocks)))
-    return ListSheet(book, file, question, tuple(rows[k] for k in range(len(drums))), label, today(), tried)
+                rows[k] = progress.stepped(Row(drums[k], own_sheet(core, book, drums[k], question, blocks)))
+    return ListSheet(book, file, tuple(rows[k] for k in range(len(drums))), label, today(), question, tried)
 
 
 def _calls(drums: Sequence[Listed]) -> Iterator[List[int]]:
@@ -136,7 +151,8 @@ def _unpooled(drum: Listed) -> bool:
     return bool(drum.feed.charge and drum.feed.charge.refusal)
 
 
-def _sheet(core: Asked, book: NamedBook, drum: Listed, question: Question, blocks: Blocks) -> Sheet:
+def own_sheet(core: Asked, book: NamedBook, drum: Listed, question: Question, blocks: Blocks) -> Sheet:
+    """A drum's, judged as it would be by itself."""
     asked = replace(question, fractions=drum.feed.fractions, by_mass=drum.feed.by_mass)
     judgement = judged(core, book, asked, blocks, advise=False, feed=drum.feed)
     sheet = Sheet(book, drum.feed, asked, blocks, judgement, label=drum.label)

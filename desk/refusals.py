@@ -35,7 +35,7 @@ REFUSALS: Dict[int, Refusal] = {
     8: Refusal("a pair has a number that isn't finite", "correct that pair in the yard text"),
     9: Refusal("a pair's two alphas are not equal", "correct that pair; the yard text has one alpha for both"),
     10: Refusal(
-        "the room for the answer is less than 4,608 bytes, or less than that for each of many feeds",
+        "the room for the answer is less than 4,608 bytes, or less than that for each feed or question of many",
         "this can't come from the program still; its caller has to lend more",
     ),
     11: Refusal(
@@ -133,6 +133,11 @@ REFUSALS: Dict[int, Refusal] = {
     38: Refusal(
         "the book's version is none of 1 to 3: it is not a book that this desk knows, or its first block is damaged",
         f"{MAKE_AGAIN}; a newer desk makes one for this one with --book-version 3",
+    ),
+    39: Refusal(
+        "there are not 1 to 64 whole questions in the queue, or one of them asks another task than the flash",
+        "this can't come from ./sheet, which queues up to 64 flashes at a time; its caller has to send the rest in "
+        "another call, and other tasks by themselves",
     ),
 }
 

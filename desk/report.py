@@ -146,6 +146,8 @@ class Report:
         rows = [
             ("iterations", str(blocks.head[answer.ITERATIONS])), ("residual", text.small(blocks.real(answer.RESIDUAL)))
         ]
+        if self.sheet.question.task == FLASH:
+            rows.append(("evaluations", f"{blocks.head[answer.EVALUATIONS]} (all activity coefficients at once)"))
         return rows if self.details else []
 
     def _phases(self) -> Lines:

@@ -48,6 +48,7 @@ const OPEN: &str = "called by the sheet";
 const NORMALIZE: &str = "34: `normalize` refuses a sum that isn't finite and positive; its step is noted";
 const WILSON: &str =
     "Wilson's sums stand beside NRTL's (src/named/nrtl/wilson.rs); tests and energies are the Rust's own for both";
+const EVALUATIONS: &str = "every entry is counted, refused ones too (src/evaluations.rs)";
 const PRESENT: &str = "the slope runs over positive feed fractions only (docs/DIFFERENCES.md)";
 
 const fn cut(within: &'static str, anchor: &'static str, reason: &'static str) -> Row {
@@ -150,6 +151,13 @@ pub const SOURCES: &[Source] = &[
             call("fn matrices(", OUTSIDE, "Error::AlphaNotPositive", 1, "24"),
             put("pub fn excess(", "NotPositive(\"temperature\")", "Temperature", 1, "13"),
             call("pub fn excess(", FAILURE, "Error::ResultNotFinite", 1, "25"),
+            put(
+                "pub fn excess(",
+                "let n = self.parameters.ids.len();",
+                "evaluations::begin(); let n = self.parameters.ids.len();",
+                1,
+                EVALUATIONS,
+            ),
             put(
                 "pub struct NrtlModel",
                 "parameters: NrtlParameters,",

@@ -90,6 +90,7 @@ static void print_split(const uint8_t *answer, size_t n, uint64_t task)
         print_float("dew", answer, ZEKTONK_ANSWER_WORD_DEW, " Pa");
         print_float("balance", answer, ZEKTONK_ANSWER_WORD_BALANCE, "");
         print_notes(answer);
+        print_count("evaluations", answer, ZEKTONK_ANSWER_WORD_EVALUATIONS);
     } else if (outcome != ZEKTONK_LIQUID_AND_VAPOR) {
         return;
     }

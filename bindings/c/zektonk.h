@@ -3,7 +3,8 @@
  *
  * The core as a C program calls it: a book, a question and room for an answer in, the answer's blocks or a number out;
  * by a second call with drums besides, whose pool is the feed; by a third with up to 64 feeds, each answered by itself;
- * by a fourth with a pair's block that is tried in place of the book's own.
+ * by a fourth with a pair's block that is tried in place of the book's own; by a fifth with up to 64 flash questions,
+ * which are run in order as far as one allowance of work goes.
  * docs/FORMAT.md says what each word holds, docs/LINKING.md has the commands. Link with libzektonk.a, for x86-64 Linux.
  *
  * A block is 512 bytes: 64 little-endian words of 64 bits, a float as its bits. Word 63 is the check of words 0 to 62,
@@ -43,6 +44,7 @@ extern "C" {
 #define ZEKTONK_TERMS_MOST 8     /* of a correlation */
 #define ZEKTONK_DRUMS_MOST 64    /* that pool into one charge */
 #define ZEKTONK_FEEDS_MOST 64    /* of one call */
+#define ZEKTONK_QUEUE_MOST 64    /* questions of one queue */
 #define ZEKTONK_FORMAT_VERSION 1 /* word 1 of block 0 of a book without molar masses, */
 #define ZEKTONK_FORMAT_VERSION_MASS 2 /* of a book with them, which takes feeds by mass too, */
 #define ZEKTONK_FORMAT_VERSION_RUNNING 3 /* and of one whose checks are running sums besides */
@@ -149,7 +151,7 @@ enum zektonk_feed { ZEKTONK_FEED_MOLES = 0, ZEKTONK_FEED_MASS = 1 };
 /* Words of an answer. docs/FORMAT.md has which of them a task fills; the others are 0. */
 enum zektonk_answer_word {
     ZEKTONK_ANSWER_WORD_TASK = 1,
-    ZEKTONK_ANSWER_WORD_REFUSAL = 2, /* 0, but in the one block of a refused feed, or that the program `still` writes */
+    ZEKTONK_ANSWER_WORD_REFUSAL = 2, /* 0, but in the one block of a refused feed or queued question, or of `still` */
     ZEKTONK_ANSWER_WORD_OUTCOME = 3,
     ZEKTONK_ANSWER_WORD_TEMPERATURE = 4, /* K */
     ZEKTONK_ANSWER_WORD_PRESSURE = 5,    /* Pa */
@@ -172,7 +174,8 @@ enum zektonk_answer_word {
     ZEKTONK_ANSWER_WORD_HEAT_CAPACITY = 34, /* J/(mol K) */
     ZEKTONK_ANSWER_WORD_VALIDITY = 35,
     ZEKTONK_ANSWER_WORD_INFERRED = 36,
-    ZEKTONK_ANSWER_WORD_STABLE = 37
+    ZEKTONK_ANSWER_WORD_STABLE = 37,
+    ZEKTONK_ANSWER_WORD_EVALUATIONS = 38 /* activity evaluations begun, of a flash */
 };
 
 /* Words of a trial. */
@@ -197,8 +200,8 @@ enum zektonk_task {
     ZEKTONK_RACHFORD_RICE_NEGATIVE = 9
 };
 
-/* Outcomes, word 3 of an answer to tasks 7 to 9; 0 for the others. */
-enum zektonk_outcome { ZEKTONK_LIQUID = 1, ZEKTONK_VAPOR = 2, ZEKTONK_LIQUID_AND_VAPOR = 3 };
+/* Outcomes, word 3 of an answer to tasks 7 to 9; 0 for the others. The last is of a queued question that wasn't run. */
+enum zektonk_outcome { ZEKTONK_LIQUID = 1, ZEKTONK_VAPOR = 2, ZEKTONK_LIQUID_AND_VAPOR = 3, ZEKTONK_PUT_OFF = 4 };
 
 /* Notes, bits of word 13 of a flash. */
 enum zektonk_note {
@@ -214,7 +217,8 @@ enum zektonk_validity { ZEKTONK_UNASSESSED = 0, ZEKTONK_WITHIN = 1, ZEKTONK_EXTR
  * The first question that was answered no: 1 to 21 in this order, with 38 between 1 and 2, 37 after 3, 35 after 5, 36
  * after 12 and, of a feed by mass, 34 after 18; the others, and 15 to 18 and 34 once more, where the calculation puts
  * them. 31 and 32 are zektonk_pooled's alone, after 12 and ahead of 36; 33 is zektonk_feeds's alone, after 9 and ahead
- * of 10. There zektonk_preview puts 1, 2, 7, 8 and 9 to the offered block too.
+ * of 10. There zektonk_preview puts 1, 2, 7, 8 and 9 to the offered block too. 39 is zektonk_queue's alone, in the place
+ * of 33.
  */
 enum zektonk_refusal {
     ZEKTONK_ANSWERED = 0,
@@ -227,7 +231,7 @@ enum zektonk_refusal {
     ZEKTONK_PAIR_BLOCK = 7,               /* kind, i and j, or a flag not 0 or 1; offered, any i < j of the book's */
     ZEKTONK_PAIR_NUMBER = 8,              /* a float not finite */
     ZEKTONK_PAIR_ALPHAS = 9,              /* alpha_ij and alpha_ji differ; NRTL */
-    ZEKTONK_ANSWER_SHORT = 10,            /* fewer than ZEKTONK_ANSWER_ROOM bytes, of zektonk_feeds for each feed */
+    ZEKTONK_ANSWER_SHORT = 10,            /* fewer than ZEKTONK_ANSWER_ROOM bytes, for each feed or queued question */
     ZEKTONK_QUESTION_BLOCK = 11,          /* not 512 bytes, its check by the book's version, or its kind */
     ZEKTONK_TASK = 12,                    /* none of 1 to 9; of zektonk_feeds none of 1, 2, 3, 6 and 7 */
     ZEKTONK_TEMPERATURE = 13,             /* not finite and positive */
@@ -256,7 +260,8 @@ enum zektonk_refusal {
     ZEKTONK_MOLAR_MASS = 35,              /* not finite and positive, in a book of version 2 or 3 */
     ZEKTONK_FEED_KIND = 36,               /* neither moles nor mass, or mass with a book of version 1 or with drums */
     ZEKTONK_BOOK_MODEL = 37,              /* neither NRTL nor, from version 2 on, Wilson */
-    ZEKTONK_BOOK_VERSION = 38             /* block 0 has kind 1 and a version other than 1 to 3 */
+    ZEKTONK_BOOK_VERSION = 38,            /* block 0 has kind 1 and a version other than 1 to 3 */
+    ZEKTONK_QUEUE_QUESTIONS = 39          /* not 1 to 64 blocks, or one that passes 11 and has another task than 7 */
 };
 
 /*
@@ -337,6 +342,35 @@ uint64_t zektonk_feeds(const uint8_t *book, size_t book_len, const uint8_t *ques
 uint64_t zektonk_preview(const uint8_t *book, size_t book_len, const uint8_t *offered, size_t offered_len,
                          const uint8_t *question, size_t question_len, uint8_t *answer, size_t answer_len);
 
+/*
+ * A shift's flash questions under one allowance of activity evaluations, all ln gamma at one composition: what a flash
+ * spends its time on. ZEKTONK_ANSWER_WORD_EVALUATIONS of its answer says how many it began. With m positive mole
+ * fractions in its feed and M its word 12 they are never more than (m + 2) M + 4 (zektonk_most_evaluations), of a flash
+ * that is refused too.
+ *
+ * `questions` has 1 to 64 of them, ZEKTONK_QUESTION bytes each, one behind the other, all of task 7. They are taken in
+ * order. One whose (m + 2) M + 4 is no more than what is left of `allowance` is run, and what it really began is taken
+ * off, answered or refused. Any other is put off with nothing taken off, and the next is tried. One that is refused
+ * ahead of its first evaluation (11, 36, 13 to 23, 34 of a feed by mass, 25 of a vapor pressure) gets its number
+ * whatever is left, and takes nothing.
+ *
+ * Gives 0, and question k has its own ZEKTONK_ANSWER_ROOM bytes of `answers`, from ZEKTONK_ANSWER_ROOM * k on
+ * (zektonk_queue_answer): at their front the blocks of its answer; or one block with the number that refuses it in
+ * ZEKTONK_ANSWER_WORD_REFUSAL, as the program `still` writes it; or, put off, one block with task 7, ZEKTONK_PUT_OFF in
+ * ZEKTONK_ANSWER_WORD_OUTCOME and 0 in all else but kind and check. The bytes behind these stay as they were. Or gives
+ * a number put ahead of 11, which ends the whole call, with every byte of `answers` as it was: one of the book's, 39
+ * for the questions, or 10, `answers` being shorter than ZEKTONK_ANSWER_ROOM bytes for each of them.
+ *
+ * - What a question that is run gets is what zektonk_answer says to it, answer or number, byte for byte.
+ * - A question that fails 11 isn't asked for its task: its block has 11, and the call goes on.
+ * - No more evaluations are begun than `allowance` says, which may be any number: what a question may begin is never
+ *   more than 10,000,004.
+ * - All that holds of zektonk_answer holds of this call, of `questions` what holds of `book`: it is only read, any
+ *   alignment and length will do, and `answers` overlaps neither.
+ */
+uint64_t zektonk_queue(const uint8_t *book, size_t book_len, const uint8_t *questions, size_t questions_len,
+                       uint64_t allowance, uint8_t *answers, size_t answers_len);
+
 /* Word `at` of a block, 0 to 63, copied: x86-64 has the lowest byte first, as blocks have. */
 static inline uint64_t zektonk_get_word(const uint8_t *block, size_t at)
 {
@@ -396,6 +430,18 @@ static inline void zektonk_seal(uint8_t *block)
 static inline const uint8_t *zektonk_feed_answer(const uint8_t *answers, size_t k)
 {
     return answers + ZEKTONK_ANSWER_ROOM * k;
+}
+
+/* The bytes of question k in the answers of zektonk_queue. */
+static inline const uint8_t *zektonk_queue_answer(const uint8_t *answers, size_t k)
+{
+    return answers + ZEKTONK_ANSWER_ROOM * k;
+}
+
+/* What a flash may begin at most and asks for in a queue: `present` mole fractions of its feed are positive. */
+static inline uint64_t zektonk_most_evaluations(uint64_t present, uint64_t max_iterations)
+{
+    return (present + 2) * max_iterations + 4;
 }
 
 /* How many blocks a book of n solvents has. */

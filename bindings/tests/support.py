@@ -1,13 +1,17 @@
 """The files that the tests hold to each other, and the archive and library of the folder in ZEKTONK_LIB."""
 
+import contextlib
 import ctypes
+import io
 import os
 import shutil
 import subprocess
 import tempfile
 import unittest
 from pathlib import Path
-from typing import List
+from typing import List, Tuple
+
+from desk.cli import main
 
 ROOT = Path(__file__).resolve().parent.parent.parent
 FORMAT = ROOT / "docs" / "FORMAT.md"
@@ -40,6 +44,15 @@ def answered(function, book: bytes, question: bytes):
 
 def words_of(block: bytes) -> List[int]:
     return [int.from_bytes(block[at : at + 8], "little") for at in range(0, BLOCK, 8)]
+
+
+def sheet(*arguments: str) -> Tuple[int, str]:
+    """Status and output of `./sheet`, run in this process."""
+    out, err = (io.TextIOWrapper(io.BytesIO(), encoding="utf-8") for _ in range(2))
+    with contextlib.redirect_stdout(out), contextlib.redirect_stderr(err):
+        status = main(list(arguments))
+    out.flush()
+    return status, out.buffer.getvalue().decode("utf-8")
 
 
 class InFolder(unittest.TestCase):

@@ -88,6 +88,21 @@ class Examples(InFolder):
         run = self.run_in_folder("sh", "-c", f'"{program}" nowhere "{QUESTION}"; echo "status $?"')
         self.assertTrue(run.stdout.endswith(b"by the book: refused: 1\nstatus 1\n"))
 
+    def test_queue_runs_a_shift(self):
+        """Answered, refused and put off under one allowance; the first is the stored question."""
+        program = self.compiled(C / "queue.c")
+        self.assert_stored("queue.txt", self.run_in_folder(program, BOOK, QUESTION).stdout.decode("ascii"))
+        lines = (C / "queue.txt").read_text(encoding="ascii").splitlines()
+        asked = [NINE[7], *(dataclasses.replace(NINE[7], pressure=pressure) for pressure in PRESSURES)]
+        with desk.Core(BOOK.read_bytes()) as core:
+            for line, question in zip((lines[0], *lines[3:]), asked):
+                blocks = core.ask(question)
+                due, begun = blocks.real(desk.answer.VAPOR_FRACTION), blocks.head[desk.answer.EVALUATIONS]
+                self.assertTrue(line.endswith(f": vapor fraction {due:.17g}, {begun} of 2004 evaluations"), line)
+        self.assertEqual([line.partition(": ")[2] for line in lines[1:3]], ["refused: 22", "put off, asks for 4000004"])
+        run = self.run_in_folder("sh", "-c", f'"{program}" nowhere "{QUESTION}"; echo "status $?"')
+        self.assertTrue(run.stdout.endswith(b"refused: 1\nstatus 1\n"))
+
     def test_header_alone(self):
         self.compiled(C / "ask.c")
         strict = ("-fsyntax-only", "-Wsign-conversion", *WARNINGS)

@@ -1,9 +1,7 @@
 """Many feeds in one call: the library's call on all of them, and the plain call on each, which is how whoever runs
 `still` asks. The same answers, to a bit."""
 
-import contextlib
 import ctypes
-import io
 import os
 import random
 import unittest
@@ -13,11 +11,10 @@ from unittest import mock
 import desk
 from desk.batch import FEED_BYTES, MOST_FEEDS, PART, TASKS, CallRefused, bytes_of
 from desk.blocks import Rule, rule_of, sealed, split
-from desk.cli import main
 from desk.openbook import open_book
 from desk.question import MASS
-from nine import NINE, SAMPLE_BOOK
-from support import ANSWER_ROOM, BLOCK, LIBRARY, ROOT, InFolder
+from nine import NINE, SAMPLE_BOOK, WRONG_BOOKS
+from support import ANSWER_ROOM, BLOCK, LIBRARY, ROOT, InFolder, sheet
 
 YARD, ALCOHOLS = (open_book(str(ROOT / "yard" / name)) for name in ("yard.txt", "alcohols.txt"))
 COUNT = 40
@@ -88,17 +85,7 @@ class AsPlain(unittest.TestCase):
 
     def test_refused_ahead_of_the_feeds(self):
         """The book's numbers, then 33: what ends the whole call."""
-        head, rest = split(SAMPLE_BOOK)[0], SAMPLE_BOOK[512:]
-        for book, number in (
-            (b"", 1),
-            (SAMPLE_BOOK[:-1], 1),
-            (SAMPLE_BOOK[:600] + b"\1" + SAMPLE_BOOK[601:], 2),
-            (sealed([1, 4, *head[2:63]]) + rest, 38),
-            (sealed([1, 1, 9, *head[3:63]]) + rest, 3),
-            (sealed([1, 1, 2, 1, *head[4:63]]) + rest, 37),
-            (sealed([1, 2, *head[2:63]]) + rest, 35),
-            (SAMPLE_BOOK, 33),
-        ):
+        for book, number in (*WRONG_BOOKS, (SAMPLE_BOOK, 33)):
             for feeds in ([], [(1.0, 0.0)] * 65, *([[(1.0, 0.0)]] if number != 33 else [])):
                 for core in (desk.Library(book), desk.Core(book)):
                     with core, self.assertRaises(CallRefused) as refused:
@@ -209,13 +196,6 @@ class Bytes(unittest.TestCase):
 class Sheets(InFolder):
     """`./sheet` over the library, which takes 64 at a time, and over the program: the same sheet."""
 
-    def sheet(self, *arguments: str):
-        out, err = (io.TextIOWrapper(io.BytesIO(), encoding="utf-8") for _ in range(2))
-        with contextlib.redirect_stdout(out), contextlib.redirect_stderr(err):
-            status = main(list(arguments))
-        out.flush()
-        return status, out.buffer.getvalue().decode("utf-8")
-
     def test_one_sheet(self):
         source, lines = random.Random(2), ["label,water,ethanol,acetone,toluene"]
         for k in range(70):
@@ -234,10 +214,10 @@ class Sheets(InFolder):
 
             with mock.patch.dict(os.environ, {"SOURCE_DATE_EPOCH": "1794821400"}):
                 with mock.patch.object(desk.Library, "ask_feeds", counted):
-                    found = self.sheet(*asked)
+                    found = sheet(*asked)
                 self.assertEqual(calls, [64, 6])
                 with mock.patch.dict(os.environ, {"ZEKTONK_LIB": str(self.folder)}):
-                    self.assertEqual(self.sheet(*asked), found)
+                    self.assertEqual(sheet(*asked), found)
 
 
 if __name__ == "__main__":

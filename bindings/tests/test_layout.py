@@ -12,6 +12,7 @@ import desk.book
 import desk.pool
 import desk.preview
 import desk.question
+import desk.queue
 import desk.refusals
 import desk.tasks
 from definitions import body, cases, every, fields, first, listed, numbers_of, spent, stated
@@ -43,6 +44,7 @@ REFUSAL = short("zektonk_refusal", "ZEKTONK_")
 STATE = ["TEMPERATURE", "PRESSURE", "BUBBLE", "DEW", "ITERATIONS", "RESIDUAL", "BALANCE", "VAPOR_FRACTION"]
 STATE += ["TRIALS", "NOTES"]
 MODEL = ["REDUCED_GIBBS", "GIBBS", "ENTHALPY", "ENTROPY", "HEAT_CAPACITY", "VALIDITY", "INFERRED", "STABLE"]
+MODEL += ["EVALUATIONS"]
 CALLED = {"t": "TEMPERATURE", "p": "PRESSURE", "β": "VAPOR_FRACTION", "cp": "HEAT_CAPACITY"}
 CALLED["reduced"] = "REDUCED_GIBBS"
 MOST = int(macros()["ZEKTONK_SOLVENTS_MOST"])
@@ -183,6 +185,7 @@ class Definitions(unittest.TestCase):
         self.assertEqual(sorted(TASK.values()), list(range(1, 10)))
         for name, number in TASK.items():
             self.assertRegex(body(f"task{number}"), rf"\({SOLVERS[name]} ", name)
+        self.assertIn("(flash_counted ", body("task7_counted"))
 
     def test_numbers_of_enums(self):
         outcome, validity = short("zektonk_outcome", "ZEKTONK_"), short("zektonk_validity", "ZEKTONK_")
@@ -204,7 +207,7 @@ class Definitions(unittest.TestCase):
             self.assertEqual(numbers_of(question), {REFUSAL[name]}, name)
         self.assertEqual({number for _, number in spent()}, {REFUSAL["NOT_CONVERGED"]})
         self.assertEqual(set(REFUSAL) - set(QUESTIONS), {"ANSWERED", "NOT_CONVERGED"})
-        self.assertEqual(sorted(REFUSAL.values()), list(range(39)))
+        self.assertEqual(sorted(REFUSAL.values()), list(range(40)))
         self.assertIn(f"number_of (ok bs) = {REFUSAL['ANSWERED']}", stated("sheet::number_of"))
 
     def test_drums(self):
@@ -235,8 +238,28 @@ class Definitions(unittest.TestCase):
         kind = f"need (kind_right version (word question)) {REFUSAL['FEED_KIND']}"
         asked = f"need (needs_temperature task) {REFUSAL['TASK']} ({kind} "
         self.assertIn(f"bind (task_in (rule_of book) question) (λ task. {asked}", body("task_among"))
-        self.assertIn("put l (answer_room * j) (feed_reply ", body("parts_to"))
+        self.assertIn("put l (answer_room * j) (feed_reply ", body("batch::parts_to"))
         self.assertEqual(body("needs_temperature"), "within 1 3 k || within 6 7 k")
+
+    def test_queue(self):
+        """Whole questions, all of task 7 where 11 passes; 39 and 10 behind the book; what is asked for; the block of
+        one put off."""
+        size, most = (macros()[f"ZEKTONK_{name}"] for name in ("QUESTION", "QUEUE_MOST"))
+        self.assertEqual(body("question_count"), f"length questions / {size}")
+        whole = f"eqb (length questions % {size}) 0 && within 1 {most} (question_count questions)"
+        self.assertTrue(body("questions_right").startswith(f"{whole} && all_to (λ k. is_flash (task_in rule "))
+        flash, block = TASK["TP_FLASH"], REFUSAL["QUESTION_BLOCK"]
+        self.assertIn(f"is_flash (ok task) = eqb task {flash} is_flash (no r) = eqb r {block}", stated("is_flash"))
+        short_room, many = REFUSAL["ANSWER_SHORT"], REFUSAL["QUEUE_QUESTIONS"]
+        room = f"need (leb (answer_room * question_count questions) (length old)) {short_room}"
+        asked = f"bind (book_of book) (λ h. need (questions_right (rule_of book) questions) {many} ({room} (ok "
+        self.assertTrue(body("queue_of").startswith(asked), body("queue_of"))
+        self.assertIn("put l (answer_room * j) (queue_reply ", body("queue::parts_to"))
+        self.assertEqual(body("most_evaluations"), "(present_count z n + 2) * o.max_iterations + 4")
+        put_off = short("zektonk_outcome", "ZEKTONK_")["PUT_OFF"]
+        self.assertEqual(body("replies::put_off"), str(put_off))
+        self.assertEqual(body("put_off_words"), f"{KIND['ANSWER']} ∷ {flash} ∷ 0 ∷ put_off ∷ replicate 60 0")
+        self.assertEqual(desk.queue.put_off(desk.blocks.Rule.PLAIN).head[:4], [KIND["ANSWER"], flash, 0, put_off])
 
     def test_offered(self):
         """Behind the book: 1, 2, 7, 8 and 9 of one block, a pair of any i < j below n; then as on the copy."""
@@ -273,7 +296,7 @@ SOLVERS = {
     "BUBBLE_TEMPERATURE": "bubble_temperature",
     "DEW_TEMPERATURE": "dew_temperature",
     "LIQUID_STABILITY": "stability_of",
-    "TP_FLASH": "tp_flash",
+    "TP_FLASH": "task7_counted",
     "RACHFORD_RICE": "constrained",
     "RACHFORD_RICE_NEGATIVE": "negative",
 }
@@ -317,6 +340,7 @@ QUESTIONS = {
     "FEED_KIND": r"kind_right",
     "BOOK_MODEL": r"model_right",
     "BOOK_VERSION": r"version_right",
+    "QUEUE_QUESTIONS": r"questions_right",
 }
 
 
@@ -335,7 +359,7 @@ class Page(unittest.TestCase):
 
     def test_words_stand_in_a_row(self):
         """Each block's words begin where those before them end; only the two names of task 1 stand twice."""
-        lasts = {"BOOK": 3, "SOLVENT": 45, "PAIR": 18, "QUESTION": 27, "ANSWER": 37, "TRIAL": 12}
+        lasts = {"BOOK": 3, "SOLVENT": 45, "PAIR": 18, "QUESTION": 27, "ANSWER": 38, "TRIAL": 12}
         for block, last in lasts.items():
             names = [name for name in page() if name.startswith(f"ZEKTONK_{block}_WORD_")]
             names = [name for name in names if not name.endswith(("_LN_GAMMA", "_SLOPES"))]
@@ -397,7 +421,7 @@ class Desk(unittest.TestCase):
         for name, word in TRIAL.items():
             self.assertEqual(getattr(there, f"TRIAL_{name}"), word, name)
         outcome = short("zektonk_outcome", "ZEKTONK_")
-        self.assertEqual((there.LIQUID_ONLY, there.VAPOR_ONLY, there.BOTH), tuple(outcome.values()))
+        self.assertEqual((there.LIQUID_ONLY, there.VAPOR_ONLY, there.BOTH, there.PUT_OFF), tuple(outcome.values()))
         self.assertEqual(set(there.VALIDITIES), set(short("zektonk_validity", "ZEKTONK_").values()))
         for bit, (name, _) in enumerate(there.NOTE_WORDS):
             notes = short("zektonk_note", "ZEKTONK_NOTE_")
@@ -415,6 +439,13 @@ class Desk(unittest.TestCase):
         self.assertEqual(found, tuple(int(macros()[f"ZEKTONK_{name}"]) for name in names))
         self.assertEqual((desk.batch.FEEDS, desk.batch.TASK), (REFUSAL["FEEDS_LENGTH"], REFUSAL["TASK"]))
         self.assertEqual([task.number for task in desk.batch.TASKS], [1, 2, 3, 6, 7])
+
+    def test_queue(self):
+        self.assertEqual(desk.queue.MOST_QUESTIONS, int(macros()["ZEKTONK_QUEUE_MOST"]))
+        self.assertEqual(desk.queue.QUEUE, REFUSAL["QUEUE_QUESTIONS"])
+        names = ("NOT_FINITE", "FRACTION_SUM", "NOT_NORMALIZABLE", "ALPHA_NOT_POSITIVE")
+        numbers = desk.queue.NOT_FINITE, desk.queue.SUM, desk.queue.NORMALIZED, desk.queue.ALPHA
+        self.assertEqual(numbers, tuple(REFUSAL[name] for name in names))
 
     def test_tasks_and_refusals(self):
         functions = {task.function.replace("activity_", "").upper(): task.number for task in desk.tasks.TASKS}

@@ -12,7 +12,7 @@ from desk.blocks import Rule, rule_of, sealed, split
 from desk.openbook import feed_of, open_book
 from desk.pool import MOST_TOTAL, bytes_of, fractions_of, pool_of, refusal_of
 from desk.question import K_VALUES
-from nine import NINE, SAMPLE_BOOK
+from nine import NINE, SAMPLE_BOOK, WRONG_BOOKS
 from support import ANSWER_ROOM, LIBRARY, ROOT
 
 YARD, ALCOHOLS = (open_book(str(ROOT / "yard" / name)) for name in ("yard.txt", "alcohols.txt"))
@@ -97,17 +97,8 @@ class AsPlain(unittest.TestCase):
 
     def test_refused_ahead_of_the_drums(self):
         """Books and questions keep their numbers, whatever the drums; 31, 32 and 36 come in this order."""
-        head, rest = split(SAMPLE_BOOK)[0], SAMPLE_BOOK[512:]
         good, none, zeros = [(1, 1)], [], [(0, 0)]
-        for book, number in (
-            (b"", 1),
-            (SAMPLE_BOOK[:-1], 1),
-            (SAMPLE_BOOK[:600] + b"\1" + SAMPLE_BOOK[601:], 2),
-            (sealed([1, 4, *head[2:63]]) + rest, 38),
-            (sealed([1, 1, 9, *head[3:63]]) + rest, 3),
-            (sealed([1, 1, 2, 1, *head[4:63]]) + rest, 37),
-            (sealed([1, 2, *head[2:63]]) + rest, 35),
-        ):
+        for book, number in WRONG_BOOKS:
             for drums in (good, none, zeros):
                 self.assertEqual(self.assert_same(book, NINE[7], drums), number)
         by_mass, cold = replace(NINE[7], by_mass=True), replace(NINE[7], temperature=-1.0)

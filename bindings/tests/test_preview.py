@@ -1,9 +1,7 @@
 """A pair tried in place of the book's own: the library's call on the offered block, and the plain call on a copy of the
 book that holds it, which is how whoever runs `still` asks. The same answers, to a bit."""
 
-import contextlib
 import ctypes
-import io
 import os
 import random
 import unittest
@@ -13,11 +11,10 @@ from unittest import mock
 import desk
 from desk.blocks import Rule, bits_of, rule_of, sealed, split, words_of
 from desk.book import Interval, Pair, WilsonPair, due_pairs, encode, pair_place, pair_words
-from desk.cli import main
 from desk.openbook import open_book
 from desk.preview import Preview, copy_of, refusal_of
 from nine import NINE, SAMPLE_BOOK
-from support import ANSWER_ROOM, BLOCK, LIBRARY, ROOT, InFolder
+from support import ANSWER_ROOM, BLOCK, LIBRARY, ROOT, InFolder, sheet
 
 YARD, ALCOHOLS = (open_book(str(ROOT / "yard" / name)) for name in ("yard.txt", "alcohols.txt"))
 BOOKS = (YARD.content, ALCOHOLS.content, SAMPLE_BOOK)
@@ -249,13 +246,6 @@ class Bytes(unittest.TestCase):
 class Sheets(InFolder):
     """`./sheet --try` over the library's call and over the program: the same sheet."""
 
-    def sheet(self, *arguments: str):
-        out, err = (io.TextIOWrapper(io.BytesIO(), encoding="utf-8") for _ in range(2))
-        with contextlib.redirect_stdout(out), contextlib.redirect_stderr(err):
-            status = main(list(arguments))
-        out.flush()
-        return status, out.buffer.getvalue().decode("utf-8")
-
     def test_one_sheet(self):
         tried = ("--try", str(ROOT / "yard" / "try.txt"), "--details")
         at = ("--temperature", "76C", "--pressure", "1bar")
@@ -275,11 +265,11 @@ class Sheets(InFolder):
 
             with mock.patch.dict(os.environ, {"SOURCE_DATE_EPOCH": "1794821400"}):
                 with mock.patch.object(desk.Library, "ask_preview", counted):
-                    found = self.sheet(*asked, *tried)
+                    found = sheet(*asked, *tried)
                 self.assertIn(found[0], (0, 1))
                 self.assertGreater(len(calls), 1)
                 with mock.patch.dict(os.environ, {"ZEKTONK_LIB": str(self.folder)}):
-                    self.assertEqual(self.sheet(*asked, *tried), found)
+                    self.assertEqual(sheet(*asked, *tried), found)
 
 
 if __name__ == "__main__":

@@ -3,7 +3,7 @@
 use crate::stage::{Stage, STAGES};
 
 pub const USAGE: &str =
-    "numbers|fractions|book|pressure|excess|rice|sheet|mass|exchanged|wilson|pooled|feeds|preview|all [--count N] [--seed S] [--counts]";
+    "numbers|fractions|book|pressure|excess|rice|sheet|mass|exchanged|wilson|pooled|feeds|preview|queue|all [--count N] [--seed S] [--counts]";
 
 pub struct Options {
     pub stages: Vec<Stage>,
@@ -37,6 +37,7 @@ impl Options {
             Stage::Numbers => 4_000_000,
             Stage::Fractions | Stage::Book | Stage::Pressure | Stage::Excess | Stage::Rice => 400_000,
             Stage::Feeds => 20_000,
+            Stage::Queue => 10_000,
             _ => 200_000,
         })
     }

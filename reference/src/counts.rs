@@ -2,14 +2,18 @@
 
 mod drums;
 mod feeds;
+mod flashes;
 mod kinds;
 mod pairs;
+mod queues;
 
 use std::collections::BTreeMap;
 
 use drums::Drums;
 use feeds::Feeds;
+use flashes::Flashes;
 use pairs::Pairs;
+use queues::Queues;
 
 use crate::generate::cases::{Cases, Kind};
 use crate::generate::exchanged::{Exchange, PLACES};
@@ -260,6 +264,8 @@ fn outcomes(case: &Case, found: &Found) -> Vec<Outcome> {
             };
             feeds.map(outcome).collect()
         }
+        // Its questions are counted by themselves.
+        Case::With { with: With::Allowance, .. } => Vec::new(),
         Case::With { with: With::Drums, lent, .. } => {
             let lacking = |n: usize| pool(lent, n).is_ok_and(|counts| counts.contains(&0));
             vec![Outcome {
@@ -282,6 +288,8 @@ pub struct Counts {
     drums: Drums,
     feeds: Feeds,
     pairs: Pairs,
+    queues: Queues,
+    pub flashes: Flashes,
 }
 
 impl Counts {
@@ -291,6 +299,8 @@ impl Counts {
         self.drums.add(case, found.refusal);
         self.feeds.add(case, found);
         self.pairs.add(case, found.refusal);
+        self.queues.add(case, found);
+        self.flashes.add(case, found);
     }
 
     pub fn print(&self, stage: Stage) {
@@ -299,8 +309,10 @@ impl Counts {
             Stage::Pooled => self.drums.print(),
             Stage::Feeds => self.feeds.print(),
             Stage::Preview => self.pairs.print(),
+            Stage::Queue => self.queues.print(),
             _ => {}
         }
+        self.flashes.print();
     }
 }
 

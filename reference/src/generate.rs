@@ -12,6 +12,7 @@ pub mod numbers;
 pub mod pooled;
 pub mod previews;
 pub mod questions;
+pub mod queues;
 pub mod rice;
 pub mod small;
 pub mod vanish;

@@ -4,6 +4,7 @@
 pub mod command;
 pub mod counts;
 pub mod edits;
+pub mod evaluations;
 pub mod generate;
 pub mod helpers;
 pub mod named;

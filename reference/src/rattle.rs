@@ -98,6 +98,16 @@ extern "C" {
         answer: *mut u8,
         answer_len: usize,
     ) -> u64;
+    /// Many flash questions under one allowance of evaluations.
+    pub fn zektonk_queue(
+        book: *const u8,
+        book_len: usize,
+        questions: *const u8,
+        questions_len: usize,
+        allowance: u64,
+        answers: *mut u8,
+        answers_len: usize,
+    ) -> u64;
 }
 
 /// `Some` of the call where its stage is built in.
@@ -229,4 +239,19 @@ pub fn feeds(book: &[u8], question: &[u8], feeds: &[u8], answers: &mut [u8]) -> 
 
 pub fn preview(book: &[u8], offered: &[u8], question: &[u8], answer: &mut [u8]) -> Option<u64> {
     with_one_more!("preview", zektonk_preview(book, offered, question, answer))
+}
+
+pub fn queue(book: &[u8], questions: &[u8], allowance: u64, answers: &mut [u8]) -> Option<u64> {
+    offered!(
+        "queue",
+        zektonk_queue(
+            book.as_ptr(),
+            book.len(),
+            questions.as_ptr(),
+            questions.len(),
+            allowance,
+            answers.as_mut_ptr(),
+            answers.len()
+        )
+    )
 }

@@ -7,6 +7,7 @@ pub mod feeds;
 pub mod pool;
 pub mod preview;
 pub mod question;
+pub mod queue;
 pub mod reply;
 
 pub use book::{open_book, Book};

@@ -3,13 +3,13 @@
 use std::fmt::Write;
 use std::hint::black_box;
 
+use crate::evaluations::counted;
 use crate::helpers::{self, bits_of};
 use crate::named::liquid::Correlation;
 use crate::named::rachford_rice::{rachford_rice, rachford_rice_negative, RachfordRiceOutcome, RachfordRiceSolution};
 use crate::rattle;
 use crate::sheet::blocks::Rule;
 use crate::sheet::book::{Pairs, Solvent};
-use crate::sheet::feeds::FEED;
 use crate::sheet::reply::TRIALS;
 use crate::sheet::{self, open_book, Book, ANSWER_BYTES};
 use crate::types::Temperature;
@@ -36,9 +36,11 @@ pub enum Stage {
     Feeds,
     /// Sheets with an offered pair.
     Preview,
+    /// Flashes in a queue.
+    Queue,
 }
 
-pub const STAGES: [Stage; 13] = [
+pub const STAGES: [Stage; 14] = [
     Stage::Numbers,
     Stage::Fractions,
     Stage::Book,
@@ -52,6 +54,7 @@ pub const STAGES: [Stage; 13] = [
     Stage::Pooled,
     Stage::Feeds,
     Stage::Preview,
+    Stage::Queue,
 ];
 
 impl Stage {
@@ -70,6 +73,7 @@ impl Stage {
             Stage::Pooled => "pooled",
             Stage::Feeds => "feeds",
             Stage::Preview => "preview",
+            Stage::Queue => "queue",
         }
     }
 
@@ -96,6 +100,7 @@ impl Stage {
             Stage::Pooled => cfg!(feature = "pooled"),
             Stage::Feeds => cfg!(feature = "feeds"),
             Stage::Preview => cfg!(feature = "preview"),
+            Stage::Queue => cfg!(feature = "queue"),
         }
     }
 
@@ -159,7 +164,7 @@ pub enum Case {
         question: Vec<u8>,
         room: usize,
     },
-    /// A sheet with one slice more.
+    /// A sheet with one slice more, or a queue.
     With {
         with: With,
         book: Vec<u8>,
@@ -170,10 +175,12 @@ pub enum Case {
 }
 
 /// One side's result: the refusal number (0 for an answer) and all words that were returned or written.
-#[derive(Debug, Clone, PartialEq)]
+#[derive(Debug, Clone, PartialEq, Default)]
 pub struct Found {
     pub refusal: u32,
     pub words: Vec<u64>,
+    /// Activity evaluations that the reference began, of a sheet.
+    pub begun: u64,
 }
 
 /// What stands in an output before the call.
@@ -188,20 +195,20 @@ impl Case {
             Case::Normalize { x, n } => written(normalized(&x[..*n]), *x),
             Case::Book { book } => match open_book(book) {
                 Ok(book) => answered(vec![100 + book.solvents.len() as u64]),
-                Err(number) => Found { refusal: number, words: vec![number.into()] },
+                Err(number) => Found { refusal: number, words: vec![number.into()], ..Found::default() },
             },
             Case::Pressure { book, i, t } => written(vapor_pressure(book, *i, *t), [UNTOUCHED; 4]),
             Case::Excess { book, t, x } => written(excess(book, *t, x), [UNTOUCHED; 23]),
             Case::Rice { negative, z, k, n, limit } => rice(*negative, &z[..*n], &k[..*n], *limit),
             Case::Sheet { book, question, room } => {
                 let mut answer = unwritten(*room);
-                let number = sheet::answer(book, question, &mut answer);
-                refused_or(number, bytes_as_words(&answer))
+                let (number, begun) = counted(|| sheet::answer(book, question, &mut answer));
+                Found { begun, ..refused_or(number, bytes_as_words(&answer)) }
             }
             Case::With { with, book, question, lent, room } => {
                 let mut answer = unwritten(*room);
-                let number = with.reference(book, question, lent, &mut answer);
-                refused_or(number, bytes_as_words(&answer))
+                let (number, begun) = counted(|| with.reference(book, question, lent, &mut answer));
+                Found { begun, ..refused_or(number, bytes_as_words(&answer)) }
             }
         }
     }
@@ -300,10 +307,10 @@ impl Case {
     pub fn stored(&self) -> Vec<u64> {
         let mut words = self.expected().words;
         let kept = match self {
-            Case::With { with: With::Feeds, lent, .. } if words[0] == 0 => {
-                return blocks_of_feeds(&words, lent.len() / FEED)
+            Case::With { with, question, lent, .. } if words[0] == 0 => {
+                return blocks_of_parts(&words, with.parts(question, lent))
             }
-            Case::Sheet { .. } | Case::With { .. } if words[0] == 0 => 1 + written_words(&words[1..]),
+            Case::Sheet { .. } if words[0] == 0 => 1 + written_words(&words[1..]),
             Case::Normalize { .. } | Case::Pressure { .. } | Case::Excess { .. } if words[0] == 0 => words.len(),
             Case::Rice { .. } if words[0] == 3 => words.len(),
             Case::Number { .. } | Case::Fractions { .. } | Case::Book { .. } => words.len(),
@@ -344,22 +351,22 @@ fn written_words(answer: &[u64]) -> usize {
     64 * (1 + answer[TRIALS] as usize)
 }
 
-/// The part of each feed in the words of an accepted call.
-pub fn parts(words: &[u64], feeds: usize) -> impl Iterator<Item = &[u64]> {
-    words[1..].chunks(ANSWER_BYTES / 8).take(feeds)
+/// The parts, one of each feed or question, in the words of an accepted call.
+pub fn parts(words: &[u64], count: usize) -> impl Iterator<Item = &[u64]> {
+    words[1..].chunks(ANSWER_BYTES / 8).take(count)
 }
 
-fn blocks_of_feeds(words: &[u64], feeds: usize) -> Vec<u64> {
-    let written = parts(words, feeds).flat_map(|part| &part[..written_words(part)]);
+fn blocks_of_parts(words: &[u64], count: usize) -> Vec<u64> {
+    let written = parts(words, count).flat_map(|part| &part[..written_words(part)]);
     words[..1].iter().chain(written).copied().collect()
 }
 
 fn answered(words: Vec<u64>) -> Found {
-    Found { refusal: 0, words }
+    Found { words, ..Found::default() }
 }
 
 fn refused_or(number: u32, words: Vec<u64>) -> Found {
-    Found { refusal: number, words: with_number(number.into(), words) }
+    Found { refusal: number, words: with_number(number.into(), words), ..Found::default() }
 }
 
 fn with_number(number: u64, mut words: Vec<u64>) -> Vec<u64> {
@@ -529,7 +536,10 @@ fn rice(negative: bool, z: &[f64], k: &[f64], limit: u64) -> Found {
         Ok(RachfordRiceOutcome::LiquidOnly) => answered(with_number(1, untouched)),
         Ok(RachfordRiceOutcome::VaporOnly) => answered(with_number(2, untouched)),
         Ok(RachfordRiceOutcome::TwoPhase(solution)) => answered(with_number(3, solution_words(&solution))),
-        Err(error) => Found { refusal: error.number(), words: with_number(100 + u64::from(error.number()), untouched) },
+        Err(error) => {
+            let number = error.number();
+            Found { refusal: number, words: with_number(100 + u64::from(number), untouched), ..Found::default() }
+        }
     }
 }
 

@@ -1,15 +1,17 @@
 //! Demand 3 run on sheets: absent solvents struck from book and question leave an accepted answer as it was (docs/FORMAT.md, "The
 //! shorter sheet"). The premise of tasks 4 and 5 holds of every accepted sheet: `excess` refuses a slope of ln γ that is not finite.
 
-use crate::generate::small::{bytes, sealed_by};
+use crate::generate::small::{bytes, sealed_by, Ask};
 use crate::generate::Rng;
 use crate::sheet::anew::word;
 use crate::sheet::blocks::{rule_of, words_of, Words, BLOCK};
 use crate::sheet::book::due_pairs;
 use crate::sheet::feeds::{bytes_of_feeds, FEED};
 use crate::sheet::question::{BASIS, BY_MASS, FRACTIONS, K_VALUES};
-use crate::sheet::reply::{LIQUID, REFUSAL, TRIALS, VAPOR};
+use crate::sheet::queue::{most_of, Due};
+use crate::sheet::reply::{EVALUATIONS, LIQUID, REFUSAL, TRIALS, VAPOR};
 use crate::sheet::ANSWER_BYTES;
+use crate::stage::bytes_as_words;
 
 pub const TASKS: [u64; 9] = [1, 2, 3, 4, 5, 6, 7, 8, 9];
 
@@ -65,6 +67,28 @@ pub fn core_preview(book: &[u8], question: &[u8], answer: &mut [u8]) -> u64 {
     let mut other = book.to_vec();
     other[block(k)].copy_from_slice(&sealed_by(rule_of(book), words));
     crate::rattle::preview(&other, offered, question, answer).expect("built with the preview")
+}
+
+/// The core's queue: the question stands between one that is refused first and itself once more, with an allowance of just what it asks
+/// for, so that the last is put off. A refusal block counts as its number, and as unwritten.
+pub fn core_queue(book: &[u8], question: &[u8], answer: &mut [u8]) -> u64 {
+    let cold = sealed_by(rule_of(book), Ask(words_of(question)).at(0.0).0);
+    let queue = [&cold, question, question].concat();
+    let mut answers = [&[0; ANSWER_BYTES], &*answer, &[0; ANSWER_BYTES]].concat();
+    let allowance = most_of(book, question);
+    let number = crate::rattle::queue(book, &queue, allowance, &mut answers).expect("built with the queue");
+    if number != 0 {
+        return number;
+    }
+    let after = bytes_as_words(&answers);
+    assert_eq!(after[REFUSAL], 13, "a temperature of 0 K");
+    let [own, again] = [1, 2].map(|k| ANSWER_BYTES / 8 * k);
+    let refusal = after[own + REFUSAL];
+    if refusal == 0 {
+        assert_eq!(Due::of(&after[again..]), Due::PutOff, "something was taken");
+        answer[..ANSWER_BYTES].copy_from_slice(&answers[ANSWER_BYTES..2 * ANSWER_BYTES]);
+    }
+    refusal
 }
 
 #[derive(Debug, Clone)]
@@ -153,9 +177,11 @@ pub fn difference(long: &[Words], short: &[Words], kept: &[usize]) -> Option<(us
         (0..kept.len()).find(|place| !same(a[from + kept[*place]], b[from + place])).map(|place| from + kept[place])
     };
     let plain = |a: &Words, b: &Words, mut places: std::ops::Range<usize>| places.find(|k| !same(a[*k], b[*k]));
-    let head = |a, b| {
+    let head = |a: &Words, b: &Words| {
         let lists = || entries(a, b, LIQUID).or_else(|| entries(a, b, VAPOR));
-        plain(a, b, 0..14).or_else(lists).or_else(|| plain(a, b, 30..63))
+        // A count has no zero but 0.
+        let evaluations = || (a[EVALUATIONS] != b[EVALUATIONS]).then_some(EVALUATIONS);
+        plain(a, b, 0..14).or_else(lists).or_else(|| plain(a, b, 30..63)).or_else(evaluations)
     };
     let component = |a: &Words, b: &Words| {
         let renumbered = kept.get(b[COMPONENT] as usize) == Some(&(a[COMPONENT] as usize));

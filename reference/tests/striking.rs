@@ -90,7 +90,10 @@ fn differences_are_found() {
             assert_eq!(difference(&long, &spoiled, &kept), compared(block, k).map(|at| (block, at)), "{block} {k}");
         }
     }
-    // Zeros of both signs are equal.
+    // Zeros of both signs are equal, but for the count of evaluations, which is no float.
     let zeros = |zero: f64| vec![[zero.to_bits(); 64]];
-    assert_eq!(difference(&zeros(0.0), &zeros(-0.0), &kept), None);
+    assert_eq!(difference(&zeros(0.0), &zeros(-0.0), &kept), Some((0, 38)));
+    let mut counted = zeros(-0.0);
+    counted[0][38] = 0;
+    assert_eq!(difference(&zeros(0.0), &counted, &kept), None);
 }

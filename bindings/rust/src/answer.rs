@@ -4,8 +4,8 @@ use std::fmt;
 
 use crate::block::{Block, Rule};
 use crate::format::answer::{
-    BALANCE, BUBBLE, DEW, INFERRED, ITERATIONS, LIQUID, LN_GAMMA, NOTES, OUTCOME, PRESSURE, REDUCED_GIBBS, REFUSAL,
-    RESIDUAL, SLOPES, STABLE, TASK, TEMPERATURE, TRIALS, VALIDITY, VAPOR, VAPOR_FRACTION,
+    BALANCE, BUBBLE, DEW, EVALUATIONS, INFERRED, ITERATIONS, LIQUID, LN_GAMMA, NOTES, OUTCOME, PRESSURE, REDUCED_GIBBS,
+    REFUSAL, RESIDUAL, SLOPES, STABLE, TASK, TEMPERATURE, TRIALS, VALIDITY, VAPOR, VAPOR_FRACTION,
 };
 use crate::format::{any, kind, note, outcome, task, trial, validity};
 use crate::{Kelvin, Pascal, Refusal, UpToEight};
@@ -197,6 +197,9 @@ pub struct Flash {
     pub phases: Phases,
     /// Trials of the liquid, where there is one.
     pub tested: Option<Stability>,
+    /// Activity evaluations, all ln γ at one composition, that it began: what it takes off the allowance of a
+    /// [`queue`](crate::queue). Never more than [`most_evaluations`](crate::most_evaluations).
+    pub evaluations: u64,
 }
 
 /// The split of a feed for given K values.
@@ -413,6 +416,7 @@ impl Reader<'_> {
             notes: Notes(head.word(NOTES)),
             phases,
             tested,
+            evaluations: head.word(EVALUATIONS),
         })
     }
 
@@ -456,7 +460,7 @@ mod tests {
     #[test]
     fn refusal_block_of_the_program() {
         assert_eq!(Answer::decode(&head(7).word(REFUSAL, 27).seal(), 2), Ok(Err(Refusal::NotConverged)));
-        assert_eq!(Answer::decode(&head(0).word(REFUSAL, 39).seal(), 2), Err(Malformed::Word(0, REFUSAL)));
+        assert_eq!(Answer::decode(&head(0).word(REFUSAL, 40).seal(), 2), Err(Malformed::Word(0, REFUSAL)));
     }
 
     #[test]
@@ -481,13 +485,14 @@ mod tests {
             .floats(TEMPERATURE, &floats)
             .word(ITERATIONS, 5)
             .floats(RESIDUAL, &[6.0, 7.0, 0.0]);
-        let block = block.word(TRIALS, 1).word(NOTES, 3).floats(LIQUID, &[0.75, 0.25]).word(STABLE, 1).seal();
+        let block = block.word(TRIALS, 1).word(NOTES, 3).floats(LIQUID, &[0.75, 0.25]).word(STABLE, 1);
+        let block = block.word(EVALUATIONS, 8).seal();
         let trial = Words::new(10).word(1, 1).float(2, 0.5).word(3, 9).word(4, 1).floats(5, &[0.1, 0.9]).seal();
         let Ok(Ok(Answer::TpFlash(found))) = Answer::decode(&[block, trial].concat(), 2) else { panic!("task 7") };
         assert_eq!((found.temperature, found.pressure), (Kelvin(1.0), Pascal(2.0)));
         assert_eq!((found.bubble, found.dew), (Pascal(3.0), Pascal(4.0)));
         assert_eq!((found.iterations, found.residual, found.balance, found.vapor_fraction), (5, 6.0, 7.0, 0.0));
-        assert_eq!(found.phases, Phases::Liquid([0.75, 0.25].into()));
+        assert_eq!((found.phases, found.evaluations), (Phases::Liquid([0.75, 0.25].into()), 8));
         let notes = found.notes;
         assert!(notes.gamma_phi() && notes.split_at_saturation_boundary() && !notes.liquid_tpd_finite_trials());
         assert_eq!(notes.bits(), 3);
@@ -505,6 +510,8 @@ mod tests {
         word(head(0), TASK);
         word(head(10), TASK);
         word(head(7), OUTCOME);
+        // A flash that is put off is no answer.
+        word(head(7).word(OUTCOME, 4), OUTCOME);
         word(head(8).word(OUTCOME, 4), OUTCOME);
         word(head(9).word(OUTCOME, 1), OUTCOME);
         word(head(1).word(VALIDITY, 3), VALIDITY);

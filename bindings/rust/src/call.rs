@@ -1,4 +1,4 @@
-//! The four calls of the core.
+//! The five calls of the core.
 
 use crate::Refusal;
 
@@ -43,6 +43,16 @@ extern "C" {
         question_len: usize,
         answer: *mut u8,
         answer_len: usize,
+    ) -> u64;
+
+    fn zektonk_queue(
+        book: *const u8,
+        book_len: usize,
+        questions: *const u8,
+        questions_len: usize,
+        allowance: u64,
+        answers: *mut u8,
+        answers_len: usize,
     ) -> u64;
 }
 
@@ -241,9 +251,61 @@ pub fn preview_bytes(book: &[u8], offered: &[u8], question: &[u8], answer: &mut 
     ended(number)
 }
 
+/// 1 to 64 flash questions, 512 bytes each, in order under one allowance of activity evaluations. One whose
+/// [`most_evaluations`](crate::most_evaluations) are left is run, and what it really began is taken off, answered or
+/// refused; any other is put off, and the next is tried. One that is refused ahead of its first evaluation takes
+/// nothing, whatever is left. What is said of [`answer_bytes`] holds of this call too.
+///
+/// Question k has the bytes of `answers` from [`ANSWER_ROOM`](crate::ANSWER_ROOM) × k on, as many as that: the blocks of
+/// its answer, one block with the number that refuses it, or one that says that it is put off, and the bytes behind
+/// these as they were. [`Queued::decode_by`](crate::Queued::decode_by) reads each of them.
+///
+/// # Errors
+///
+/// What ends the whole call, as a [`Refusal`]: the book's numbers; 39 where there are not 1 to 64 whole questions, or one
+/// that passes 11 has another task than 7; 10 where `answers` hasn't [`ANSWER_ROOM`](crate::ANSWER_ROOM) bytes for each.
+/// Every byte stays then.
+///
+/// # Panics
+///
+/// Where the core gives a number that is no refusal, which it is proved not to.
+///
+/// ```
+/// use zektonk::{queue_bytes, Queued, Refusal, ANSWER_ROOM};
+///
+/// let book = include_bytes!("../../../crates/still/data/book.bin");
+/// let question = include_bytes!("../../../crates/still/stdin");
+/// let expected = include_bytes!("../../../crates/still/stdout");
+/// // Each asks for (2 + 2) × 500 + 4, and takes less: with so much the second is put off.
+/// let both = [&question[..], question].concat();
+/// let mut room = [0; 2 * ANSWER_ROOM];
+/// queue_bytes(book, &both, 2004, &mut room)?;
+/// assert_eq!(&room[..expected.len()], expected);
+/// assert_eq!(Queued::decode(&room[ANSWER_ROOM..], 2), Ok(Queued::PutOff));
+/// assert_eq!(queue_bytes(book, &both[1..], 2004, &mut room), Err(Refusal::QueueQuestions));
+/// assert_eq!(queue_bytes(book, &both, 2004, &mut room[1..]), Err(Refusal::AnswerShort));
+/// # Ok::<(), Refusal>(())
+/// ```
+pub fn queue_bytes(book: &[u8], questions: &[u8], allowance: u64, answers: &mut [u8]) -> Result<(), Refusal> {
+    // SAFETY: as above.
+    #[allow(unsafe_code)]
+    let number = unsafe {
+        zektonk_queue(
+            book.as_ptr(),
+            book.len(),
+            questions.as_ptr(),
+            questions.len(),
+            allowance,
+            answers.as_mut_ptr(),
+            answers.len(),
+        )
+    };
+    ended(number)
+}
+
 fn ended(number: u64) -> Result<(), Refusal> {
     match number {
         0 => Ok(()),
-        _ => Err(Refusal::from_number(number).expect("the core refuses with 1 to 38")),
+        _ => Err(Refusal::from_number(number).expect("the core refuses with 1 to 39")),
     }
 }

@@ -155,6 +155,7 @@ named! {
         VALIDITY = 35 "The temperature against the regression intervals"
         INFERRED = 36 "Whether one of these was inferred"
         STABLE = 37 "Whether the liquid passed its trials"
+        EVALUATIONS = 38 "Activity evaluations that a flash began"
     }
 }
 
@@ -202,6 +203,7 @@ named! {
         LIQUID = 1 "All liquid"
         VAPOR = 2 "All vapor"
         LIQUID_AND_VAPOR = 3 "Both"
+        PUT_OFF = 4 "A question of a queue that wasn't run"
     }
 }
 

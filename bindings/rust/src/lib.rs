@@ -23,7 +23,8 @@
 //!
 //! Drums that are tipped into one charge are [`Drum`]s, counts of micromoles: [`pooled`] puts a task to their pool. Up to
 //! 64 feeds at one temperature go into one call by [`feeds`], and each has its own answer or refusal. A pair is tried
-//! before it is entered by [`preview`]: an [`Offered`] one stands in for the book's own, and the book stays as it is.
+//! before it is entered by [`preview`]: an [`Offered`] one stands in for the book's own, and the book stays as it is. A
+//! shift's flash questions go by [`queue`] under one allowance of work; what doesn't fit is put off.
 //!
 //! This side tests that feed and K values have an entry for each solvent of the book, and nothing else: what a question
 //! says goes to the core as it is, and the core answers it or refuses with one of its numbers. What a changed rounding
@@ -40,6 +41,7 @@ mod feeds;
 pub mod format;
 mod preview;
 mod question;
+mod queue;
 mod refusal;
 mod tasks;
 mod up_to_eight;
@@ -51,11 +53,12 @@ pub use block::{Block, Rule, Words, BLOCK};
 pub use book::{
     Book, Builder, Correlation, Incomplete, Interval, Model, Pair, Solvent, Term, WilsonPair, BOOK_LARGEST, BOOK_MOST,
 };
-pub use call::{answer_bytes, feeds_bytes, pooled_bytes, preview_bytes};
+pub use call::{answer_bytes, feeds_bytes, pooled_bytes, preview_bytes, queue_bytes};
 pub use drum::{pooled, Drum, DRUMS_MOST, DRUM_BYTES, POOL_MOST};
 pub use feeds::{feeds, FEEDS_MOST, FEED_BYTES};
 pub use preview::{preview, Offered};
 pub use question::{Feed, Kelvin, Options, Pascal, Question, Task};
+pub use queue::{most_evaluations, queue, Queued, QUEUE_MOST};
 pub use refusal::Refusal;
 pub use tasks::{
     bubble_pressure, bubble_temperature, dew_pressure, dew_temperature, excess_at, liquid_stability, rachford_rice,

@@ -1,4 +1,4 @@
-//! The numbers that a call or a feed is refused with, 1 to 38, and what this crate refuses before it.
+//! The numbers that a call, a feed or a queued question is refused with, 1 to 39, and what this crate refuses before it.
 
 use std::fmt;
 
@@ -32,9 +32,9 @@ macro_rules! refusals {
 
         impl Refusal {
             /// The core's, in order.
-            pub const ALL: [Self; 38] = [$(Self::$name),*];
+            pub const ALL: [Self; 39] = [$(Self::$name),*];
 
-            /// The core's number, 1 to 38; none of what this crate refuses before the call.
+            /// The core's number, 1 to 39; none of what this crate refuses before the call.
             #[must_use]
             pub fn number(self) -> Option<u64> {
                 match self {
@@ -50,7 +50,7 @@ macro_rules! refusals {
             ///
             /// assert_eq!(Refusal::from_number(18), Some(Refusal::FractionSum));
             /// assert_eq!(Refusal::FractionSum.number(), Some(18));
-            /// assert_eq!((Refusal::from_number(0), Refusal::from_number(39)), (None, None));
+            /// assert_eq!((Refusal::from_number(0), Refusal::from_number(40)), (None, None));
             /// ```
             #[must_use]
             pub fn from_number(number: u64) -> Option<Self> {
@@ -88,7 +88,7 @@ refusals! {
     7 PairBlock "a pair's kind, places or flags are wrong"
     8 PairNumber "a pair's numbers are not finite"
     9 PairAlphas "the two alphas of a pair differ"
-    10 AnswerShort "the answer slice is shorter than 4,608 bytes, or than that for each feed"
+    10 AnswerShort "the answer slice is shorter than 4,608 bytes, or than that for each feed or queued question"
     11 QuestionBlock "the question is not 512 bytes, or its check or kind is wrong"
     12 Task "the task is none of 1 to 9, or with many feeds none of 1, 2, 3, 6 and 7"
     13 Temperature "the temperature is not finite and positive"
@@ -117,6 +117,7 @@ refusals! {
     36 FeedKind "the feed is by mass and the book has no molar masses or there are drums, or by neither moles nor mass"
     37 BookModel "the book's model is neither NRTL nor, from version 2 on, Wilson"
     38 BookVersion "the book's version is none of 1 to 3"
+    39 QueueQuestions "there are not 1 to 64 whole questions in the queue, or one of them has another task than the flash"
 }
 
 impl std::error::Error for Refusal {}
@@ -126,12 +127,12 @@ mod tests {
     use super::*;
 
     #[test]
-    fn numbers_are_1_to_38() {
-        for (number, refusal) in (1..=38).zip(Refusal::ALL) {
+    fn numbers_are_1_to_39() {
+        for (number, refusal) in (1..=39).zip(Refusal::ALL) {
             assert_eq!(refusal.number(), Some(number));
             assert_eq!(Refusal::from_number(number), Some(refusal));
         }
-        assert!([0, 39, u64::MAX].iter().all(|number| Refusal::from_number(*number).is_none()));
+        assert!([0, 40, u64::MAX].iter().all(|number| Refusal::from_number(*number).is_none()));
     }
 
     #[test]

@@ -4,7 +4,7 @@
 use zektonk::format;
 use zektonk::{
     Options, Refusal, ANSWER_ROOM, BLOCK, BOOK_LARGEST, BOOK_MOST, DRUMS_MOST, DRUM_BYTES, FEEDS_MOST, FEED_BYTES,
-    POOL_MOST, VERSION,
+    POOL_MOST, QUEUE_MOST, VERSION,
 };
 
 const HEADER: &str = include_str!("../../c/zektonk.h");
@@ -98,6 +98,7 @@ fn sizes_and_version() {
         ("DRUMS_MOST", DRUMS_MOST),
         ("FEED_BYTES", FEED_BYTES),
         ("FEEDS_MOST", FEEDS_MOST),
+        ("QUEUE_MOST", QUEUE_MOST),
     ] {
         assert_eq!(defined(name), value.to_string(), "{name}");
     }

@@ -1,6 +1,6 @@
 -- The ways through a call on many feeds, each by the function that takes it. Assumes nothing.
 use Prim.Native.Nat.{ℕ, ◌+◌, ◌*◌, ◌-◌, ◌%◌, ◌≤◌, ◌<◌}
-use mathlib.Core.Path.{◌≡◌, refl, sym, ◌∙◌}
+use mathlib.Core.Path.{◌≡◌, sym}
 use mathlib.Core.Bool.{Bool, true, false, ◌&&◌, true≢false}
 use mathlib.Core.List.{List}
 use native.Mathlib.Nat.{min-eq_left}
@@ -12,18 +12,16 @@ use lib.ListN.{length, take, drop}
 use lib.Ieee.{Float}
 use lib.Ieee.Bits.{is_true}
 use Rattle.std.specs.Prelude.{Some, None, Result, Ok, Err}
-use Rattle.std.specs.Result.{IsErrAnd}
 use Rattle.floats.specs.Small.{float}
 use Rattle.floats.specs.Vector.{places, vec}
 use Rattle.floats.specs.Outcome.{Out, ok, no, bind, need}
-use Rattle.floats.proofs.Outcomes.{need_inv, bind_inv, Each, each-ok, each-need, each-bind}
+use Rattle.floats.proofs.Outcomes.{need_inv, bind_inv}
 use Rattle.outcome.specs.declared.Refusal.{Refusal}
 use Rattle.outcome.specs.Refused.{number, number_in}
 use Rattle.blocks.specs.declared.Rule.{Rule}
 use Rattle.blocks.specs.Words.{word}
 use Rattle.blocks.specs.Bytes.{put, stored}
 use Rattle.book.specs.declared.Head.{Head}
-use Rattle.book.specs.declared.Model.{Model}
 use Rattle.book.specs.Places.{words}
 use Rattle.book.specs.Book.{molar_mass, model_of, book_of, rule_of}
 use Rattle.book.proofs.Accepted.{accepted}
@@ -31,15 +29,17 @@ use Rattle.thermo_models.specs.declared.Tabled.{Tabled}
 use Rattle.thermo_models.specs.Mixture.{Mixture}
 use Rattle.question.specs.declared.Question.{Question}
 use Rattle.question.specs.Inputs.{needs_temperature}
-use Rattle.question.specs.Asked.{task_in, inputs_right, moles_of, limits_right, question_from, rest_of}
+use Rattle.question.specs.Asked.{task_in, rest_of}
+use Rattle.question.proofs.Asks.{Reads, reads, task-read}
 use Rattle.replies.specs.Blocks.{answer_room, refusal_bytes}
 use Rattle.sheet.specs.Ready.{Readied}
-use Rattle.sheet.specs.Sheet.{answer_to, Answers, number_of, written, reply_of}
+use Rattle.sheet.specs.Sheet.{answer_to, Answers, reply_of}
+use Rattle.sheet.proofs.Parts.{parts-turn}
 use Rattle.refusals.specs.Numbered.{Numbered}
-use Rattle.refusals.proofs.Laws.{never, numbers}
+use Rattle.refusals.proofs.Laws.{numbers}
+use Rattle.refusals.proofs.Replied.{answered, refuses}
 use Rattle.refusals.proofs.Theorem.{num_task_in, num_rest, num_answer}
-use Rattle.batch.specs.Feeds.{feed_count, feeds_right, feed_at, task_among, feed_to, feed_reply, parts_to, feeds_of, slice_of, Keeps}
-use Rattle.batch.proofs.Parts.{parts-turn, refusal-put}
+use Rattle.batch.specs.Feeds.{feed_count, feeds_right, feed_at, task_among, feed_to, feed_reply, parts_to, feeds_of, Keeps}
 
 -- whether there is a task: what comes after it doesn't read it
 abbrev passed : Out ℕ → Out (Unit {0})
@@ -50,29 +50,6 @@ unfolding bind
 whatever_task (ok k) p e = rw e
 whatever_task (no k) p e = rw e
 
--- ---- what the solvers read of the question's words, whatever the feed
-record Reads (w : ℕ → ℕ) (q : Question) : Type 0 where
-  task : q.task ≡ w 1
-  temperature : q.temperature ≡ float w 2
-  pressure : q.pressure ≡ float w 3
-
-reads : (question : List ℕ) (m : ℕ → Float) (n : ℕ) (x : List Float) → Each (Reads (word question)) (rest_of question m n x)
-unfolding rest_of inputs_right limits_right question_from
-reads question m n x =
-    let R = Reads (word question) in
-    each-need R _ 13 (each-need R _ 14 (each-need R _ 15 (each-need R _ 16 (each-need R _ 17 (each-need R _ 18
-    (each-bind R (moles_of (word question) m n x) _ (λ z e.
-    each-need R _ 19 (each-need R _ 20 (each-need R _ 21 (each-ok R (record { task = refl; temperature = refl; pressure = refl })))))))))))
-
-task-read : (rule : Rule) (question : List ℕ) {k : ℕ} → task_in rule question ≡ ok k → k ≡ word question 1
-unfolding task_in
-task-read rule question {k} e =
-    let a = need_inv _ 11 _ e in
-    let b = need_inv _ 11 _ a.1 in
-    let c = need_inv _ 11 _ b.1 in
-    let d = need_inv _ 12 _ c.1 in
-    cc d.1
-
 among-warm : (book : List ℕ) (version : ℕ) (question : List ℕ) → ok tt ≡ passed (task_among book version question) → needs_temperature (word question 1) ≡ true
 unfolding task_among
 among-warm book version question e =
@@ -80,23 +57,6 @@ among-warm book version question e =
     let a = bind_inv (task_in (rule_of book) question) _ t.1 in
     let b = need_inv (needs_temperature a.0) 12 _ a.2 in
     rw (task-read (rule_of book) question a.1) at (is_true (needs_temperature a.0) b.0)
-
--- ---- a reply at the front of a part
-front : (old bs : List ℕ) {new : List ℕ} → new ≡ written (ok bs) old → new ≡ put old 0 bs
-unfolding written
-front old bs e = let z : 0 + length bs ≡ length bs = omega arith in e ∙ rw z
-
-module _ (rule : Rule) (question : List ℕ) {old mid : List ℕ} where
-  answered : {M : Model} (o : Out (List ℕ)) → Numbered M o → Answers o 0 old mid → mid ≡ put old 0 (reply_of rule question o)
-  unfolding reply_of number_of
-  answered (ok bs) h a = front old bs a.bytes
-  answered (no k) h a = absurd (rw (sym a.number) at (h.number k refl))
-
-  refuses : (o : Out (List ℕ)) (e : Refusal) {new : List ℕ} → Answers o (number e) old mid → answer_room ≤ length old → new ≡ stored mid 0 (refusal_bytes rule question (number e))
-      → new ≡ put old 0 (reply_of rule question o)
-  unfolding reply_of number_of written
-  refuses (ok bs) e a l h = absurd (never e a.number)
-  refuses (no k) e a l h = h ∙ rw (a.bytes, a.number) (refusal-put rule question k old l)
 
 -- ---- a feed x
 numbered : (book : List ℕ) (version n : ℕ) (question : List ℕ) (x : List Float) → Numbered (model_of book) (feed_to book version n question x)
@@ -159,19 +119,6 @@ unfolding parts_to feed_reply feed_at
 feeds_turn book version n question feeds old out k u f e h = parts-turn (feed_reply book version n question feeds) k old out (rw (u, f) at e) h
 
 -- ---- the call
-module _ {o : Out (List ℕ)} {old : List ℕ} where
-  pub ends : {k : ℕ} → o ≡ no k → (k ≡ number_of o) × (old ≡ slice_of o old)
-  unfolding number_of slice_of
-  ends e = (rw e, rw e)
-
-  pub ends_exit : (e : Refusal) (r : Result Unit Refusal) → IsErrAnd r (λ y. y ≡ e) → o ≡ no (number e) → (number_in r ≡ number_of o) × (old ≡ slice_of o old)
-  ends_exit e (Err y) h q = rw h (ends q)
-  ends_exit e (Ok a) h q = absurd h
-
-pub leaves : (old : List ℕ) {o : Out (List ℕ)} {new : List ℕ} → o ≡ ok new → (0 ≡ number_of o) × (new ≡ slice_of o old)
-unfolding number_of slice_of
-leaves old e = (rw e, rw e)
-
 module _ (book question feeds old : List ℕ) {h : Head} (o : ok h ≡ book_of book) where
   pub room-no : true ≡ feeds_right feeds → length old < answer_room * feed_count feeds → feeds_of book question feeds old ≡ no 10
   unfolding feeds_of bind need

@@ -63,11 +63,6 @@ feeds_of book question feeds old =
     (need (leb (answer_room * feed_count feeds) (length old)) 10
     (ok (parts_to book h.version h.n question feeds old (feed_count feeds)))))
 
--- the slice that a call leaves: as it was with a refusal
-unfoldable pub slice_of : Out (List ℕ) → List ℕ → List ℕ
-slice_of (ok new) old = new
-slice_of (no r) old = old
-
 -- what is kept from feed to feed: a table to fill; once made, it is ready for the question's task, T and p
 pub record Keeps (m : Mixture) (question : List ℕ) (kept : Option (Result Tabled Refusal)) (table ps : List Float) : Type 0 where
   pub room : kept ≡ None → length table ≡ 512

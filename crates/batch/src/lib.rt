@@ -11,8 +11,8 @@ ghost use Rattle.blocks.specs.Words.{word};
 ghost use Rattle.thermo_models.specs.Mixture.{mixture_of};
 ghost use Rattle.replies.specs.Blocks.{answer_room};
 ghost use Rattle.sheet.specs.Ready.{Readied};
-ghost use Rattle.sheet.specs.Sheet.{Answers, number_of};
-ghost use Rattle.batch.specs.Feeds.{feed_count, feeds_right, task_among, feed_to, parts_to, feeds_of, slice_of, Keeps};
+ghost use Rattle.sheet.specs.Sheet.{Answers, number_of, slice_of};
+ghost use Rattle.batch.specs.Feeds.{feed_count, feeds_right, task_among, feed_to, parts_to, feeds_of, Keeps};
 
 use blocks::word;
 use book::{Head, float_at};

@@ -49,7 +49,7 @@ refusal-fits : (rule : Rule) (q : List ℕ) (r : ℕ) → length (refusal_bytes 
 unfolding refusal_bytes
 refusal-fits rule q r = rw (length_block-bytes rule _) (omega arith)
 
-reply-fits : (book q : List ℕ) → length (reply_to book q) ≤ answer_room
+pub reply-fits : (book q : List ℕ) → length (reply_to book q) ≤ answer_room
 unfolding reply_to reply_of
 reply-fits book q = go (sheet_of book q answer_room) refl
   where

@@ -17,11 +17,11 @@ use Rattle.batches.specs.Alone.{task_for}
 use Rattle.batches.specs.Numbered.{FeedsRefusals, ZeroIsParts}
 
 -- ---- an outcome whose number, if it is a refusal, is one of P
-record Among {A : Type 0} (P : ℕ → Type 0) (o : Out A) : Type 0 where
-  number : (r : ℕ) → o ≡ no r → P r
+pub record Among {A : Type 0} (P : ℕ → Type 0) (o : Out A) : Type 0 where
+  pub number : (r : ℕ) → o ≡ no r → P r
 
 module _ {P : ℕ → Type 0} where
-  among-ok : {A : Type 0} (a : A) → Among P (ok a)
+  pub among-ok : {A : Type 0} (a : A) → Among P (ok a)
   among-ok a = record { number = λ r e. absurd (outcomes.refused (sym e)) }
 
   among-no : {A : Type 0} (r : ℕ) → P r → Among {A = A} P (no r)
@@ -30,12 +30,12 @@ module _ {P : ℕ → Type 0} where
       same : (s : ℕ) → ◌≡◌ {A = Out A} (no r) (no s) → P s
       same s e = let q : r ≡ s = cc in rw q at p
 
-  among-need : {A : Type 0} (b : Bool) (r : ℕ) {o : Out A} → P r → Among P o → Among P (need b r o)
+  pub among-need : {A : Type 0} (b : Bool) (r : ℕ) {o : Out A} → P r → Among P o → Among P (need b r o)
   unfolding need
   among-need true r p h = h
   among-need false r p h = among-no r p
 
-  among-bind : {A B : Type 0} (o : Out A) {k : A → Out B} → ((r : ℕ) → o ≡ no r → P r) → ((a : A) → Among P (k a)) → Among P (bind o k)
+  pub among-bind : {A B : Type 0} (o : Out A) {k : A → Out B} → ((r : ℕ) → o ≡ no r → P r) → ((a : A) → Among P (k a)) → Among P (bind o k)
   unfolding bind
   among-bind (ok a) h f = f a
   among-bind (no r) h f = among-no r (h r refl)

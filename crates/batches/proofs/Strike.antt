@@ -17,13 +17,13 @@ use Rattle.batches.specs.Alone.{task_for, part}
 use Rattle.batches.specs.Striking.{AsksAlone, FeedDemand3}
 use Rattle.batches.proofs.Alone.{taken, feeds_alone}
 
-accepted-is : {A : Type 0} (o : Out A) → Accepted o → (a : A) × (o ≡ ok a)
+pub accepted-is : {A : Type 0} (o : Out A) → Accepted o → (a : A) × (o ≡ ok a)
 unfolding Accepted
 accepted-is (ok a) h = (a, refl)
 accepted-is (no r) h = absurd h
 
 -- an accepted call writes its reply
-after-reply : (book r old : List ℕ) → length old ≡ answer_room → Accepted (sheet_of book r answer_room) → after book r old ≡ put old 0 (reply_to book r)
+pub after-reply : (book r old : List ℕ) → length old ≡ answer_room → Accepted (sheet_of book r answer_room) → after book r old ≡ put old 0 (reply_to book r)
 unfolding reply_to reply_of written
 after-reply book r old long took = let o = accepted-is (sheet_of book r answer_room) took in rw (long, o.1, zero-add)
 

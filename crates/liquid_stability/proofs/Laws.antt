@@ -7,6 +7,7 @@ use native.Mathlib.Nat.{zero-add, suc-add}
 use native.Mathlib.Numerals.{add-one}
 use native.Mathlib.Omega.{arith}
 use lib.Dec.{T, ltb, le→leb}
+use borrow.Author.Tests.{lt-ltb, le-ltb}
 use lib.IntN.{pos}
 use lib.Ieee.{Float, nan, binary64, lt, le, of_int, in_float}
 use Rattle.std.specs.Prelude.{Result, Ok, Err}
@@ -16,9 +17,11 @@ use Rattle.floats.specs.Arithmetic.{◌⊕◌, ◌⊘◌, 0f}
 use Rattle.floats.specs.Small.{is_finite}
 use Rattle.floats.specs.Fold.{fold_to, active}
 use Rattle.floats.specs.Vector.{at, vec, zeros8}
-use Rattle.floats.specs.Outcome.{Out, ok, no, bind, need, choose}
+use Rattle.floats.specs.Outcome.{Out, ok, no, bind}
 use Rattle.floats.proofs.Folds.{fold_cong}
 use Rattle.floats.proofs.Fills.{fill-at, fill_cong}
+use Rattle.counted.specs.Counted.{Counted, uncounted, evaluated, begun_before, go_on, bind_counted, need_counted, choose_counted, count_word, Counts}
+use Rattle.counted.proofs.Laws.{counts_none, counts_one, counts_next, counts_stop, counts_first, counts_second}
 use Rattle.numerics.specs.Numerics.{exp_of}
 use Rattle.outcome.specs.Refused.{number, outcome_of}
 use Rattle.outcome.specs.declared.Refusal.{Refusal}
@@ -26,7 +29,8 @@ use Rattle.outcome.specs.declared.Refusal.TheVariants.{ResultNotFinite}
 use Rattle.thermo_types.specs.declared.ActivityOptions.{ActivityOptions}
 use Rattle.thermo_models.specs.Model.{Activity}
 use Rattle.liquid_stability.specs.declared.LiquidStabilityTrial.{LiquidStabilityTrial}
-use Rattle.liquid_stability.specs.Stability.{trivial_distance, ln_w_tolerance, present_count, start_of, others_in, total_of, trial_composition, distance_of, next_of, change_of, apart_of, unstable, trial_with, tangent, Trials, no_trials, with_trial, judge, trial_from, trials_to, stability_of}
+use Rattle.liquid_stability.specs.Stability.{trivial_distance, ln_w_tolerance, present_count, start_of, others_in, total_of, trial_composition, distance_of, next_of, change_of, apart_of, unstable, trial_with, tangent, Trials, no_trials, with_trial}
+use Rattle.liquid_stability.specs.Counted.{judge_counted, trial_counted, trials_counted, stability_counted}
 use Rattle.liquid_stability.specs.Steps.{amounts_of, after, TrialTurn}
 
 -- ---- the solvents present
@@ -71,9 +75,10 @@ module _ (x lnW : List Float) (n : ℕ) (h : n ≤ 8) {big : List Float} (pb : b
   unfolding trial_composition
   composition-is {s} {w} e q = q ∙ fill_cong _ _ n zeros8 (λ k l. at-present (lt 0f (at x k)) 0f (λ t. rw (amount-at k l t, total-is e)))
 
--- ---- what only asks for ln γ of an outcome
-by_ln_gamma : {B : Type 0} (o : Out Activity) (k : List Float → Out B) → bind o (λ a. k a.ln_gamma) ≡ bind (bind o (λ a. ok a.ln_gamma)) k
-unfolding bind
+-- ---- what only asks for ln γ of an evaluation
+by_ln_gamma : {B : Type 0} (o : Out Activity) (k : List Float → Counted B)
+    → bind_counted (evaluated o) (λ a. k a.ln_gamma) ≡ bind_counted (evaluated (bind o (λ a. ok a.ln_gamma))) k
+unfolding bind bind_counted evaluated go_on
 by_ln_gamma (ok a) k = refl
 by_ln_gamma (no r) k = refl
 
@@ -91,25 +96,25 @@ not-trivial threshold tm true e = by_cases (lt tm threshold) e
 module _ (E : List Float → Out Activity) (threshold : Float) (n : ℕ) (h : n ≤ 8) (x d lnW : List Float) (j iteration : ℕ) {big w : List Float} {s : Float}
     (pb : big ≡ amounts_of x lnW n) (ps : s ≡ fold_to (active (at x) (λ i a. a ⊕ at big i)) 0f n)
     (pw : w ≡ vec (λ i. cond (lt 0f (at x i)) (at big i ⊘ s) 0f) n) where
-  rest : (left done : ℕ) → List Float → Out LiquidStabilityTrial
-  rest left done lg = judge threshold (distance_of x lnW lg d n) (change_of x lnW lg d n) (le (apart_of x w n) trivial_distance)
-      (trial_with j (distance_of x lnW lg d n) w (suc done)) (trial_from E threshold n x d j left (suc done) (next_of d lg n))
+  rest : (left done : ℕ) → List Float → Counted LiquidStabilityTrial
+  rest left done lg = judge_counted threshold (distance_of x lnW lg d n) (change_of x lnW lg d n) (le (apart_of x w n) trivial_distance)
+      (trial_with j (distance_of x lnW lg d n) w (suc done)) (trial_counted E threshold n x d j left (suc done) (next_of d lg n))
 
   -- the definition goes on from ln γ
   goes_on : {o : Out (List Float)} → o ≡ bind (E w) (λ a. ok a.ln_gamma) → (left done : ℕ)
-      → trial_from E threshold n x d j (suc left) done lnW ≡ bind o (rest left done)
-  unfolding trial_from judge rest
+      → trial_counted E threshold n x d j (suc left) done lnW ≡ bind_counted (evaluated o) (rest left done)
+  unfolding trial_counted rest
   goes_on e left done = rw (← composition-is x lnW n h pb ps pw, e) (by_ln_gamma (E w) (rest left done))
 
   pub turn-refused : (e : Refusal) {r : Result (ControlFlow LiquidStabilityTrial (List Float)) Refusal} → no (number e) ≡ bind (E w) (λ a. ok a.ln_gamma) → outcome_of r ≡ no (number e)
       → TrialTurn E threshold n x d j iteration lnW r
-  unfolding bind
+  unfolding bind_counted evaluated go_on
   turn-refused e p q = record { goes = λ left done i. rw q (goes_on p left done) }
 
   module _ {lg : List Float} (p : ok lg ≡ bind (E w) (λ a. ok a.ln_gamma)) {tm change apart : Float}
       (pd : tm ≡ distance_of x lnW lg d n) (pc : change ≡ change_of x lnW lg d n) (pa : apart ≡ apart_of x w n) where
     pub turn-infinite : false ≡ is_finite tm → TrialTurn E threshold n x d j iteration lnW (Err ResultNotFinite)
-    unfolding bind rest judge need
+    unfolding bind_counted evaluated go_on begun_before rest judge_counted need_counted uncounted
     turn-infinite f = record { goes = λ left done i. rw (goes_on p left done, ← pd, ← f) }
 
     abbrev trivial : Bool
@@ -119,81 +124,108 @@ module _ (E : List Float → Out Activity) (threshold : Float) (n : ℕ) (h : n 
     found b = trial_with j tm w iteration b
 
     module _ (f : true ≡ is_finite tm) where
-      turned : (left done : ℕ) → iteration ≡ suc done → trial_from E threshold n x d j (suc left) done lnW
-          ≡ choose (unstable threshold tm trivial) (ok (found false)) (choose (le change ln_w_tolerance) (ok (found trivial)) (trial_from E threshold n x d j left (suc done) (next_of d lg n)))
-      unfolding bind rest judge need
+      turned : (left done : ℕ) → iteration ≡ suc done → trial_counted E threshold n x d j (suc left) done lnW
+          ≡ begun_before 1
+          (choose_counted (unstable threshold tm trivial)
+          (uncounted (ok (found false)))
+          (choose_counted (le change ln_w_tolerance) (uncounted (ok (found trivial))) (trial_counted E threshold n x d j left (suc done) (next_of d lg n))))
+      unfolding bind_counted evaluated go_on rest judge_counted need_counted
       turned left done i = rw (goes_on p left done, ← pd, ← pc, ← pa, ← f, i)
 
       pub turn-unstable : true ≡ unstable threshold tm trivial → TrialTurn E threshold n x d j iteration lnW (Ok (Break (found trivial)))
-      unfolding bind after choose
+      unfolding bind_counted evaluated go_on after choose_counted
       turn-unstable u = let t = not-trivial threshold tm trivial u in record { goes = λ left done i. rw (turned left done i, ← u, ← t) }
 
       module _ (u : false ≡ unstable threshold tm trivial) where
         pub turn-converged : le change ln_w_tolerance ≡ true → TrialTurn E threshold n x d j iteration lnW (Ok (Break (found trivial)))
-        unfolding bind after choose
+        unfolding bind_counted evaluated go_on after choose_counted
         turn-converged c = record { goes = λ left done i. rw (turned left done i, ← u, c) }
 
         pub turn-on : le change ln_w_tolerance ≡ false → {nx : List Float} → nx ≡ next_of d lg n → TrialTurn E threshold n x d j iteration lnW (Ok (Continue nx))
-        unfolding bind after choose
+        unfolding bind_counted evaluated go_on after choose_counted
         turn-on c pn = record { goes = λ left done i. rw (turned left done i, ← u, c, ← pn) }
 
 -- ---- a trial
 module _ (E : List Float → Out Activity) (threshold : Float) (n : ℕ) (x d : List Float) (j : ℕ) where
-  abbrev run : ℕ → ℕ → List Float → Out LiquidStabilityTrial
-  run left done lnW = trial_from E threshold n x d j left done lnW
+  abbrev run : ℕ → ℕ → List Float → Counted LiquidStabilityTrial
+  run left done lnW = trial_counted E threshold n x d j left done lnW
 
-  -- the loop after `done` turns of at most `limit`: what is left to run from here is the whole run W
-  module _ (limit done : ℕ) (lnW : List Float) {W : Out LiquidStabilityTrial} (whole : trial_from E threshold n x d j (limit - done) done lnW ≡ W) where
-    pub trial_out : limit ≤ done → no 27 ≡ W
-    unfolding trial_from
+  -- the loop after `done` turns of at most `limit`, from a count at `old`, now at `now`: with what is left to run from here it is the whole run W
+  pub record TrialLeft (limit done : ℕ) (lnW : List Float) (old now : ℕ) (W : Counted LiquidStabilityTrial) : Type 0 where
+    pub all : (o : Out LiquidStabilityTrial) (new : ℕ) → Counts now o new (trial_counted E threshold n x d j (limit - done) done lnW) → Counts old o new W
+
+  module _ (limit done : ℕ) (lnW : List Float) {old now : ℕ} {W : Counted LiquidStabilityTrial} (h : TrialLeft limit done lnW old now W) where
+    pub trial_out : limit ≤ done → Counts old (no 27) now W
+    unfolding trial_counted
     trial_out l =
         let z : limit - done ≡ 0 = omega arith in
-        rw z at whole
+        h.all (no 27) now (rw z (counts_none refl))
 
-    pub trial_on : done < limit → {r : Result (ControlFlow LiquidStabilityTrial (List Float)) Refusal} → TrialTurn E threshold n x d j (done + 1) lnW r
-        → bind (outcome_of r) (after (run (limit - (done + 1)) (done + 1))) ≡ W
-    trial_on l ps =
-        let z : limit - done ≡ suc (limit - suc done) = omega arith in
-        rw (add-one done) (sym (ps.goes (limit - suc done) done (add-one done)) ∙ rw z at whole)
+    -- the next turn begins one
+    module _ (l : done < limit) {mid : ℕ} (b : mid ≡ count_word (now + 1)) where
+      by_turn : {r : Result (ControlFlow LiquidStabilityTrial (List Float)) Refusal} → TrialTurn E threshold n x d j (done + 1) lnW r
+          → (o : Out LiquidStabilityTrial) (new : ℕ) → Counts now o new (bind_counted (evaluated (outcome_of r)) (after (run (limit - (done + 1)) (done + 1))))
+          → Counts old o new W
+      by_turn ps o new g =
+          let z : limit - done ≡ suc (limit - (done + 1)) = omega arith in
+          let s : done + 1 ≡ suc done = add-one done in
+          h.all o new (rw (z, ps.goes (limit - (done + 1)) done s, ← s) g)
 
-  pub trial-start : (limit : ℕ) (lnW : List Float) {l : List Float} → l ≡ lnW
-      → trial_from E threshold n x d j (limit - 0) 0 l ≡ trial_from E threshold n x d j limit 0 lnW
-  trial-start limit lnW e =
+      pub trial-refused : {e : Refusal} → TrialTurn E threshold n x d j (done + 1) lnW (Err e) → Counts old (no (number e)) mid W
+      trial-refused {e} ps = by_turn ps (no (number e)) mid (counts_stop _ (counts_one b refl))
+
+      module _ {t : ControlFlow LiquidStabilityTrial (List Float)} (ps : TrialTurn E threshold n x d j (done + 1) lnW (Ok t)) where
+        pub trial-found : {a : LiquidStabilityTrial} → t ≡ Break a → Counts old (ok a) mid W
+        unfolding after
+        trial-found {a} e = by_turn ps (ok a) mid (rw e (counts_next _ (counts_one b refl) (counts_none refl)))
+
+        pub trial-more : {nx : List Float} → t ≡ Continue nx → TrialLeft limit (done + 1) nx old mid W
+        unfolding after
+        trial-more e = record { all = λ o new g. by_turn ps o new (rw e (counts_next _ (counts_one b refl) g)) }
+
+  pub trial-start : (limit : ℕ) (lnW : List Float) {l : List Float} (old : ℕ) → l ≡ lnW → TrialLeft limit 0 l old old (trial_counted E threshold n x d j limit 0 lnW)
+  trial-start limit lnW old e =
       let z : limit - 0 ≡ limit = omega arith in
-      rw (z, e)
+      record { all = λ o new g. rw (z, e) at g }
 
 -- ---- the trials
 module _ (E : List Float → Out Activity) (n : ℕ) (o : ActivityOptions) (x d : List Float) where
-  abbrev runs : ℕ → Out Trials
-  runs k = trials_to E n o x d k
+  abbrev runs : ℕ → Counted Trials
+  runs k = trials_counted E n o x d k
 
-  abbrev tried : ℕ → Out LiquidStabilityTrial
-  tried k = trial_from E o.tm_threshold n x d k o.max_iterations 0 (start_of x n k)
+  abbrev tried : ℕ → Counted LiquidStabilityTrial
+  tried k = trial_counted E o.tm_threshold n x d k o.max_iterations 0 (start_of x n k)
 
-  stays : (k r : ℕ) → runs k ≡ no r → runs (suc k) ≡ no r
-  unfolding trials_to bind
-  stays k r e = rw e
+  pub trials-none : {old : ℕ} → Counts old (ok no_trials) old (trials_counted E n o x d 0)
+  unfolding trials_counted
+  trials-none = counts_none refl
 
-  stays_to : (k m r : ℕ) → runs k ≡ no r → runs (m + k) ≡ no r
-  stays_to k zero r e = rw (zero-add k) e
-  stays_to k (suc m) r e = rw (suc-add m k) (stays (m + k) r (stays_to k m r e))
+  module _ {old new r : ℕ} where
+    stays : (k : ℕ) → Counts old (no r) new (runs k) → Counts old (no r) new (runs (suc k))
+    unfolding trials_counted
+    stays k h = counts_stop _ h
 
-  module _ (k : ℕ) {s : Trials} (h : trials_to E n o x d k ≡ ok s) where
-    pub trials_skip : lt 0f (at x k) ≡ false → trials_to E n o x d (k + 1) ≡ ok s
-    unfolding trials_to bind choose
-    trials_skip t = rw (add-one, h, t)
+    stays_to : (k m : ℕ) → Counts old (no r) new (runs k) → Counts old (no r) new (runs (m + k))
+    stays_to k zero h = rw (zero-add k) h
+    stays_to k (suc m) h = rw (suc-add m k) (stays (m + k) (stays_to k m h))
 
-    module _ (t : lt 0f (at x k) ≡ true) where
-      pub trials-refused : {r : ℕ} → k < n → no r ≡ tried k → trials_to E n o x d n ≡ no r
-      unfolding trials_to bind choose
+  module _ (k : ℕ) {s : Trials} {old now : ℕ} (h : Counts old (ok s) now (trials_counted E n o x d k)) where
+    pub trials_skip : lt 0f (at x k) ≡ false → Counts old (ok s) now (trials_counted E n o x d (k + 1))
+    unfolding trials_counted
+    trials_skip t = rw add-one (counts_next _ h (counts_second _ t (counts_none refl)))
+
+    module _ (t : lt 0f (at x k) ≡ true) {new : ℕ} where
+      pub trials-refused : {r : ℕ} → k < n → Counts now (no r) new (tried k) → Counts old (no r) new (trials_counted E n o x d n)
+      unfolding trials_counted
       trials-refused {r} l q =
-          let p : runs (suc k) ≡ no r = rw (h, t, ← q) in
-          let z : n ≡ (n - suc k) + suc k = omega arith in
-          ap runs z ∙ stays_to (suc k) (n - suc k) r p
+          let p : Counts old (no r) new (runs (suc k)) = counts_next _ h (counts_first _ t (counts_stop _ q)) in
+          let z : (n - suc k) + suc k ≡ n = omega arith in
+          rw z at (stays_to (suc k) (n - suc k) p)
 
-      pub trials-more : {a : LiquidStabilityTrial} → ok a ≡ tried k → trials_to E n o x d (k + 1) ≡ ok (with_trial o.tm_threshold s a)
-      unfolding trials_to bind choose
-      trials-more q = rw (add-one, h, t, ← q)
+      pub trials-more : {a : LiquidStabilityTrial} → Counts now (ok a) new (tried k)
+          → Counts old (ok (with_trial o.tm_threshold s a)) new (trials_counted E n o x d (k + 1))
+      unfolding trials_counted
+      trials-more q = rw add-one (counts_next _ h (counts_first _ t (counts_next _ q (counts_none refl))))
 
 -- ---- the number of the other solvents present
 module _ (x : List Float) (n : ℕ) {c : ℕ} (e : c ≡ present_count x n) where
@@ -207,11 +239,28 @@ module _ (x : List Float) (n : ℕ) {c : ℕ} (e : c ≡ present_count x n) wher
       let l : present_count x n ≤ n = count_le x n in
       le→leb (c - 1) 9007199254740992 (omega arith)
 
--- ---- the whole: o is the outcome of ln γ at x
+-- ---- the whole: r is the outcome of ln γ at x, the evaluation that is begun first
 module _ (E : List Float → Out Activity) (n : ℕ) (o : ActivityOptions) (x : List Float) where
-  abbrev from : List Float → Out Trials
-  from lg = choose (ltb (present_count x n) 2) (ok no_trials) (trials_to E n o x (tangent x lg n) n)
+  abbrev from : List Float → Counted Trials
+  from lg = choose_counted (ltb (present_count x n) 2) (uncounted (ok no_trials)) (trials_counted E n o x (tangent x lg n) n)
 
-  pub from_ln_gamma : {r : Out (List Float)} → r ≡ bind (E x) (λ a. ok a.ln_gamma) → stability_of E n o x ≡ bind r from
-  unfolding stability_of
-  from_ln_gamma e = rw e (by_ln_gamma (E x) from)
+  by_feed : {r : Out (List Float)} → r ≡ bind (E x) (λ a. ok a.ln_gamma) → stability_counted E n o x ≡ bind_counted (evaluated r) from
+  unfolding stability_counted
+  by_feed e = rw e (by_ln_gamma (E x) from)
+
+  module _ {old mid : ℕ} (b : mid ≡ count_word (old + 1)) where
+    pub feed-refused : {k : ℕ} → no k ≡ bind (E x) (λ a. ok a.ln_gamma) → Counts old (no k) mid (stability_counted E n o x)
+    feed-refused e = rw (by_feed e) (counts_stop _ (counts_one b refl))
+
+    module _ {lg : List Float} (e : ok lg ≡ bind (E x) (λ a. ok a.ln_gamma)) {c : ℕ} (pc : c ≡ present_count x n) where
+      pub few-present : c < 2 → Counts old (ok no_trials) mid (stability_counted E n o x)
+      few-present l =
+          let t : ltb (present_count x n) 2 ≡ true = rw (← pc) (lt-ltb c 2 l) in
+          rw (by_feed e) (counts_next _ (counts_one b refl) (counts_first _ t (counts_none refl)))
+
+      pub tested : 2 ≤ c → {m : ℕ} → m ≡ n → {d : List Float} → d ≡ tangent x lg m → {r : Out Trials} {new : ℕ}
+          → Counts mid r new (trials_counted E m o x d m) → Counts old r new (stability_counted E n o x)
+      tested l pm pd {r} {new} h =
+          let t : ltb (present_count x n) 2 ≡ false = rw (← pc) (le-ltb c 2 l) in
+          let g : Counts mid r new (trials_counted E n o x (tangent x lg n) n) = rw (← pm, ← pd) h in
+          rw (by_feed e) (counts_next _ (counts_one b refl) (counts_second _ t g))

@@ -5,25 +5,26 @@ use Rattle.std.specs.declared.ops.ControlFlow.{ControlFlow}
 use Rattle.std.specs.declared.ops.ControlFlow.TheVariants.{Break, Continue}
 use Rattle.floats.specs.Arithmetic.{0f}
 use Rattle.floats.specs.Vector.{at, vec}
-use Rattle.floats.specs.Outcome.{Out, ok, bind}
+use Rattle.floats.specs.Outcome.{Out, ok}
+use Rattle.counted.specs.Counted.{Counted, uncounted, evaluated, bind_counted}
 use Rattle.numerics.specs.Numerics.{exp_of}
 use Rattle.outcome.specs.Refused.{outcome_of}
 use Rattle.outcome.specs.declared.Refusal.{Refusal}
 use Rattle.thermo_models.specs.Model.{Activity}
 use Rattle.liquid_stability.specs.declared.LiquidStabilityTrial.{LiquidStabilityTrial}
-use Rattle.liquid_stability.specs.Stability.{trial_from}
+use Rattle.liquid_stability.specs.Counted.{trial_counted}
 
 -- W_i of the solvents present, worked out once for the sums that use it
 unfoldable pub amounts_of : List Float → List Float → ℕ → List Float
 amounts_of x lnW n = vec (λ i. cond (lt 0f (at x i)) (exp_of (at lnW i)) 0f) n
 
 -- what a turn is followed by: the trial that it ends, or the rest from the next ln W
-unfoldable pub after : (List Float → Out LiquidStabilityTrial) → ControlFlow LiquidStabilityTrial (List Float) → Out LiquidStabilityTrial
-after rest (Break found) = ok found
+unfoldable pub after : (List Float → Counted LiquidStabilityTrial) → ControlFlow LiquidStabilityTrial (List Float) → Counted LiquidStabilityTrial
+after rest (Break found) = uncounted (ok found)
 after rest (Continue lnW) = rest lnW
 
--- a turn from ln W of the trial near solvent j: the definition goes on as the turn says
+-- a turn from ln W of the trial near solvent j: it is one evaluation, begun whatever comes of it, and the definition goes on as the turn says
 pub record TrialTurn (E : List Float → Out Activity) (threshold : Float) (n : ℕ) (x d : List Float) (j iteration : ℕ) (lnW : List Float)
     (r : Result (ControlFlow LiquidStabilityTrial (List Float)) Refusal) : Type 0 where
   pub goes : (left done : ℕ) → iteration ≡ suc done
-      → trial_from E threshold n x d j (suc left) done lnW ≡ bind (outcome_of r) (after (trial_from E threshold n x d j left (suc done)))
+      → trial_counted E threshold n x d j (suc left) done lnW ≡ bind_counted (evaluated (outcome_of r)) (after (trial_counted E threshold n x d j left (suc done)))

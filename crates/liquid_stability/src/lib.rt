@@ -9,8 +9,10 @@ ghost use Rattle.floats.specs.Fold.{fold_to, active};
 ghost use Rattle.floats.specs.Vector.{at, vec, places};
 ghost use Rattle.floats.specs.Outcome.{ok, bind};
 ghost use Rattle.outcome.specs.Refused.{outcome_of};
+ghost use Rattle.counted.specs.Counted.{Counts};
 ghost use Rattle.thermo_models.specs.Activity.{activity_on};
-ghost use Rattle.liquid_stability.specs.Stability.{present_count, tangent, others_in, start_of, distance_of, change_of, apart_of, next_of, unstable, no_trial, no_trials, trial_from, trials_to, stability_of};
+ghost use Rattle.liquid_stability.specs.Stability.{present_count, tangent, others_in, start_of, distance_of, change_of, apart_of, next_of, unstable, no_trial, no_trials};
+ghost use Rattle.liquid_stability.specs.Counted.{trial_counted, trials_counted, stability_counted};
 ghost use Rattle.liquid_stability.specs.Steps.{amounts_of, TrialTurn};
 
 use floats::Count;
@@ -241,12 +243,14 @@ impl<'a> Tested<'a> {
 
     // The trial near solvent j: 24, 25, and 27 at its limit.
     #[tactic(auto, unfolding(floats::specs::Outcome::bind, crate::specs::Steps::after))]
-    fn trial(self, j: usize) -> Result<LiquidStabilityTrial, Refusal>
+    fn trial(self, j: usize, begun: &mut u64) -> Result<LiquidStabilityTrial, Refusal>
         ensures { let l = self.entry in
-            outcome_of result ≡ trial_from (activity_on l.table.now l.tabled) l.o.tm_threshold l.m.n l.x.now l.d.now j l.o.max_iterations 0 (start_of l.x.now l.m.n j) }
+            Counts begun.old (outcome_of result) begun.new
+            (trial_counted (activity_on l.table.now l.tabled) l.o.tm_threshold l.m.n l.x.now l.d.now j l.o.max_iterations 0 (start_of l.x.now l.m.n j)) }
     {
         let mut ln_w = self.start(j);
         for done in 0..self.o.max_iterations {
+            counted::begin(begun);
             match self.turn(j, done + 1, &ln_w)? {
                 ControlFlow::Break(found) => return Ok(found),
                 ControlFlow::Continue(next) => ln_w = next,
@@ -257,13 +261,13 @@ impl<'a> Tested<'a> {
 
     // One trial near each solvent present. All of them run: a later trial's refusal stands before an unstable one's answer.
     #[tactic(auto, unfolding(crate::specs::Stability::no_trials, crate::specs::Stability::trials_to, crate::specs::Stability::with_trial))]
-    fn trials(self) -> Result<LiquidStability, Refusal>
-        ensures { let l = self.entry in outcome_of result ≡ trials_to (activity_on l.table.now l.tabled) l.m.n l.o l.x.now l.d.now l.m.n }
+    fn trials(self, begun: &mut u64) -> Result<LiquidStability, Refusal>
+        ensures { let l = self.entry in Counts begun.old (outcome_of result) begun.new (trials_counted (activity_on l.table.now l.tabled) l.m.n l.o l.x.now l.d.now l.m.n) }
     {
         let mut all = no_trials();
         for j in 0..self.m.n {
             if self.x[j] > 0.0 {
-                let found = self.trial(j)?;
+                let found = self.trial(j, begun)?;
                 all.trials[all.count] = found;
                 all.count += 1;
                 all.stable &= !found.is_unstable(self.o.tm_threshold);
@@ -274,16 +278,18 @@ impl<'a> Tested<'a> {
 }
 
 // Trials of the liquid x, one near each solvent present: 24, 25, 27. The activity of x (24, 25) stands before the question how many
-// solvents are present; fewer than two: stable, no trials.
+// solvents are present; fewer than two: stable, no trials. `begun` counts the evaluations on.
 pub fn liquid_stability(
     table: &[f64; 512],
     at: Tabled,
     o: ActivityOptions,
     x: &[f64; 8],
+    begun: &mut u64,
 ) -> Result<LiquidStability, Refusal>
-    ensures { outcome_of result ≡ stability_of (activity_on table.now at) (places at.n) o x.now }
+    ensures { Counts begun.old (outcome_of result) begun.new (stability_counted (activity_on table.now at) (places at.n) o x.now) }
 {
     let m = Count::of(at.n);
+    counted::begin(begun);
     let lg = ln_gamma(table, at, x)?;
     let count = present_count(x, at.n);
     if count < 2 {
@@ -300,5 +306,5 @@ pub fn liquid_stability(
         d: &d,
         others,
     };
-    tested.trials()
+    tested.trials(begun)
 }

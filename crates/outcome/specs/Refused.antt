@@ -2,7 +2,7 @@
 use Rattle.std.specs.Prelude.{ℕ, Result, Ok, Err}
 use Rattle.floats.specs.Outcome.{Out, ok, no}
 use Rattle.outcome.specs.declared.Refusal.{Refusal}
-use Rattle.outcome.specs.declared.Refusal.TheVariants.{BookLength, BookCheck, BookHead, SolventBlock, SolventNumber, SolventTwice, PairBlock, PairNumber, PairAlphas, AnswerShort, QuestionBlock, Task, Temperature, Pressure, NotFinite, FractionNegative, KNotPositive, FractionSum, Options, LimitZero, LimitHigh, TemperatureOutside, PressureOutside, AlphaNotPositive, ResultNotFinite, NotBracketed, NotConverged, KOneSided, LiquidUnstable, VaporFractionOutside, DrumsLength, DrumsTotal, FeedsLength, NotNormalizable, MolarMass, FeedKind, BookModel, BookVersion}
+use Rattle.outcome.specs.declared.Refusal.TheVariants.{BookLength, BookCheck, BookHead, SolventBlock, SolventNumber, SolventTwice, PairBlock, PairNumber, PairAlphas, AnswerShort, QuestionBlock, Task, Temperature, Pressure, NotFinite, FractionNegative, KNotPositive, FractionSum, Options, LimitZero, LimitHigh, TemperatureOutside, PressureOutside, AlphaNotPositive, ResultNotFinite, NotBracketed, NotConverged, KOneSided, LiquidUnstable, VaporFractionOutside, DrumsLength, DrumsTotal, FeedsLength, NotNormalizable, MolarMass, FeedKind, BookModel, BookVersion, QueueQuestions}
 
 -- docs/FORMAT.md, "Refusals"
 abbrev pub number : Refusal → ℕ
@@ -44,6 +44,7 @@ number MolarMass = 35
 number FeedKind = 36
 number BookModel = 37
 number BookVersion = 38
+number QueueQuestions = 39
 
 -- a result as an outcome
 abbrev pub outcome_of : {A : Type 0} → Result A Refusal → Out A

@@ -45,6 +45,7 @@ pub enum Refusal {
     FeedKind,
     BookModel,
     BookVersion,
+    QueueQuestions,
 }
 
 impl From<Refusal> for u64 {

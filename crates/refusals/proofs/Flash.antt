@@ -8,6 +8,8 @@ use Rattle.thermo_types.specs.declared.ActivityOptions.{ActivityOptions}
 use Rattle.thermo_models.specs.Model.{Activity, Activities, Liquids}
 use Rattle.tp_flash.specs.Split.{Split, phase_of, turn_at, split_turn, split_from}
 use Rattle.tp_flash.specs.Tp.{stable_liquid, dew_of, as_vapor, as_liquid, as_both, boundary_of, from_split, split_feed, between_of, from_dew, phases_of, tp_flash}
+use Rattle.tp_flash.specs.Counted.{flash_counted}
+use Rattle.tp_flash.proofs.Forgets.{flash-outcome}
 use Rattle.refusals.specs.Numbered.{Numbered}
 use Rattle.refusals.proofs.Laws.{numbers}
 use Rattle.refusals.proofs.Models.{num_fractions, num_normalize}
@@ -41,7 +43,12 @@ module _ {M : Model} where
       unfolding phases_of from_dew dew_of between_of split_feed
       num_phases p ps = search (numbers, num_bubble_at, num_dew_at, num_vapor, num_liquid, num_split, num_from_split) depth 8
 
-  pub num_flash : (E : Activities) → ((t : Float) (x : List Float) → Numbered M (E t x)) → (L : Liquids) → ((t : Float) → Numbered M (L t))
+  num_tp_flash : (E : Activities) → ((t : Float) (x : List Float) → Numbered M (E t x)) → (L : Liquids) → ((t : Float) → Numbered M (L t))
       → (D : Float → Bool) (n : ℕ) (o : ActivityOptions) (t : Float) (z : List Float) (p : Float) → Numbered M (tp_flash E L D n o t z p)
   unfolding tp_flash
-  num_flash E h L g D n o t z p = search (numbers, num_phases)
+  num_tp_flash E h L g D n o t z p = search (numbers, num_phases)
+
+  -- with its count
+  pub num_flash : (E : Activities) → ((t : Float) (x : List Float) → Numbered M (E t x)) → (L : Liquids) → ((t : Float) → Numbered M (L t))
+      → (D : Float → Bool) (n : ℕ) (o : ActivityOptions) (t : Float) (z : List Float) (p : Float) → Numbered M (flash_counted E L D n o t z p).outcome
+  num_flash E h L g D n o t z p = rw (flash-outcome E L D n o t z p) (num_tp_flash E h L g D n o t z p)

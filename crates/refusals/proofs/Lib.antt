@@ -7,3 +7,4 @@ pub mod Boiling
 pub mod Stability
 pub mod Flash
 pub mod Theorem
+pub mod Replied

@@ -7,6 +7,7 @@ use lib.Dec.{T}
 use lib.Ieee.{Float}
 use Rattle.floats.specs.Fold.{all_to}
 use Rattle.floats.specs.Outcome.{Out, ok, no, need}
+use Rattle.counted.specs.Counted.{told}
 use Rattle.blocks.specs.declared.Rule.{Rule}
 use Rattle.book.specs.declared.Model.{Model}
 use Rattle.book.specs.declared.Model.TheVariants.{Nrtl, Wilson}
@@ -16,7 +17,7 @@ use Rattle.thermo_models.specs.Activity.{activity_in}
 use Rattle.thermo_models.specs.Mixture.{Mixture, activity}
 use Rattle.question.specs.Asked.{task_in, inputs_right, limits_right, moles_of, rest_of, question_of}
 use Rattle.question.specs.declared.Question.{Question}
-use Rattle.sheet.specs.Tasks.{excess_found, saturated, task1, task2, task3, task4, task5, task6, task7, task8, task9, task_at, task_under, task_split, task_of}
+use Rattle.sheet.specs.Tasks.{excess_found, saturated, task1, task2, task3, task4, task5, task6, task7_counted, task7, task8, task9, task_at, task_under, task_split, task_of}
 use Rattle.sheet.specs.Sheet.{answer_to, roomy, sheet_from, sheet_of, number_of}
 use Rattle.refusals.specs.Numbered.{has_alphas, is_number, Numbered, Refusals, WilsonNumbers, ZeroIsAnswer}
 use Rattle.refusals.proofs.Laws.{numbers}
@@ -62,7 +63,7 @@ module _ {M : Model} (m : Mixture) (h : (t : Float) (x : List Float) → Numbere
   num_activity t x = search numbers
 
   num_task : (q : Question) → Numbered M (task_of m q)
-  unfolding task_of task_at task_under task_split task1 excess_found saturated task2 task3 task4 task5 task6 task7 task8 task9
+  unfolding task_of task_at task_under task_split task1 excess_found saturated task2 task3 task4 task5 task6 task7 task7_counted told task8 task9
   num_task q = search (numbers, solvers, num_positive, num_activity) depth 12
 
 pub num_answer : (book : List ℕ) (n : ℕ) (q : Question) → Numbered (model_of book) (answer_to book n q)

@@ -174,7 +174,7 @@ fn answer(stored: &mut Stored) -> Option<()> {
     Some(())
 }
 
-// With one slice more: drums, feeds or an offered pair. How many parts an answer has stands beside it.
+// With one slice more: drums, feeds, an offered pair or an allowance. How many parts an answer has stands beside it.
 fn answer_with<F: Fn(&[u8], &[u8], &[u8], &mut [u8]) -> (Result<(), Refusal>, usize)>(
     call: F,
     stored: &mut Stored,
@@ -234,6 +234,13 @@ pub(crate) fn call(name: &str, stored: &mut Stored) -> Option<()> {
         )?,
         "preview" => answer_with(
             |book, question, offered, out| (preview::answer(book, offered, question, out), 1),
+            stored,
+        )?,
+        "queue" => answer_with(
+            |book, questions, allowance, out| (
+                queue::answer(book, questions, blocks::word(allowance, 0), out),
+                questions.len() / 512,
+            ),
             stored,
         )?,
         _ => return None,

@@ -10,7 +10,7 @@ mod calls;
 mod text;
 
 // The stored files.
-const FILES: [&str; 10] = [
+const FILES: [&str; 11] = [
     "numbers.txt",
     "fractions.txt",
     "book.txt",
@@ -21,13 +21,14 @@ const FILES: [&str; 10] = [
     "pooled.txt",
     "feeds.txt",
     "preview.txt",
+    "queue.txt",
 ];
 
 // More than any of them has.
 const FILE_BYTES: usize = 524288;
 
 // The functions, in the order of the report.
-const NAMES: [&str; 18] = [
+const NAMES: [&str; 19] = [
     "exp",
     "ln",
     "powf",
@@ -46,6 +47,7 @@ const NAMES: [&str; 18] = [
     "pooled",
     "feeds",
     "preview",
+    "queue",
 ];
 
 // Of a function: how many lines were replayed, and how many of them differ.
@@ -58,7 +60,7 @@ struct Function {
 
 #[derive(Clone, Copy)]
 struct Tally {
-    functions: [Function; 18],
+    functions: [Function; 19],
     unread: u64,
 }
 
@@ -78,7 +80,7 @@ impl Tally {
 }
 
 // The place of the function that a line calls, and whether its results differ; none where it could not be read.
-fn replay(line: &str, functions: &[Function; 18]) -> Option<(usize, bool)> {
+fn replay(line: &str, functions: &[Function; 19]) -> Option<(usize, bool)> {
     let (call, results) = line.split_once(" = ")?;
     let (name, inputs) = call.split_once(' ')?;
     let k = functions.iter().position(|f| f.name == name)?;

@@ -15,13 +15,13 @@ use Rattle.replies.specs.declared.State.{State}
 use Rattle.replies.specs.declared.ModelState.{ModelState}
 use Rattle.replies.specs.declared.AnswerBlock.{AnswerBlock}
 
--- words 30 to 37 of a task that has none of these but, in 6 and 7, whether the liquid is stable
-abbrev pub no_model : Bool → ModelState
-no_model stable = record { reduced = 0f; gibbs = 0f; enthalpy = 0f; entropy = 0f; heat_capacity = 0f; validity = Unassessed; inferred = false; stable = stable }
+-- words 30 to 38 of a task that has none of these but, in 6 and 7, whether the liquid is stable, and in 7 the evaluations begun
+abbrev pub no_model : Bool → ℕ → ModelState
+no_model stable evaluations = record { reduced = 0f; gibbs = 0f; enthalpy = 0f; entropy = 0f; heat_capacity = 0f; validity = Unassessed; inferred = false; stable = stable; evaluations = evaluations }
 
 -- the block of such a task
-abbrev pub plain_block : ℕ → State → List Float → List Float → Bool → AnswerBlock
-plain_block outcome state liquid vapor stable = record { outcome = outcome; state = state; liquid = liquid; vapor = vapor; model = no_model stable }
+abbrev pub plain_block : ℕ → State → List Float → List Float → Bool → ℕ → AnswerBlock
+plain_block outcome state liquid vapor stable evaluations = record { outcome = outcome; state = state; liquid = liquid; vapor = vapor; model = no_model stable evaluations }
 
 -- words 4 to 13 of a feed's split (8 and 9)
 abbrev pub split_state : Float → Float → ℕ → State
@@ -44,6 +44,7 @@ excess_block t e v = record {
     validity = v.status;
     inferred = v.inferred;
     stable = false;
+    evaluations = 0;
   };
 }
 
@@ -63,14 +64,14 @@ saturation_block s =
       trials = 0;
       notes = 0;
     })
-    s.liquid s.vapor false
+    s.liquid s.vapor false 0
 
 -- 6: whether the liquid is stable in its trials
 abbrev pub stability_block : Bool → ℕ → AnswerBlock
 stability_block stable count =
     plain_block 0
     (record { temperature = 0f; pressure = 0f; bubble = 0f; dew = 0f; iterations = 0; residual = 0f; balance = 0f; vapor_fraction = 0f; trials = count; notes = 0 })
-    zeros8 zeros8 stable
+    zeros8 zeros8 stable 0
 
 -- 1 liquid, 2 vapor, 3 both
 abbrev pub phase_number : FlashPhases → ℕ
@@ -78,9 +79,9 @@ phase_number Liquid = 1
 phase_number Vapor = 2
 phase_number Both = 3
 
--- 7: a liquid that was tested is stable, else it was refused with 29
-abbrev pub flash_block : Float → Float → Flash → AnswerBlock
-flash_block t p f =
+-- 7, with the evaluations that it began: a liquid that was tested is stable, else it was refused with 29
+abbrev pub flash_block : Float → Float → Flash → ℕ → AnswerBlock
+flash_block t p f evaluations =
     plain_block (phase_number f.phases)
     (record {
       temperature = t;
@@ -94,10 +95,10 @@ flash_block t p f =
       trials = (trials_of f).count;
       notes = f.notes;
     })
-    f.liquid f.vapor (is_some f.trials)
+    f.liquid f.vapor (is_some f.trials) evaluations
 
 -- 8 and 9: 1 liquid, 2 vapor, 3 both with vapor fraction, residual and count
 unfoldable pub rice_block : RachfordRiceOutcome → List Float → List Float → AnswerBlock
-rice_block LiquidOnly x y = plain_block 1 (split_state 0f 0f 0) x y false
-rice_block VaporOnly x y = plain_block 2 (split_state 0f 0f 0) x y false
-rice_block (TwoPhase β residual count) x y = plain_block 3 (split_state β residual count) x y false
+rice_block LiquidOnly x y = plain_block 1 (split_state 0f 0f 0) x y false 0
+rice_block VaporOnly x y = plain_block 2 (split_state 0f 0f 0) x y false 0
+rice_block (TwoPhase β residual count) x y = plain_block 3 (split_state β residual count) x y false 0

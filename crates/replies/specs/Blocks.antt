@@ -30,16 +30,16 @@ state_words s =
     bits_of s.temperature ∷ bits_of s.pressure ∷ bits_of s.bubble ∷ bits_of s.dew ∷ s.iterations ∷ bits_of s.residual ∷ bits_of s.balance
     ∷ bits_of s.vapor_fraction ∷ s.trials ∷ s.notes ∷ []
 
--- words 30 to 37
+-- words 30 to 38
 unfoldable pub model_words : ModelState → List ℕ
 model_words m =
     bits_of m.reduced ∷ bits_of m.gibbs ∷ bits_of m.enthalpy ∷ bits_of m.entropy ∷ bits_of m.heat_capacity ∷ status_number m.validity
-    ∷ bit m.inferred ∷ bit m.stable ∷ []
+    ∷ bit m.inferred ∷ bit m.stable ∷ m.evaluations ∷ []
 
--- the answer block: 9, task, 0, outcome, then words 4 to 13, 14 to 21 liquid, 22 to 29 vapor, 30 to 37
+-- the answer block: 9, task, 0, outcome, then words 4 to 13, 14 to 21 liquid, 22 to 29 vapor, 30 to 38
 unfoldable pub answer_words : ℕ → AnswerBlock → List ℕ
 answer_words task b =
-    fill_from (word_at (model_words b.model)) 30 8
+    fill_from (word_at (model_words b.model)) 30 9
     (fill_from (λ i. bits_of (at b.vapor i)) 22 8
     (fill_from (λ i. bits_of (at b.liquid i)) 14 8
     (fill_from (word_at (state_words b.state)) 4 10
@@ -87,3 +87,13 @@ refusal_words question r = 9 ∷ refused_task question r ∷ r ∷ replicate 61 
 
 unfoldable pub refusal_bytes : Rule → List ℕ → ℕ → List ℕ
 refusal_bytes rule question r = block_bytes rule (word_at (refusal_words question r))
+
+-- ---- the block of a question that a queue puts off: 9, task 7, 0, outcome 4
+abbrev pub put_off : ℕ
+put_off = 4
+
+unfoldable pub put_off_words : List ℕ
+put_off_words = 9 ∷ 7 ∷ 0 ∷ put_off ∷ replicate 60 0
+
+unfoldable pub put_off_bytes : Rule → List ℕ
+put_off_bytes rule = block_bytes rule (word_at put_off_words)

@@ -5,7 +5,7 @@ ghost use Rattle.std.specs.Prelude.{◌≡◌, ◌≤◌, ◌+◌, length};
 ghost use Rattle.floats.specs.Small.{bits_of};
 ghost use Rattle.floats.specs.Vector.{at, fill_from};
 ghost use Rattle.blocks.specs.Bytes.{put, stored};
-ghost use Rattle.replies.specs.Blocks.{status_number, state_words, model_words, answer_words, trial_words, answer_length, taskless, refused_task, refusal_words, refusal_bytes};
+ghost use Rattle.replies.specs.Blocks.{status_number, state_words, model_words, answer_words, trial_words, answer_length, taskless, refused_task, refusal_words, refusal_bytes, put_off_words, put_off_bytes};
 ghost use Rattle.replies.specs.Answers.{plain_block, phase_number, excess_block, saturation_block, stability_block, flash_block, rice_block};
 
 use blocks::Rule;
@@ -35,7 +35,7 @@ pub struct State {
     pub notes: u64,
 }
 
-// Words 30 to 37: g^E / RT, J/mol, J/(mol K), and what is said of the state.
+// Words 30 to 38: g^E / RT, J/mol, J/(mol K), what is said of the state, and the evaluations that a flash began.
 #[derive(Clone, Copy, Default)]
 pub struct ModelState {
     pub reduced: f64,
@@ -46,6 +46,7 @@ pub struct ModelState {
     pub validity: ValidityStatus,
     pub inferred: bool,
     pub stable: bool,
+    pub evaluations: u64,
 }
 
 // Kept: `outcome` is the block's word 3, whose numbers mean something else in each task.
@@ -89,7 +90,7 @@ fn state_words(s: State) -> [u64; 10]
 
 #[inline(always)]
 #[tactic(auto, unfolding(crate::specs::Blocks::model_words))]
-fn model_words(m: ModelState) -> [u64; 8]
+fn model_words(m: ModelState) -> [u64; 9]
     ensures { result ≡ model_words m }
 {
     [
@@ -101,6 +102,7 @@ fn model_words(m: ModelState) -> [u64; 8]
         status_number(m.validity),
         u64::from(m.inferred),
         u64::from(m.stable),
+        m.evaluations,
     ]
 }
 
@@ -209,9 +211,33 @@ pub fn write_refusal(rule: Rule, question: &[u8], number: u64, out: &mut [u8])
     blocks::write_block(out, rule, &refusal_words(question, number));
 }
 
+// ---- the block of a question that a queue puts off
+
+// Its word 3.
+const PUT_OFF: u64 = 4;
+
+#[tactic(auto, unfolding(crate::specs::Blocks::put_off_words))]
+fn put_off_words() -> [u64; 64]
+    ensures { result ≡ put_off_words }
+{
+    let mut ws = [0u64; 64];
+    ws[0] = 9;
+    ws[1] = 7;
+    ws[3] = PUT_OFF;
+    ws
+}
+
+// At the front of a slice; where it is too short, nothing.
+#[tactic(auto, unfolding(crate::specs::Blocks::put_off_bytes))]
+pub fn write_put_off(rule: Rule, out: &mut [u8])
+    ensures { out.new ≡ stored out.old 0 (put_off_bytes rule) }
+{
+    blocks::write_block(out, rule, &put_off_words());
+}
+
 // ---- the answer block of each task
 
-// Of a task that has none of the model's words but, in 6 and 7, whether the liquid is stable.
+// Of a task that has none of the model's words but, in 6 and 7, whether the liquid is stable, and in 7 the evaluations.
 #[inline(always)]
 fn plain_block(
     outcome: u64,
@@ -219,8 +245,9 @@ fn plain_block(
     liquid: [f64; 8],
     vapor: [f64; 8],
     stable: bool,
+    evaluations: u64,
 ) -> AnswerBlock
-    ensures { result ≡ plain_block outcome state liquid vapor stable }
+    ensures { result ≡ plain_block outcome state liquid vapor stable evaluations }
 {
     AnswerBlock {
         outcome,
@@ -229,6 +256,7 @@ fn plain_block(
         vapor,
         model: ModelState {
             stable,
+            evaluations,
             ..ModelState::default()
         },
     }
@@ -262,6 +290,7 @@ pub fn excess_block(
             validity: v.status,
             inferred: v.inferred,
             stable: false,
+            evaluations: 0,
         },
     }
 }
@@ -277,7 +306,7 @@ pub fn saturation_block(s: ActivitySaturation) -> AnswerBlock
         residual: s.residual,
         ..State::default()
     };
-    plain_block(0, state, s.liquid, s.vapor, false)
+    plain_block(0, state, s.liquid, s.vapor, false, 0)
 }
 
 // Task 6.
@@ -288,7 +317,7 @@ pub fn stability_block(stable: bool, count: usize) -> AnswerBlock
         trials: count as u64,
         ..State::default()
     };
-    plain_block(0, state, [0.0; 8], [0.0; 8], stable)
+    plain_block(0, state, [0.0; 8], [0.0; 8], stable, 0)
 }
 
 // 1 liquid, 2 vapor, 3 both.
@@ -299,8 +328,8 @@ fn phase_number(phases: FlashPhases) -> u64
 }
 
 // Task 7.
-pub fn flash_block(t: f64, p: f64, f: ActivityTpFlash) -> AnswerBlock
-    ensures { result ≡ flash_block t p f }
+pub fn flash_block(t: f64, p: f64, f: ActivityTpFlash, evaluations: u64) -> AnswerBlock
+    ensures { result ≡ flash_block t p f evaluations }
 {
     let state = State {
         temperature: t,
@@ -320,6 +349,7 @@ pub fn flash_block(t: f64, p: f64, f: ActivityTpFlash) -> AnswerBlock
         f.liquid,
         f.vapor,
         f.trials.is_some(),
+        evaluations,
     )
 }
 
@@ -338,5 +368,5 @@ pub fn rice_block(outcome: RachfordRiceOutcome, liquid: [f64; 8], vapor: [f64; 8
         },
         _ => State::default(),
     };
-    plain_block(outcome.number(), state, liquid, vapor, false)
+    plain_block(outcome.number(), state, liquid, vapor, false, 0)
 }

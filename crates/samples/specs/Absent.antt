@@ -40,10 +40,11 @@ question3 = question 7 350K 100kPa feed3 200 []
 abbrev pub question2 : List ℕ
 question2 = question 7 350K 100kPa feed2 200 []
 
--- liquid: bubble pressure 11791.4 Pa, dew pressure 8292.9 Pa, two trials, A7-GAMMA-PHI; stable
+-- liquid: bubble pressure 11791.4 Pa, dew pressure 8292.9 Pa, two trials, A7-GAMMA-PHI; stable; 8 evaluations: one of the bubble point, two of the dew point,
+-- one of the feed and two of each trial
 abbrev pub liquid : List ℕ → List ℕ
 liquid z =
-    answer 7 1 (350K ∷ 100kPa ∷ 0x40c707b420b72ebc ∷ 0x40c0326dcdddaab7 ∷ 0 ∷ 0 ∷ 0 ∷ 0 ∷ 2 ∷ 1 ∷ []) z [] (0 ∷ 0 ∷ 0 ∷ 0 ∷ 0 ∷ 0 ∷ 0 ∷ 1 ∷ [])
+    answer 7 1 (350K ∷ 100kPa ∷ 0x40c707b420b72ebc ∷ 0x40c0326dcdddaab7 ∷ 0 ∷ 0 ∷ 0 ∷ 0 ∷ 2 ∷ 1 ∷ []) z [] (0 ∷ 0 ∷ 0 ∷ 0 ∷ 0 ∷ 0 ∷ 0 ∷ 1 ∷ 8 ∷ [])
 
 -- a trial that came back to the feed in two iterations
 abbrev pub back : ℕ → List ℕ → List ℕ

@@ -9,15 +9,19 @@ use Rattle.floats.specs.Arithmetic.{◌⊘◌, 0f, 1f}
 use Rattle.floats.specs.Small.{is_finite}
 use Rattle.floats.specs.Fold.{sum_to}
 use Rattle.floats.specs.Vector.{at, vec, zeros8, places}
-use Rattle.floats.specs.Outcome.{Out, ok, no, bind, need, choose}
+use Rattle.floats.specs.Outcome.{Out, ok, no, bind, need}
 use Rattle.floats.proofs.Folds.{sum_cong}
 use Rattle.floats.proofs.Fills.{vec-at, fill_cong}
 use Rattle.floats.proofs.Outcomes.{refused}
+use Rattle.counted.specs.Counted.{Counted, uncounted, evaluated_after, bind_counted, count_word, Counts}
+use Rattle.counted.proofs.Laws.{counts_none, counts_next, counts_stop, counts_first, counts_second, after_none, after_one, counts_made, counts_of, counts-of-no}
 use Rattle.thermo_types.specs.declared.ActivityOptions.{ActivityOptions}
 use Rattle.thermo_types.specs.Composition.{normalize_of}
 use Rattle.thermo_types.proofs.Normalizing.{normalize_cong}
 use Rattle.thermo_models.specs.Model.{Activity}
-use Rattle.saturation.specs.Saturation.{Dew, partial_of, partial_sum, bubble_from, residual_with, dew_term, dew_pressure, dew_liquid, change_of, turned, incipient, dew_turn, dew_point, dew_loop, dew_at}
+use Rattle.saturation.specs.Saturation.{Dew, partial_of, partial_sum, bubble_from, residual_with, dew_term, dew_pressure, dew_liquid, change_of, turned, incipient, dew_turn, dew_point}
+use Rattle.saturation.specs.Counted.{dew_turn_counted, dew_point_counted, dew_loop_counted, dew_counted}
+use Rattle.saturation.specs.declared.IncipientLiquid.{IncipientLiquid}
 use Rattle.saturation.specs.declared.DewTurn.{DewTurn}
 use Rattle.saturation.proofs.Answers.{places_is}
 
@@ -86,57 +90,85 @@ module _ (E : List Float → Out Activity) (ps : List Float) (n : ℕ) (y lg : L
   unfolding dew_point incipient
   point-from k = sym (through _ _ _)
 
-  -- what a turn says of its outcome
-  turned-no : (o : Out Activity) (k : Activity → Out Dew) {m : ℕ} → no m ≡ bind o (λ a. ok (turned y lg n a)) → bind o k ≡ no m
-  unfolding bind
-  turned-no (ok a) k e = absurd (refused e)
-  turned-no (no r) k {m = m} e = let q : r ≡ m = cc in rw q
+  -- with the count: none where there is no liquid (34), else one
+  abbrev holding : Out (List Float) → Out IncipientLiquid
+  holding o = bind o (λ x. ok (record { pressure = dew_pressure y ps lg n; liquid = x }))
 
-  turned_ok : (o : Out Activity) (k : Float → List Float → Out Dew) {t : DewTurn} → ok t ≡ bind o (λ a. ok (turned y lg n a))
-      → bind o (λ a. k (change_of y a.ln_gamma lg n) a.ln_gamma) ≡ k t.change t.ln_gamma
+  without : (o : Out (List Float)) {r : ℕ} → no r ≡ holding o → o ≡ no r
   unfolding bind
-  turned_ok (ok a) k {t = t} e = let q : t ≡ turned y lg n a = cc in rw q
-  turned_ok (no r) k e = absurd (refused (sym e))
+  without (ok x) e = absurd (refused e)
+  without (no m) {r = r} e = let q : m ≡ r = cc in rw q
 
--- ---- the dew iteration after `done` turns of at most `limit`: what is left to run from here is the whole run W
-module _ (E : List Float → Out Activity) (ps : List Float) (n : ℕ) (y : List Float) (tol : Float) (limit done : ℕ) (lg : List Float) {W : Out Dew}
-    (run : dew_loop E ps n y tol (limit - done) done lg ≡ W) where
-  pub loop_out : limit ≤ done → no 27 ≡ W
-  unfolding dew_loop
+  with_it : (o : Out (List Float)) {i : IncipientLiquid} → ok i ≡ holding o → o ≡ ok i.liquid
+  unfolding bind
+  with_it (ok x) {i = i} e = let q : i ≡ record { pressure = dew_pressure y ps lg n; liquid = x } = cc in rw q
+  with_it (no m) e = absurd (refused (sym e))
+
+  liquid-no : {r : ℕ} → no r ≡ incipient ps n y lg → dew_liquid y ps lg n ≡ no r
+  unfolding incipient
+  liquid-no e = without (dew_liquid y ps lg n) e
+
+  liquid_ok : {i : IncipientLiquid} → ok i ≡ incipient ps n y lg → dew_liquid y ps lg n ≡ ok i.liquid
+  unfolding incipient
+  liquid_ok e = with_it (dew_liquid y ps lg n) e
+
+  pub turn_none : {old r : ℕ} → no r ≡ incipient ps n y lg → Counts old (no r) old (bind_counted (dew_turn_counted E ps n y lg) (λ a. uncounted (ok (turned y lg n a))))
+  unfolding dew_turn_counted bind
+  turn_none e = counts_stop _ (after_none (liquid-no e) (rw (turn-from, ← e)))
+
+  pub turn_one : {old new : ℕ} {i : IncipientLiquid} {o : Out DewTurn} → ok i ≡ incipient ps n y lg → new ≡ count_word (old + 1) → o ≡ bind (dew_turn E ps n y lg) (λ a. ok (turned y lg n a))
+      → Counts old o new (bind_counted (dew_turn_counted E ps n y lg) (λ a. uncounted (ok (turned y lg n a))))
+  unfolding dew_turn_counted evaluated_after
+  turn_one e k q =
+      let h = after_one {p = dew_turn E ps n y lg} (liquid_ok e) k refl in
+      counts_made (turned y lg n) (evaluated_after (dew_liquid y ps lg n) (dew_turn E ps n y lg)) q h.begun
+
+  pub point_none : (k : ℕ) {old r : ℕ} → no r ≡ incipient ps n y lg → Counts old (no r) old (dew_point_counted E ps n y lg k)
+  unfolding dew_point_counted bind
+  point_none k e = after_none (liquid-no e) (rw (point-from, ← e))
+
+  pub point_one : (k : ℕ) {old new : ℕ} {i : IncipientLiquid} {o : Out Dew} → ok i ≡ incipient ps n y lg → new ≡ count_word (old + 1) → o ≡ dew_point E ps n y lg k
+      → Counts old o new (dew_point_counted E ps n y lg k)
+  unfolding dew_point_counted
+  point_one k e w q = after_one (liquid_ok e) w q
+
+-- ---- the dew iteration after `done` turns of at most `limit`: what is left to run from here, the count at k, is the whole run W from `old`
+module _ (E : List Float → Out Activity) (ps : List Float) (n : ℕ) (y : List Float) (tol : Float) (limit done : ℕ) (lg : List Float) {old k : ℕ} {W : Counted Dew}
+    (run : (o : Out Dew) (new : ℕ) → Counts k o new (dew_loop_counted E ps n y tol (limit - done) done lg) → Counts old o new W) where
+  pub loop_out : limit ≤ done → Counts old (no 27) k W
+  unfolding dew_loop_counted
   loop_out l =
       let z : limit - done ≡ 0 = omega arith in
-      rw z at run
+      (rw z at run) (no 27) k (counts_none refl)
 
   module _ (l : done < limit) where
-    left : dew_loop E ps n y tol (suc (limit - (done + 1))) done lg ≡ W
+    left : (o : Out Dew) (new : ℕ) → Counts k o new (dew_loop_counted E ps n y tol (suc (limit - suc done)) done lg) → Counts old o new W
     left =
-        let z : limit - done ≡ suc (limit - (done + 1)) = omega arith in
+        let z : limit - done ≡ suc (limit - suc done) = omega arith in
         rw z at run
 
-    pub loop-refused : {m : ℕ} → no m ≡ bind (dew_turn E ps n y lg) (λ a. ok (turned y lg n a)) → no m ≡ W
-    unfolding dew_loop
-    loop-refused e = sym (turned-no E ps n y lg (dew_turn E ps n y lg) _ e) ∙ left
+    pub loop-refused : {m new : ℕ} → Counts k (no m) new (bind_counted (dew_turn_counted E ps n y lg) (λ a. uncounted (ok (turned y lg n a)))) → Counts old (no m) new W
+    unfolding dew_loop_counted
+    loop-refused e = left _ _ (counts_stop _ (counts-of-no (turned y lg n) _ e))
 
-    module _ {t : DewTurn} (e : ok t ≡ bind (dew_turn E ps n y lg) (λ a. ok (turned y lg n a))) where
-      -- the turn's choice
-      chosen : choose (le t.change tol) (dew_point E ps n y t.ln_gamma (done + 1)) (dew_loop E ps n y tol (limit - (done + 1)) (done + 1) t.ln_gamma) ≡ W
-      unfolding dew_loop
-      chosen =
-          let z : suc done ≡ done + 1 = omega arith in
-          let k : Float → List Float → Out Dew = λ c l. choose (le c tol) (dew_point E ps n y l (suc done)) (dew_loop E ps n y tol (limit - (done + 1)) (suc done) l) in
-          rw z at (sym (turned_ok E ps n y lg (dew_turn E ps n y lg) k e) ∙ left)
+    module _ {t : DewTurn} {mid : ℕ} (e : Counts k (ok t) mid (bind_counted (dew_turn_counted E ps n y lg) (λ a. uncounted (ok (turned y lg n a))))) where
+      pub loop_done : le t.change tol ≡ true → {o : Out Dew} {new : ℕ} → Counts mid o new (dew_point_counted E ps n y t.ln_gamma (done + 1)) → Counts old o new W
+      unfolding dew_loop_counted
+      loop_done h p =
+          let (a, c, q) = counts_of (turned y lg n) _ e in
+          let z : done + 1 ≡ suc done = omega arith in
+          left _ _ (counts_next _ c (counts_first _ (rw q at h) (rw (q, z) at p)))
 
-      pub loop_done : le t.change tol ≡ true → dew_point E ps n y t.ln_gamma (done + 1) ≡ W
-      unfolding choose
-      loop_done h = rw h at chosen
+      pub loop_more : le t.change tol ≡ false → (o : Out Dew) (new : ℕ) → Counts mid o new (dew_loop_counted E ps n y tol (limit - (done + 1)) (done + 1) t.ln_gamma) → Counts old o new W
+      unfolding dew_loop_counted
+      loop_more h o new p =
+          let (a, c, q) = counts_of (turned y lg n) _ e in
+          let z : done + 1 ≡ suc done = omega arith in
+          left o new (counts_next _ c (counts_second _ (rw q at h) (rw (q, z) at p)))
 
-      pub loop_more : le t.change tol ≡ false → dew_loop E ps n y tol (limit - (done + 1)) (done + 1) t.ln_gamma ≡ W
-      unfolding choose
-      loop_more h = rw h at chosen
-
-pub loop_start : (E : List Float → Out Activity) (ps : List Float) (o : ActivityOptions) (y : List Float) {m n : ℕ} → m ≡ n
-    → dew_loop E ps m y o.tolerance (o.max_iterations - 0) 0 zeros8 ≡ dew_at E ps n o y
-unfolding dew_at
-loop_start E ps o y e =
-    let a : o.max_iterations - 0 ≡ o.max_iterations = omega arith in
-    rw (a, e)
+pub loop_start : (E : List Float → Out Activity) (ps : List Float) (o : ActivityOptions) (y : List Float) {old m n : ℕ} → m ≡ n
+    → (a : Out Dew) (new : ℕ) → Counts old a new (dew_loop_counted E ps m y o.tolerance (o.max_iterations - 0) 0 zeros8) → Counts old a new (dew_counted E ps n o y)
+unfolding dew_counted
+loop_start E ps o y e a new h =
+    let z : o.max_iterations - 0 ≡ o.max_iterations = omega arith in
+    rw (z, e) at h

@@ -1,2 +1,3 @@
 -- What the contracts of saturation cite. Assumes nothing.
 pub mod Saturation
+pub mod Counted

@@ -8,9 +8,11 @@ ghost use Rattle.floats.specs.Small.{abs_of};
 ghost use Rattle.floats.specs.Vector.{at, vec, places};
 ghost use Rattle.floats.specs.Outcome.{ok, bind};
 ghost use Rattle.outcome.specs.Refused.{outcome_of};
+ghost use Rattle.counted.specs.Counted.{uncounted, bind_counted, Counts};
 ghost use Rattle.numerics.specs.Numerics.{exp_of, ln_of};
 ghost use Rattle.thermo_models.specs.Activity.{activity_on};
-ghost use Rattle.saturation.specs.Saturation.{bubble_from, gap_of, residual_with, incipient, change_of, turned, dew_turn, dew_point, dew_at, bubble_task, dew_task};
+ghost use Rattle.saturation.specs.Saturation.{bubble_from, gap_of, residual_with, incipient, change_of, turned, bubble_task, dew_task};
+ghost use Rattle.saturation.specs.Counted.{dew_turn_counted, dew_point_counted, dew_counted};
 
 use floats::Count;
 use outcome::Refusal;
@@ -191,11 +193,13 @@ impl Vapor<'_> {
     }
 
     // A turn from ln γ: what `activity` refuses at the incipient liquid, then 25 where change or pressure isn't finite.
-    fn turn(self, lg: &[f64; 8]) -> Result<DewTurn, Refusal>
+    fn turn(self, lg: &[f64; 8], begun: &mut u64) -> Result<DewTurn, Refusal>
         ensures { let v = self.entry in
-            outcome_of result ≡ bind (dew_turn (activity_on v.table.now v.tabled) v.ps.now v.m.n v.y.now lg.now) (λ a. ok (turned v.y.now lg.now v.m.n a)) }
+            Counts begun.old (outcome_of result) begun.new
+            (bind_counted (dew_turn_counted (activity_on v.table.now v.tabled) v.ps.now v.m.n v.y.now lg.now) (λ a. uncounted (ok (turned v.y.now lg.now v.m.n a)))) }
     {
         let IncipientLiquid { pressure, liquid } = self.incipient(lg)?;
+        counted::begin(begun);
         // Kept: `excess` into arrays: by `activity`, whose result is copied out of a `Result`, a dew point of two solvents takes 4 to 6 %
         // longer.
         let mut ln_gamma = [0.0; 8];
@@ -209,10 +213,11 @@ impl Vapor<'_> {
     }
 
     // The dew point of converged ln γ.
-    fn point(self, lg: &[f64; 8], iterations: u64) -> Result<DewPoint, Refusal>
-        ensures { let v = self.entry in outcome_of result ≡ dew_point (activity_on v.table.now v.tabled) v.ps.now v.m.n v.y.now lg.now iterations }
+    fn point(self, lg: &[f64; 8], iterations: u64, begun: &mut u64) -> Result<DewPoint, Refusal>
+        ensures { let v = self.entry in Counts begun.old (outcome_of result) begun.new (dew_point_counted (activity_on v.table.now v.tabled) v.ps.now v.m.n v.y.now lg.now iterations) }
     {
         let IncipientLiquid { pressure, liquid } = self.incipient(lg)?;
+        counted::begin(begun);
         let activity = thermo_models::activity(self.table, self.tabled, &liquid)?;
         let residual = residual_with(
             &activity.ln_gamma,
@@ -233,15 +238,16 @@ impl Vapor<'_> {
 }
 
 // The dew point of y, by turns from ln γ = 0 until the change is within the tolerance: 34, what `activity` refuses, 25, and
-// 27 where the limit is used up.
+// 27 where the limit is used up. `begun` counts the evaluations on.
 pub fn dew_at(
     table: &[f64; 512],
     s: Tabled,
     y: &[f64; 8],
     ps: &[f64; 8],
     o: ActivityOptions,
+    begun: &mut u64,
 ) -> Result<DewPoint, Refusal>
-    ensures { outcome_of result ≡ dew_at (activity_on table.now s) ps.now (places s.n) o y.now }
+    ensures { Counts begun.old (outcome_of result) begun.new (dew_counted (activity_on table.now s) ps.now (places s.n) o y.now) }
 {
     let vapor = Vapor {
         table,
@@ -252,10 +258,10 @@ pub fn dew_at(
     };
     let mut lg = [0.0; 8];
     for done in 0..o.max_iterations {
-        let turn = vapor.turn(&lg)?;
+        let turn = vapor.turn(&lg, begun)?;
         lg = turn.ln_gamma;
         if turn.change <= o.tolerance {
-            return vapor.point(&lg, done + 1);
+            return vapor.point(&lg, done + 1, begun);
         }
     }
     Err(Refusal::NotConverged)
@@ -302,13 +308,14 @@ pub fn activity_dew_pressure(
 ) -> Result<ActivitySaturation, Refusal>
     ensures { outcome_of result ≡ dew_task (activity_on table.now s) ps.now (places s.n) o s.t.0 y.now }
 {
+    let mut begun = 0;
     let DewPoint {
         pressure,
         liquid,
         iterations,
         residual,
         ..
-    } = dew_at(table, s, y, ps, o)?;
+    } = dew_at(table, s, y, ps, o, &mut begun)?;
     if !thermo_models::check_pressure(pressure) {
         return Err(Refusal::PressureOutside);
     }

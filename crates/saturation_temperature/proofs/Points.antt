@@ -5,6 +5,7 @@ use Rattle.floats.specs.Arithmetic.{0f}
 use Rattle.floats.specs.Vector.{places}
 use Rattle.floats.specs.Outcome.{Out, ok, no, bind}
 use Rattle.floats.proofs.Outcomes.{refused, bind_inv, need_inv}
+use Rattle.counted.specs.Counted.{Counts}
 use Rattle.thermo_types.specs.declared.ActivityOptions.{ActivityOptions}
 use Rattle.thermo_types.specs.declared.Temperature.{Temperature}
 use Rattle.thermo_types.specs.Quantities.{positive_of, kelvin}
@@ -14,7 +15,9 @@ use Rattle.thermo_models.specs.Activity.{activity_on, activity_of, Stands}
 use Rattle.thermo_models.proofs.Answers.{stands_fresh}
 use Rattle.thermo_models.specs.Domain.{pure_liquids_of}
 use Rattle.saturation.specs.Saturation.{Dew, Saturation, dew_at}
+use Rattle.saturation.specs.Counted.{dew_counted}
 use Rattle.saturation.proofs.Answers.{places_is, stands-places}
+use Rattle.saturation.proofs.Forgets.{dew-outcome}
 use Rattle.saturation_temperature.specs.Search.{Point, Root, solve_temperature}
 use Rattle.saturation_temperature.specs.Boiling.{bubble_point_from, dew_point_from, bubble_saturation, dew_saturation, bubble_point_at, bubble_point, bubble_found, dew_point_at, dew_point, dew_found}
 use Rattle.saturation_temperature.specs.Answers.{activity_from, pures_from, first_of, bubble_tried, dew_tried}
@@ -40,9 +43,11 @@ module _ (book : List ℕ) (P : List Float) (n : ℕ) (few : n ≤ 8) (z : List 
   pub feed-is : {a : Out Activity} → a ≡ activity_on w s z → activity_of book P n T.0 z ≡ a
   feed-is e = sym (rw (stands_fresh h, places_is n few) at e)
 
-  pub dew-is : (o : ActivityOptions) (ps : List Float) {d : Out Dew} → d ≡ dew_at (activity_on w s) ps (places s.n) o z
+  pub dew-is : (o : ActivityOptions) (ps : List Float) {old new : ℕ} {d : Out Dew} → Counts old d new (dew_counted (activity_on w s) ps (places s.n) o z)
       → dew_at (activity_of book P n T.0) ps n o z ≡ d
-  dew-is o ps e = sym (rw (stands_fresh h, stands-places n h, places_is n few) at e)
+  dew-is o ps c =
+      let e = c.outcome ∙ dew-outcome (activity_on w s) ps (places s.n) o z in
+      sym (rw (stands_fresh h, stands-places n h, places_is n few) at e)
 
 -- ---- the pure liquids of the book
 pub pures-is : (book : List ℕ) (T : Temperature) (n : ℕ) (few : n ≤ 8) {p : Out Pures} → p ≡ pure_liquids_of book (places n) T.0 → pure_liquids_of book n T.0 ≡ p

@@ -257,7 +257,8 @@ impl Feed<'_> {
         let pure = thermo_models::pure_liquids(self.book, self.m.n, kelvin)?;
         let mut table = [0.0; 512];
         let s = thermo_models::tables(self.book, self.parameters, self.m.n, kelvin, &mut table);
-        let d = saturation::dew_at(&table, s, self.z, &pure.pressure, o)?;
+        let mut begun = 0;
+        let d = saturation::dew_at(&table, s, self.z, &pure.pressure, o, &mut begun)?;
         let point = Point {
             value: numerics::ln(d.pressure) - numerics::ln(self.p),
             slope: self.dew_slope(&d.liquid, &d.activity.slopes, &pure.slope),

@@ -19,6 +19,7 @@ use Rattle.replies.specs.Blocks.{Answer, answer_bytes, answer_length}
 use Rattle.replies.proofs.Laws.{answer_length_lem}
 use Rattle.sheet.specs.Tasks.{alone, excess_found, saturated, task1, task2, task3, task4, task5, task6, task7, task8, task9, task_at, task_under, task_split, task_of}
 use Rattle.sheet.specs.Sheet.{answer_to, roomy, question_to, sheet_from, sheet_of}
+use Rattle.sheet.proofs.Flashes.{task7-is}
 use Rattle.sheet.proofs.Replies.{rice-alone}
 
 record Eight (a : Answer) : Type 0 where
@@ -38,11 +39,11 @@ module _ (m : Mixture) (q : Question) (small : m.n ≤ 8) where
       each-bind Eight _ _ (λ s e. let h = (stability_few (activity m t) m.n q.options q.fractions).each s e in each-ok Eight (record { count = omega (arith, h.count, small) }))
 
   flash_eight : (t p : Float) → Each Eight (task7 m q t p)
-  unfolding task7
   flash_eight t p =
-      each-bind Eight _ _ (λ f e.
+      rw (task7-is m q t p)
+      (each-bind Eight _ _ (λ f e.
       let h = flash_few (activity m) m.liquids m.domain m.n q.options t q.fractions p f e in
-      each-ok Eight (record { count = omega (arith, h.count, small) }))
+      each-ok Eight (record { count = omega (arith, h.count, small) })))
 
   at-eight : (t : Float) → Each Eight (task_at m q t)
   unfolding task_at task1 excess_found task2 task3

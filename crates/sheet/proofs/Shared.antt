@@ -1,6 +1,6 @@
 -- What the tasks at a temperature share: a table that stands for a mixture, the vapor pressures that a task reads, and both made ready. Assumes nothing.
 use Prim.Native.Nat.{ℕ}
-use mathlib.Core.Path.{◌≡◌, sym, ap, ◌∙◌, fun_ext}
+use mathlib.Core.Path.{◌≡◌, refl, sym, ap, ◌∙◌, fun_ext}
 use mathlib.Core.Bool.{Bool, true, false, ◌||◌}
 use mathlib.Core.List.{List}
 use lib.Dec.{eqb}
@@ -10,9 +10,10 @@ use Rattle.std.specs.Prelude.{Result, Ok, Err}
 use Rattle.std.specs.Result.{IsErrAnd}
 use Rattle.floats.specs.Vector.{places, zeros8}
 use Rattle.floats.specs.Outcome.{Out, ok, no, bind, need, choose}
-use Rattle.floats.proofs.Outcomes.{refused, bind-no}
+use Rattle.floats.proofs.Outcomes.{refused, bind_yes, bind-no, bind_inv}
 use Rattle.outcome.specs.Refused.{number}
 use Rattle.outcome.specs.declared.Refusal.{Refusal}
+use Rattle.counted.specs.Counted.{Counted, uncounted, bind_counted, need_counted, told}
 use Rattle.thermo_types.specs.declared.ActivityOptions.{ActivityOptions}
 use Rattle.thermo_types.specs.declared.Temperature.{Temperature}
 use Rattle.thermo_types.specs.declared.Pressure.{Pressure}
@@ -26,10 +27,13 @@ use Rattle.thermo_models.specs.Mixture.{Mixture, activity, mixture_with, mixture
 use Rattle.thermo_models.proofs.Offered.{copy_mixture}
 use Rattle.saturation.proofs.Answers.{stands-places, stands-kelvin}
 use Rattle.saturation.specs.Saturation.{bubble_task, dew_task, bubble_pressure, dew_pressure_point}
-use Rattle.tp_flash.specs.Tp.{phases_of, tp_flash}
+use Rattle.tp_flash.specs.Tp.{Flash, tp_flash}
+use Rattle.tp_flash.specs.Counted.{phases_counted, flash_counted}
 use Rattle.question.specs.declared.Question.{Question}
-use Rattle.sheet.specs.Tasks.{saturated, task1, task2, task3, task6, task7, task_at}
+use Rattle.replies.specs.Blocks.{Answer}
+use Rattle.sheet.specs.Tasks.{saturated, task1, task2, task3, task6, task7_counted, task7, flash_task, task_at}
 use Rattle.sheet.specs.Ready.{pressures_in, flash_pressures, pressures_for, TableOf, Readied}
+use Rattle.sheet.proofs.Flashes.{given, stopped, told_none, task7-is, flash_task_at}
 
 -- ---- temperatures and pressures
 module _ (o : Out Float) where
@@ -88,8 +92,13 @@ unfolding pressures_in bind
 pure_from (ok v) k e = ap k (same-value e)
 pure_from (no r) k e = absurd (refused e)
 
-need_from : {A B : Type 0} (b : Bool) (r : ℕ) {o : Out A} {a : A} {p q : Out B} → need b r o ≡ ok a → (o ≡ ok a → p ≡ q) → need b r p ≡ q
-unfolding need
+pures_given : {B : Type 0} (o : Out Pures) (k : List Float → Counted B) {ps : List Float} → pressures_in o ≡ ok ps → bind_counted (uncounted o) (λ pure. k pure.pressure) ≡ k ps
+unfolding pressures_in bind
+pures_given (ok v) k e = given (λ (pure : Pures). k pure.pressure) refl ∙ ap k (same-value e)
+pures_given (no r) k e = absurd (refused e)
+
+need_from : {A B : Type 0} (b : Bool) (r : ℕ) {o : Out A} {a : A} {p q : Counted B} → need b r o ≡ ok a → (o ≡ ok a → p ≡ q) → need_counted b r p ≡ q
+unfolding need need_counted
 need_from true r e f = f e
 need_from false r e f = absurd (refused e)
 
@@ -104,12 +113,12 @@ module _ (m : Mixture) {ps : List Float} where
   dew_from o t y e = pure_from (m.liquids t) (λ l. dew_task (activity m t) l m.n o t y) e
 
   pub flash_from : (o : ActivityOptions) (t : Float) (z : List Float) (p : Float) → flash_pressures m t p ≡ ok ps
-      → tp_flash (activity m) m.liquids m.domain m.n o t z p ≡ phases_of (activity m t) m.n o z p ps
-  unfolding flash_pressures tp_flash
+      → flash_counted (activity m) m.liquids m.domain m.n o t z p ≡ phases_counted (activity m t) m.n o z p ps
+  unfolding flash_pressures flash_counted
   flash_from o t z p e =
       need_from (m.domain t) 22 e (λ d.
       need_from (pressure_in_domain p) 23 d (λ b.
-      pure_from (m.liquids t) (λ l. phases_of (activity m t) m.n o z p l) b))
+      pures_given (m.liquids t) (λ l. phases_counted (activity m t) m.n o z p l) b))
 
 -- ---- a refusal of theirs is the task's
 pure-no : {B : Type 0} (o : Out Pures) (k : Pures → Out B) {r : ℕ} → pressures_in o ≡ no r → bind o k ≡ no r
@@ -139,15 +148,57 @@ by-task false false false false x f i e u v w = w e
 
 module _ (m : Mixture) (q : Question) {r : ℕ} where
   at-refused : (t : Float) → pressures_for m q.task q.pressure t ≡ no r → task_at m q t ≡ no r
-  unfolding pressures_for flash_pressures task_at task2 task3 task7 saturated bubble_pressure dew_pressure_point tp_flash
+  unfolding pressures_for flash_pressures task_at task2 task3 saturated bubble_pressure dew_pressure_point tp_flash
   at-refused t e =
       by-task (eqb q.task 1) (eqb q.task 2) (eqb q.task 3) (eqb q.task 6) zeros8 (task1 m q t) (task6 m q t) e
       (λ d. bind-no _ (pure-no (m.liquids t) _ d))
       (λ d. bind-no _ (pure-no (m.liquids t) _ d))
-      (λ d. bind-gone (positive_of q.pressure 14) (flash_pressures m t) (task7 m q t) d (λ p b. bind-no _ (need-gone (m.domain t) 22 b (λ f. need-gone (pressure_in_domain p) 23 f (pure-no (m.liquids t) _)))))
+      (λ d. bind-gone (positive_of q.pressure 14) (flash_pressures m t) (task7 m q t) d (λ p b. task7-is m q t p ∙ bind-no _ (need-gone (m.domain t) 22 b (λ f. need-gone (pressure_in_domain p) 23 f (pure-no (m.liquids t) _)))))
 
   pub task-refused : bind (positive_of q.temperature 13) (pressures_for m q.task q.pressure) ≡ no r → bind (positive_of q.temperature 13) (task_at m q) ≡ no r
   task-refused e = bind-gone (positive_of q.temperature 13) (pressures_for m q.task q.pressure) (task_at m q) e at-refused
+
+-- ---- a flash that is refused before any evaluation, and one that begins its phases
+gone : {A B C : Type 0} (o : Out A) (k : A → Out B) (l : A → Counted C) {r : ℕ} → bind o k ≡ no r → ((a : A) → k a ≡ no r → l a ≡ uncounted (no r)) → bind_counted (uncounted o) l ≡ uncounted (no r)
+unfolding bind
+gone (ok a) k l e f = given l refl ∙ f a e
+gone (no s) k l e f = stopped l s ∙ cc
+
+need_gone_counted : {A B : Type 0} (b : Bool) (s : ℕ) {o : Out A} {p : Counted B} {r : ℕ} → need b s o ≡ no r → (o ≡ no r → p ≡ uncounted (no r)) → need_counted b s p ≡ uncounted (no r)
+unfolding need need_counted
+need_gone_counted true s e f = f e
+need_gone_counted false s e f = cc
+
+module _ (m : Mixture) (q : Question) where
+  flash-gone : (t p : Float) {r : ℕ} → flash_pressures m t p ≡ no r → task7_counted m q t p ≡ uncounted (no r)
+  unfolding flash_pressures pressures_in task7_counted flash_counted
+  flash-gone t p e =
+      told_none _ _
+      (need_gone_counted (m.domain t) 22 e (λ d.
+      need_gone_counted (pressure_in_domain p) 23 d (λ b.
+      gone (m.liquids t) (λ pure. ok pure.pressure) _ b (λ pure h. absurd (refused (sym h))))))
+
+  pub flash_unready : {e : Refusal} {table ps : List Float} → Readied m 7 q.temperature q.pressure (Err e) table ps → flash_task m q ≡ uncounted (no (number e))
+  unfolding flash_task pressures_for choose
+  flash_unready h =
+      gone (positive_of q.temperature 13) (pressures_for m 7 q.pressure) _ (h.refused _ refl) (λ t d.
+      gone (positive_of q.pressure 14) (flash_pressures m t) _ d (λ p b. flash-gone t p b))
+
+  module _ {s : Tabled} {table ps : List Float} (h : Readied m 7 q.temperature q.pressure (Ok s) table ps) where
+    -- the pressure that its vapor pressures passed
+    pub flash_pressure : (p : Float) × (positive_of q.pressure 14 ≡ ok p) × (flash_pressures m s.t.0 p ≡ ok ps)
+    unfolding pressures_for choose
+    flash_pressure = bind_inv (positive_of q.pressure 14) (flash_pressures m s.t.0) (h.pressures _ refl)
+
+    pub pressures_at : {p : Float} → positive_of q.pressure 14 ≡ ok p → flash_pressures m s.t.0 p ≡ ok ps
+    unfolding pressures_for choose
+    pressures_at e = sym (bind_yes _ e) ∙ h.pressures _ refl
+
+    pub flash_begins : (flash_task m q).begun ≡ (phases_counted (activity m s.t.0) m.n q.options q.fractions flash_pressure.0 ps).begun
+    unfolding task7_counted told
+    flash_begins =
+        ap (λ (c : Counted Answer). c.begun) (flash_task_at m q (h.temperature _ refl) flash_pressure.1)
+        ∙ ap (λ (c : Counted Flash). c.begun) (flash_from m q.options s.t.0 q.fractions flash_pressure.0 flash_pressure.2)
 
 -- they are the book's, whatever its pairs
 pub pressures-copied : (n : ℕ) (book offered : List ℕ) (task : ℕ) (p t : Float) {o : Out (List Float)}

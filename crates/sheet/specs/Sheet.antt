@@ -44,6 +44,11 @@ unfoldable pub written : Out (List ℕ) → List ℕ → List ℕ
 written (ok bs) old = bs ++ drop (length bs) old
 written (no r) old = old
 
+-- where the whole slice is what a call gives: that, or with a refusal the slice as it was
+unfoldable pub slice_of : Out (List ℕ) → List ℕ → List ℕ
+slice_of (ok new) old = new
+slice_of (no r) old = old
+
 -- what a call does: its result r and the slice
 pub record Answers (o : Out (List ℕ)) (r : ℕ) (old new : List ℕ) : Type 0 where
   pub number : r ≡ number_of o

@@ -3,6 +3,7 @@ use Rattle.std.specs.Prelude.{[], eqb, Float}
 use Rattle.floats.specs.Small.{is_finite}
 use Rattle.floats.specs.Vector.{at}
 use Rattle.floats.specs.Outcome.{Out, ok, no, bind, need, choose}
+use Rattle.counted.specs.Counted.{Counted, uncounted, bind_counted, told, count_word}
 use Rattle.thermo_types.specs.Quantities.{positive_of}
 use Rattle.excess.specs.State.{Excess}
 use Rattle.thermo_models.specs.declared.Assessment.{Assessment}
@@ -12,7 +13,8 @@ use Rattle.rachford_rice.specs.declared.RachfordRiceOutcome.TheVariants.{TwoPhas
 use Rattle.saturation.specs.Saturation.{Saturation, bubble_pressure, dew_pressure_point}
 use Rattle.saturation_temperature.specs.Boiling.{bubble_temperature, dew_temperature}
 use Rattle.liquid_stability.specs.Stability.{stability_of}
-use Rattle.tp_flash.specs.Tp.{trials_of, tp_flash}
+use Rattle.tp_flash.specs.Tp.{trials_of}
+use Rattle.tp_flash.specs.Counted.{flash_counted}
 use Rattle.question.specs.Inputs.{needs_temperature, needs_pressure}
 use Rattle.question.specs.declared.Question.{Question}
 use Rattle.replies.specs.declared.AnswerBlock.{AnswerBlock}
@@ -58,11 +60,20 @@ module _ (m : Mixture) (q : Question) where
       bind (stability_of (activity m t) m.n q.options q.fractions) (λ s.
       ok (record { block = stability_block s.stable s.count; trials = s.trials }))
 
-  -- 7 `activity_tp_flash`
+  -- 7 `activity_tp_flash`, with the evaluations that it begins, which its answer tells
+  unfoldable pub task7_counted : Float → Float → Counted Answer
+  task7_counted t p =
+      told (flash_counted (activity m) m.liquids m.domain m.n q.options t q.fractions p) (λ f k.
+      record { block = flash_block t p f (count_word k); trials = (trials_of f).trials })
+
   unfoldable pub task7 : Float → Float → Out Answer
-  task7 t p =
-      bind (tp_flash (activity m) m.liquids m.domain m.n q.options t q.fractions p) (λ f.
-      ok (record { block = flash_block t p f; trials = (trials_of f).trials }))
+  task7 t p = (task7_counted t p).outcome
+
+  -- from the question's T and p (13, 14)
+  unfoldable pub flash_task : Counted Answer
+  flash_task =
+      bind_counted (uncounted (positive_of q.temperature 13)) (λ t.
+      bind_counted (uncounted (positive_of q.pressure 14)) (task7_counted t))
 
   -- 8 `rachford_rice` and 9 `rachford_rice_negative`
   unfoldable pub task8 : Out Answer

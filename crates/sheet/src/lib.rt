@@ -1,10 +1,11 @@
 // The core as the desk calls it: a book, a question and an answer slice.
 #![tactic(auto)]
 
-ghost use Rattle.std.specs.Prelude.{◌≡◌, cond, true, List, ℕ, ◌≤◌, ◌<◌, ◌+◌, ◌*◌, length, Float};
+ghost use Rattle.std.specs.Prelude.{◌≡◌, cond, true, List, ℕ, ◌≤◌, ◌<◌, ◌+◌, ◌*◌, length, Float, Ok};
 ghost use Rattle.floats.specs.Vector.{places};
 ghost use Rattle.floats.specs.Outcome.{ok, bind};
 ghost use Rattle.outcome.specs.Refused.{outcome_of, number_in};
+ghost use Rattle.counted.specs.Counted.{count_word};
 ghost use Rattle.thermo_types.specs.Quantities.{positive_of};
 ghost use Rattle.book.specs.Book.{rule_of};
 ghost use Rattle.records.specs.Offered.{with_pair};
@@ -12,7 +13,7 @@ ghost use Rattle.thermo_models.specs.Domain.{pure_liquids_of};
 ghost use Rattle.thermo_models.specs.Mixture.{mixture_with, mixture_of};
 ghost use Rattle.question.specs.Inputs.{is_task, task_number, needs_temperature};
 ghost use Rattle.replies.specs.Blocks.{answer_room, answer_bytes};
-ghost use Rattle.sheet.specs.Tasks.{alone, saturated, task1, task6, task7, task_at, task_under, task_of};
+ghost use Rattle.sheet.specs.Tasks.{alone, saturated, task1, task6, task7, task7_counted, flash_task, task_at, task_under, task_of};
 ghost use Rattle.sheet.specs.Ready.{pressures_in, flash_pressures, pressures_for, TableOf, Readied};
 ghost use Rattle.sheet.specs.Asked.{mixture_in, bytes_for, split};
 ghost use Rattle.sheet.specs.Sheet.{answer_to, roomy, sheet_from, sheet_of, Answers};
@@ -250,25 +251,36 @@ impl<'a> Asked<'a> {
         ensures { TableOf (mixture_in self.entry.source) made.entry.at made.entry.table.now → Answers (bytes_for self.entry (task6 (mixture_in self.entry.source) self.entry.q.now made.entry.at.t.0)) (number_in result) out.old out.new }
     {
         let q = self.q;
+        let mut begun = 0;
         let found = liquid_stability::liquid_stability(
             made.table,
             made.at,
             q.options,
             &q.fractions,
+            &mut begun,
         )?;
         let b = stability_block(found.stable, found.count);
         self.write_answer(b, &found.trials, out);
         Ok(())
     }
 
-    // Task 7, from the vapor pressures that its T and p have.
-    fn flash(self, made: Made, p: Pressure, out: &mut [u8; ANSWER_ROOM]) -> Result<(), Refusal>
-        ensures { TableOf (mixture_in self.entry.source) made.entry.at made.entry.table.now → flash_pressures (mixture_in self.entry.source) made.entry.at.t.0 p.0 ≡ ok made.entry.ps.now → Answers (bytes_for self.entry (task7 (mixture_in self.entry.source) self.entry.q.now made.entry.at.t.0 p.0)) (number_in result) out.old out.new }
+    // Task 7, from the vapor pressures that its T and p have. The evaluations that it began, with a refusal too, go into `begun`.
+    fn flash(
+        self,
+        made: Made,
+        p: Pressure,
+        begun: &mut u64,
+        out: &mut [u8; ANSWER_ROOM],
+    ) -> Result<(), Refusal>
+        ensures answers { TableOf (mixture_in self.entry.source) made.entry.at made.entry.table.now → flash_pressures (mixture_in self.entry.source) made.entry.at.t.0 p.0 ≡ ok made.entry.ps.now → Answers (bytes_for self.entry (task7 (mixture_in self.entry.source) self.entry.q.now made.entry.at.t.0 p.0)) (number_in result) out.old out.new }
+        ensures counted { TableOf (mixture_in self.entry.source) made.entry.at made.entry.table.now → flash_pressures (mixture_in self.entry.source) made.entry.at.t.0 p.0 ≡ ok made.entry.ps.now → count_word begun.new ≡ count_word (task7_counted (mixture_in self.entry.source) self.entry.q.now made.entry.at.t.0 p.0).begun }
+        ensures long { length out.new ≡ answer_room }
     {
         let Made { table, at, ps } = made;
         let q = self.q;
-        let f = tp_flash::activity_tp_flash(table, at, q.options, &q.fractions, p, ps)?;
-        let b = flash_block(at.t.value(), p.value(), f);
+        *begun = 0;
+        let f = tp_flash::activity_tp_flash(table, at, q.options, &q.fractions, p, ps, begun)?;
+        let b = flash_block(at.t.value(), p.value(), f, *begun);
         let trials = f.trials.unwrap_or(liquid_stability::no_trials());
         self.write_answer(b, &trials.trials, out);
         Ok(())
@@ -308,7 +320,8 @@ impl<'a> Asked<'a> {
             Task::Stability => self.stability(made, out),
             _ => {
                 let p = Pressure::new(q.pressure)?;
-                self.flash(made, p, out)
+                let mut begun = 0;
+                self.flash(made, p, &mut begun, out)
             }
         }
     }
@@ -430,6 +443,31 @@ pub fn answer_ready(
     let offered = b"";
     let asked = Asked::of(Source { book, offered, n }, &q);
     asked.task_at(Made { table, at, ps }, room)
+}
+
+// The answer to a flash that was read, from what was made ready for it at its T and p, in a slice with the room for an answer (10).
+// The evaluations that it began, with a refusal too, go into `begun`.
+pub fn flash_ready(
+    book: &[u8],
+    n: usize,
+    at: Tabled,
+    table: &[f64; 512],
+    ps: &[f64; 8],
+    q: &Question,
+    begun: &mut u64,
+    out: &mut [u8],
+) -> Result<(), Refusal>
+    ensures answers { q.now.task ≡ 7 → Readied (mixture_of book.now (places n)) 7 q.now.temperature q.now.pressure (Ok at) table.now ps.now → Answers (roomy (length out.old) (answer_to book.now (places n) q.now)) (number_in result) out.old out.new }
+    ensures counted { answer_room ≤ length out.old → Readied (mixture_of book.now (places n)) 7 q.now.temperature q.now.pressure (Ok at) table.now ps.now → count_word begun.new ≡ count_word (flash_task (mixture_of book.now (places n)) q.now).begun }
+    ensures long { length out.new ≡ length out.old }
+{
+    let Some(room) = out.first_chunk_mut::<ANSWER_ROOM>() else {
+        return Err(Refusal::AnswerShort);
+    };
+    let p = Pressure::new(q.pressure)?;
+    let offered = b"";
+    let asked = Asked::of(Source { book, offered, n }, q);
+    asked.flash(Made { table, at, ps }, p, begun, room)
 }
 
 // The answer to a question, for a book that was opened: 10, then 11 to 21, then the task's own.

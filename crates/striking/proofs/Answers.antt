@@ -1,5 +1,5 @@
 -- Every task is struck, up to the words of its answer, for any two mixtures that are the same for the solvents kept. Assumes nothing.
-use mathlib.Core.Path.{◌≡◌, refl, sym, ap, subst}
+use mathlib.Core.Path.{◌≡◌, refl, sym, ap, ◌∙◌, subst}
 use mathlib.Core.Logic.{inl}
 use Prim.Native.Nat.{ℕ, zero, suc, ◌≤◌, ◌<◌}
 use native.Mathlib.Omega.{arith}
@@ -11,6 +11,7 @@ use lib.Ieee.{Float}
 use Rattle.floats.specs.Arithmetic.{0f}
 use Rattle.floats.specs.Vector.{at}
 use Rattle.floats.specs.Outcome.{ok, no}
+use Rattle.counted.specs.Counted.{told, count_word}
 use Rattle.thermo_types.specs.Quantities.{positive_of}
 use Rattle.blocks.specs.Bytes.{word_at}
 use Rattle.excess.specs.State.{Excess}
@@ -21,15 +22,17 @@ use Rattle.rachford_rice.specs.declared.RachfordRiceOutcome.TheVariants.{LiquidO
 use Rattle.rachford_rice.specs.Rachford.{Solution}
 use Rattle.saturation.specs.Saturation.{Saturation}
 use Rattle.liquid_stability.specs.Stability.{Trials, no_trial, stability_of}
-use Rattle.tp_flash.specs.Tp.{Flash, trials_of, tp_flash}
+use Rattle.tp_flash.specs.Tp.{Flash, trials_of}
 use Rattle.question.specs.declared.Question.{Question}
 use Rattle.replies.specs.declared.State.{State}
 use Rattle.replies.specs.declared.ModelState.{ModelState}
 use Rattle.replies.specs.Blocks.{bit, status_number, state_words, model_words, Answer}
 use Rattle.replies.specs.Answers.{excess_block, saturation_block, stability_block, phase_number, flash_block, rice_block}
-use Rattle.sheet.specs.Tasks.{alone, excess_found, saturated, task1, task2, task3, task4, task5, task6, task7, task8, task9, task_at, task_under, task_split, task_of}
+use Rattle.sheet.specs.Tasks.{alone, excess_found, saturated, task1, task2, task3, task4, task5, task6, task7_counted, task7, task8, task9}
+use Rattle.sheet.specs.Tasks.{task_at, task_under, task_split, task_of}
 use Rattle.liquid_stability.proofs.Counts.{stability_few}
 use Rattle.tp_flash.proofs.Counts.{flash_few}
+use Rattle.tp_flash.proofs.Forgets.{flash-outcome}
 use Rattle.zeros.specs.Same.{◌≈◌}
 use Rattle.zeros.proofs.Congruence.{same, ≈refl}
 use Rattle.striking.specs.Places.{cnt}
@@ -75,10 +78,12 @@ same-state s s' a b c d e f g h i j =
     same_word a then same_word b then same_word c then same_word d then word_same e then same_word f then same_word g then same_word h then word_same i then word_same j then end
 
 same-model : (m m' : ModelState) → m.reduced ≈ m'.reduced → m.gibbs ≈ m'.gibbs → m.enthalpy ≈ m'.enthalpy → m.entropy ≈ m'.entropy → m.heat_capacity ≈ m'.heat_capacity
-    → m.validity ≡ m'.validity → m.inferred ≡ m'.inferred → m.stable ≡ m'.stable → SameWords (model_words m) (model_words m')
+    → m.validity ≡ m'.validity → m.inferred ≡ m'.inferred → m.stable ≡ m'.stable → m.evaluations ≡ m'.evaluations
+    → SameWords (model_words m) (model_words m')
 unfolding model_words
-same-model m m' a b c d e f g h =
-    same_word a then same_word b then same_word c then same_word d then same_word e then word_same (ap status_number f) then word_same (ap bit g) then word_same (ap bit h) then end
+same-model m m' a b c d e f g h i =
+    same_word a then same_word b then same_word c then same_word d then same_word e then word_same (ap status_number f) then word_same (ap bit g)
+    then word_same (ap bit h) then word_same i then end
 
 -- what two answers have in common
 pub record SameAnswer (keep : ℕ → Bool) (n : ℕ) (a b : Answer) : Type 0 where
@@ -104,7 +109,8 @@ module _ (keep : ℕ → Bool) (n : ℕ) (small : n ≤ 8) where
     state = same-words _;
     liquid = s.ln_gamma;
     vapor = s.slopes;
-    model = same-model _ _ s.reduced s.gibbs s.enthalpy s.entropy s.heat_capacity (ap (λ (x : Assessment). x.status) w) (ap (λ (x : Assessment). x.inferred) w) refl;
+    model = same-model _ _ s.reduced s.gibbs s.enthalpy s.entropy s.heat_capacity (ap (λ (x : Assessment). x.status) w)
+        (ap (λ (x : Assessment). x.inferred) w) refl refl;
     few = omega arith;
     count = refl;
     trials = λ k h. none k h;
@@ -136,20 +142,22 @@ module _ (keep : ℕ → Bool) (n : ℕ) (small : n ≤ 8) where
     state = same-state _ _ zero_≈ zero_≈ zero_≈ zero_≈ refl zero_≈ zero_≈ zero_≈ h.count refl;
     liquid = zeros-kept keep n small;
     vapor = zeros-kept keep n small;
-    model = same-model _ _ zero_≈ zero_≈ zero_≈ zero_≈ zero_≈ refl refl h.stable;
+    model = same-model _ _ zero_≈ zero_≈ zero_≈ zero_≈ zero_≈ refl refl h.stable refl;
     few = l;
     count = h.count;
     trials = h.trials;
   }
 
-  flash_answer_lem : (t p : Float) (f f' : Flash) → SameFlash keep n f f' → (trials_of f).count ≤ n
-      → SameAnswer keep n (record { block = flash_block t p f; trials = (trials_of f).trials }) (record { block = flash_block t p f'; trials = (trials_of f').trials })
-  flash_answer_lem t p f f' h l = record {
+  -- word 38: as many evaluations
+  flash_answer_lem : (t p : Float) (f f' : Flash) (k k' : ℕ) → SameFlash keep n f f' → k ≡ k' → (trials_of f).count ≤ n
+      → SameAnswer keep n (record { block = flash_block t p f k; trials = (trials_of f).trials })
+      (record { block = flash_block t p f' k'; trials = (trials_of f').trials })
+  flash_answer_lem t p f f' k k' h e l = record {
     outcome = ap phase_number h.phases;
     state = same-state _ _ (≈refl t) (≈refl p) (same h.bubble) (same h.dew) h.iterations h.residual h.balance (same h.vapor_fraction) h.trials.count h.notes;
     liquid = h.liquid.fraction;
     vapor = h.vapor.fraction;
-    model = same-model _ _ zero_≈ zero_≈ zero_≈ zero_≈ zero_≈ refl refl h.tested;
+    model = same-model _ _ zero_≈ zero_≈ zero_≈ zero_≈ zero_≈ refl refl h.tested e;
     few = l;
     count = h.trials.count;
     trials = h.trials.trials;
@@ -198,11 +206,12 @@ module _ (keep : ℕ → Bool) (n : ℕ) (small : n ≤ 8) (m m' : Mixture) (hm 
       acc_ok (stability_answer_lem keep n small u u' h.0 (fewer ((stability_few (activity m t) m.n a.options z).each u h.1).count)))
 
   strike_7 : (t p : Float) → Acc (SameAnswer keep n) (task7 m a t p) (task7 m' b t p)
-  unfolding task7 with_feed
+  unfolding task7 task7_counted told with_feed
   strike_7 t p =
-      acc_bind (λ (f f' : Flash). SameFlash keep n f f' × (tp_flash (activity m) m.liquids m.domain m.n a.options t z p ≡ ok f)) _ _ _ _
-      (acc_known (SameFlash keep n) _ _ (struck.task7 keep n small m m' hm z z' s a.options t p)) (λ f f' h.
-      acc_ok (flash_answer_lem keep n small t p f f' h.0 (fewer (flash_few (activity m) m.liquids m.domain m.n a.options t z p f h.1).count)))
+      acc_bind _ _ _ _ _ (acc_known _ _ _ (struck.task7 keep n small m m' hm z z' s a.options t p).counted) (λ f f' h.
+      let found = sym (flash-outcome (activity m) m.liquids m.domain m.n a.options t z p) ∙ h.1 in
+      let few = (flash_few (activity m) m.liquids m.domain m.n a.options t z p f found).count in
+      acc_ok (flash_answer_lem keep n small t p f f' _ _ h.0.0 (ap count_word h.0.1) (fewer few)))
 
   strike_8 : Acc (SameAnswer keep n) (task8 m a) (task8 m' b)
   unfolding task8 with_feed

@@ -1,6 +1,7 @@
 -- Laws of striking. Assumes nothing.
 pub mod Strike
 pub mod Acc
+pub mod AccCounted
 pub mod Jets
 pub mod Sums
 pub mod Excess

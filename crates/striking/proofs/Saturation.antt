@@ -13,17 +13,22 @@ use Rattle.floats.specs.Outcome.{Out}
 use Rattle.numerics.specs.Numerics.{ln_of}
 use Rattle.thermo_types.specs.declared.ActivityOptions.{ActivityOptions}
 use Rattle.thermo_models.specs.Model.{Activity, Activities, Liquids, pressure_in_domain}
-use Rattle.saturation.specs.Saturation.{Bubble, Dew, partial_of, partial_sum, bubble_from, gap_at, gap_of, residual_with, dew_term, dew_pressure, dew_liquid, change_of, bubble_at, residual, dew_turn, dew_point, dew_loop, dew_at, bubble_pressure, dew_pressure_point, bubble_task, dew_task}
+use Rattle.saturation.specs.Saturation.{Bubble, Dew, partial_of, partial_sum, bubble_from, gap_at, gap_of, residual_with, dew_term, dew_pressure, dew_liquid}
+use Rattle.saturation.specs.Saturation.{change_of, bubble_at, residual, dew_turn, dew_point, dew_at, bubble_pressure, dew_pressure_point, bubble_task}
+use Rattle.saturation.specs.Saturation.{dew_task}
+use Rattle.saturation.specs.Counted.{dew_turn_counted, dew_point_counted, dew_loop_counted, dew_counted}
+use Rattle.saturation.proofs.Forgets.{dew-outcome}
 use Rattle.zeros.specs.Same.{◌≈◌}
 use Rattle.zeros.proofs.Congruence.{≈refl, ≈trans, same, add_≈, sub_≈, mul_≈, div_≈, lt_≈, le_≈}
 use Rattle.zeros.proofs.Zero.{Zero}
 use Rattle.zeros.proofs.Numbers.{pick_≈, abs_≈, exp_≈, ln_≈}
 use Rattle.striking.specs.Places.{cnt}
-use Rattle.striking.specs.Accepted.{Acc}
+use Rattle.striking.specs.Accepted.{Acc, AccCounted}
 use Rattle.striking.specs.Related.{Fractions}
 use Rattle.striking.specs.Results.{SameActivity, SamePures, SameSaturation}
 use Rattle.striking.proofs.Strike.{strike_fold}
-use Rattle.striking.proofs.Acc.{acc_bind, acc_need, acc_if, acc_ok, acc_no}
+use Rattle.striking.proofs.Acc.{acc_bind, acc_need, acc_ok}
+use Rattle.striking.proofs.AccCounted.{accc_bind, accc_if, accc_no, accc_after, forget_acc}
 use Rattle.striking.proofs.Excess.{is_finite_≈}
 use Rattle.striking.proofs.Active.{gone_not_pos, cond_off, cond_fit, zero_cond, max_≈, strike_active, cong2}
 use Rattle.striking.proofs.Vectors.{SameFractions, zeros-kept, parts-sum, parts-fractions, strike_normalize}
@@ -143,19 +148,25 @@ module _ (keep : ℕ → Bool) (n : ℕ) (small : n ≤ 8) (ps ps' : List Float)
             acc_ok ha))))
 
       strike_dew_loop : (tolerance : Float) (left done : ℕ) (lg lg' : List Float) → ((i : ℕ) → i < n → T (keep i) → at lg i ≈ at lg' (cnt keep i))
-          → Acc (SameDew keep n) (dew_loop E ps n y tolerance left done lg) (dew_loop E' ps' (cnt keep n) y' tolerance left done lg')
-      unfolding dew_loop
-      strike_dew_loop tolerance zero done lg lg' hl = acc_no _
+          → AccCounted (SameDew keep n) (dew_loop_counted E ps n y tolerance left done lg) (dew_loop_counted E' ps' (cnt keep n) y' tolerance left done lg')
+      unfolding dew_loop_counted dew_turn_counted dew_point_counted dew_turn dew_point
+      strike_dew_loop tolerance zero done lg lg' hl = accc_no 27 _
       strike_dew_loop tolerance (suc left) done lg lg' hl =
-          acc_bind (SameActivity keep n) _ _ _ _ (strike_dew_turn lg lg' hl) (λ a a' ha.
-          acc_if _ _ _ _ _ _ (le_≈ (same-change lg lg' hl a.ln_gamma a'.ln_gamma ha.ln_gamma) (≈refl tolerance))
-          (λ c. strike_dew_point a.ln_gamma a'.ln_gamma ha.ln_gamma (suc done))
-          (λ c. strike_dew_loop tolerance left (suc done) a.ln_gamma a'.ln_gamma ha.ln_gamma))
+          accc_bind (SameActivity keep n) _ _ _ _
+          (accc_after (SameFractions keep n) _ _ _ _ (strike_dew_liquid lg lg' hl) (strike_dew_turn lg lg' hl)) (λ a a' ha.
+          let hg = ha.ln_gamma in
+          accc_if _ _ _ _ _ _ (le_≈ (same-change lg lg' hl a.ln_gamma a'.ln_gamma hg) (≈refl tolerance))
+          (λ c.
+          accc_after (SameFractions keep n) _ _ _ _ (strike_dew_liquid a.ln_gamma a'.ln_gamma hg) (strike_dew_point a.ln_gamma a'.ln_gamma hg (suc done)))
+          (λ c. strike_dew_loop tolerance left (suc done) a.ln_gamma a'.ln_gamma hg))
 
-      -- `dew_at`
+      -- `dew_at`, with the evaluations that it begins
+      pub strike_dew_counted : (o : ActivityOptions) → AccCounted (SameDew keep n) (dew_counted E ps n o y) (dew_counted E' ps' (cnt keep n) o y')
+      unfolding dew_counted
+      strike_dew_counted o = strike_dew_loop o.tolerance o.max_iterations 0 zeros8 zeros8 (zeros-kept keep n small)
+
       pub strike_dew : (o : ActivityOptions) → Acc (SameDew keep n) (dew_at E ps n o y) (dew_at E' ps' (cnt keep n) o y')
-      unfolding dew_at
-      strike_dew o = strike_dew_loop o.tolerance o.max_iterations 0 zeros8 zeros8 (zeros-kept keep n small)
+      strike_dew o = forget_acc (dew-outcome E ps n o y) (dew-outcome E' ps' (cnt keep n) o y') (strike_dew_counted o)
 
 -- ---- tasks 2 and 3, for any model and pure liquids that are struck
 module _ (keep : ℕ → Bool) (n : ℕ) (small : n ≤ 8)

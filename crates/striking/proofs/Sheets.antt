@@ -92,21 +92,21 @@ module _ (task : ℕ) (x : AnswerBlock) where
   answer-liquid : (i : ℕ) → i < 8 → word_at (answer_words task x) (14 + i) ≡ bits_of (at x.liquid i)
   unfolding answer_words with-vapor with-liquid with-state base
   answer-liquid i l =
-      fill_from_before (word_at (model_words x.model)) 30 8 with-vapor 0 (14 + i) (omega arith)
+      fill_from_before (word_at (model_words x.model)) 30 9 with-vapor 0 (14 + i) (omega arith)
       ∙ fill_from_before (λ i. bits_of (at x.vapor i)) 22 8 with-liquid 0 (14 + i) (omega arith)
       ∙ fill_from-at (λ i. bits_of (at x.liquid i)) 14 8 with-state 0 i (omega (arith, state-long)) l
 
   answer-vapor : (i : ℕ) → i < 8 → word_at (answer_words task x) (22 + i) ≡ bits_of (at x.vapor i)
   unfolding answer_words with-vapor with-liquid with-state base
   answer-vapor i l =
-      fill_from_before (word_at (model_words x.model)) 30 8 with-vapor 0 (22 + i) (omega arith)
+      fill_from_before (word_at (model_words x.model)) 30 9 with-vapor 0 (22 + i) (omega arith)
       ∙ fill_from-at (λ i. bits_of (at x.vapor i)) 22 8 with-liquid 0 i (omega (arith, liquid-long)) l
 
   -- word 12
   answer-trials : word_at (answer_words task x) 12 ≡ x.state.trials
   unfolding answer_words state_words with-vapor with-liquid with-state base
   answer-trials =
-      fill_from_before (word_at (model_words x.model)) 30 8 with-vapor 0 12 (omega arith)
+      fill_from_before (word_at (model_words x.model)) 30 9 with-vapor 0 12 (omega arith)
       ∙ fill_from_before (λ i. bits_of (at x.vapor i)) 22 8 with-liquid 0 12 (omega arith)
       ∙ fill_from_before (λ i. bits_of (at x.liquid i)) 14 8 with-state 0 12 (omega arith)
       ∙ fill_from-at (word_at (state_words x.state)) 4 10 base 0 8 (omega arith) (omega arith)
@@ -121,7 +121,8 @@ module _ (keep : ℕ → Bool) (n : ℕ) (small : n ≤ 8) where
     outside : (k : ℕ) → ((j : ℕ) → j < 8 → 14 + j ≡ k → ⊥) → ((j : ℕ) → j < 8 → 22 + j ≡ k → ⊥) → SameWord (head task a k) (head task b k)
     unfolding answer_words with-vapor with-liquid with-state base
     outside k p q =
-        fill-same k (word_at (model_words a.block.model)) (word_at (model_words b.block.model)) 30 8 _ _ (vapor-long task a.block ∙ sym (vapor-long task b.block)) (λ j l e. h.model.entry j)
+        fill-same k (word_at (model_words a.block.model)) (word_at (model_words b.block.model)) 30 9 _ _
+        (vapor-long task a.block ∙ sym (vapor-long task b.block)) (λ j l e. h.model.entry j)
         (fill-same k (λ i. bits_of (at a.block.vapor i)) (λ i. bits_of (at b.block.vapor i)) 22 8 _ _ (liquid-long task a.block ∙ sym (liquid-long task b.block)) (λ j l e. absurd (q j l e))
         (fill-same k (λ i. bits_of (at a.block.liquid i)) (λ i. bits_of (at b.block.liquid i)) 14 8 _ _ (state-long task a.block ∙ sym (state-long task b.block)) (λ j l e. absurd (p j l e))
         (fill-same k (word_at (state_words a.block.state)) (word_at (state_words b.block.state)) 4 10 _ _ refl (λ j l e. h.state.entry j)

@@ -10,18 +10,21 @@ use Rattle.floats.specs.Vector.{at}
 use Rattle.floats.specs.Outcome.{Out}
 use Rattle.numerics.specs.Numerics.{ln_of}
 use Rattle.thermo_models.specs.Model.{Activity}
-use Rattle.tp_flash.specs.Split.{Split, Turn, rice_limit, k_values, phase_of, split_gap, balance_of, turn_at, split_turn, split_from}
+use Rattle.tp_flash.specs.Split.{Split, Turn, rice_limit, k_values, phase_of, split_gap, balance_of, turn_at, split_from}
+use Rattle.tp_flash.specs.Counted.{split_turn_counted, split_counted}
+use Rattle.tp_flash.proofs.Forgets.{split-outcome}
 use Rattle.zeros.specs.Same.{◌≈◌}
 use Rattle.zeros.proofs.Congruence.{≈refl, ≈trans, same, add_≈, sub_≈, mul_≈, lt_≈, le_≈}
 use Rattle.zeros.specs.Below.{◌⊑◌}
 use Rattle.zeros.proofs.Below.{gone-mul-r, gone-add, gone-sub}
 use Rattle.zeros.proofs.Numbers.{pick_≈, abs_≈, exp_≈}
 use Rattle.striking.specs.Places.{cnt}
-use Rattle.striking.specs.Accepted.{Acc}
+use Rattle.striking.specs.Accepted.{Acc, AccCounted}
 use Rattle.striking.specs.Related.{Fractions}
 use Rattle.striking.specs.Results.{SameActivity, SameSolution}
 use Rattle.striking.proofs.Strike.{strike_fold}
-use Rattle.striking.proofs.Acc.{acc_bind, acc_need, acc_if, acc_ok, acc_no}
+use Rattle.striking.proofs.Acc.{acc_bind, acc_need, acc_ok}
+use Rattle.striking.proofs.AccCounted.{accc_bind, accc_if, accc_ok, accc_no, accc_uncounted, accc_evaluated, forget_acc}
 use Rattle.striking.proofs.Excess.{is_finite_≈}
 use Rattle.striking.proofs.Active.{gone_not_pos, cond_fit, zero_cond, max_≈, strike_active, cong2}
 use Rattle.striking.proofs.Vectors.{SameFractions, vec_kept, strike_normalize}
@@ -76,23 +79,45 @@ module _ (keep : ℕ → Bool) (n : ℕ) (small : n ≤ 8) (E E' : List Float �
   unfolding split_gap
   same-split_gap lg lg' hl x x' y y' hx hy = strike_active keep n ◌≈◌ (at z) (at z') hz _ _ 0f 0f (≈refl 0f) (λ i l q a b h. max_≈ h (same-gap_at keep n small ps ps' hps lg lg' hl p p refl x x' y y' hx hy i l q))
 
-  strike_split_turn : (lg lg' : List Float) → ((i : ℕ) → i < n → T (keep i) → at lg i ≈ at lg' (cnt keep i)) → (iteration : ℕ) → Acc (SameTurn keep n) (split_turn E ps n p z lg iteration) (split_turn E' ps' (cnt keep n) p z' lg' iteration)
-  unfolding split_turn turn_at
-  strike_split_turn lg lg' hl iteration =
-      acc_bind (SameSolution keep n) _ _ _ _ (strike_negative keep n small (at z) (at z') (at (k_values z ps p lg n)) (at (k_values z' ps' p lg' (cnt keep n))) hz ez (same-k lg lg' hl) rice_limit) (λ rr rr' hr.
-      acc_bind (SameFractions keep n) _ _ _ _ (strike_phase rr.liquid rr'.liquid hr.liquid) (λ x x' hx.
-      acc_bind (SameFractions keep n) _ _ _ _ (strike_phase rr.vapor rr'.vapor hr.vapor) (λ y y' hy.
+  -- the phases of a turn, and the activity at its liquid
+  strike_turn_at : (β : Float) (x x' y y' : List Float) → Fractions keep n (at x) (at x') → Fractions keep n (at y) (at y') → (iteration : ℕ)
+      → Acc (SameTurn keep n) (turn_at E ps n p z β x y iteration) (turn_at E' ps' (cnt keep n) p z' β x' y' iteration)
+  unfolding turn_at
+  strike_turn_at β x x' y y' hx hy iteration =
       acc_bind (SameActivity keep n) _ _ _ _ (hE x x' hx) (λ a a' ha.
       let g = same-split_gap a.ln_gamma a'.ln_gamma ha.ln_gamma x x' y y' hx hy in
       acc_need _ _ 25 _ _ (λ h. subst T (is_finite_≈ g) h) (λ f.
-      acc_ok (record { split = record { vapor_fraction = hr.vapor_fraction; liquid = hx; vapor = hy; residual = g; iterations = refl }; activity = ha }))))))
+      acc_ok (record { split = record { vapor_fraction = refl; liquid = hx; vapor = hy; residual = g; iterations = refl }; activity = ha })))
 
-  pub strike_split : (tolerance : Float) (left done : ℕ) (lg lg' : List Float) → ((i : ℕ) → i < n → T (keep i) → at lg i ≈ at lg' (cnt keep i))
-      → Acc (SameSplit keep n) (split_from E ps n p z tolerance left done lg) (split_from E' ps' (cnt keep n) p z' tolerance left done lg')
-  unfolding split_from
-  strike_split tolerance zero done lg lg' hl = acc_no _
-  strike_split tolerance (suc left) done lg lg' hl =
-      acc_bind (SameTurn keep n) _ _ _ _ (strike_split_turn lg lg' hl (suc done)) (λ u u' hu.
-      acc_if _ _ _ _ _ _ (le_≈ hu.split.residual (≈refl tolerance))
-      (λ c. acc_ok hu.split)
-      (λ c. strike_split tolerance left (suc done) u.activity.ln_gamma u'.activity.ln_gamma hu.activity.ln_gamma))
+  strike_split_turn : (lg lg' : List Float) → ((i : ℕ) → i < n → T (keep i) → at lg i ≈ at lg' (cnt keep i)) → (iteration : ℕ)
+      → AccCounted (SameTurn keep n) (split_turn_counted E ps n p z lg iteration) (split_turn_counted E' ps' (cnt keep n) p z' lg' iteration)
+  unfolding split_turn_counted
+  strike_split_turn lg lg' hl iteration =
+      accc_bind (SameSolution keep n) _ _ _ _
+      (accc_uncounted _ _
+      (strike_negative keep n small (at z) (at z') (at (k_values z ps p lg n)) (at (k_values z' ps' p lg' (cnt keep n))) hz ez (same-k lg lg' hl)
+      rice_limit)) (λ rr rr' hr.
+      accc_bind (SameFractions keep n) _ _ _ _ (accc_uncounted _ _ (strike_phase rr.liquid rr'.liquid hr.liquid)) (λ x x' hx.
+      accc_bind (SameFractions keep n) _ _ _ _ (accc_uncounted _ _ (strike_phase rr.vapor rr'.vapor hr.vapor)) (λ y y' hy.
+      accc_evaluated _ _
+      (subst (λ (β : Float). Acc (SameTurn keep n) (turn_at E ps n p z rr.vapor_fraction x y iteration) (turn_at E' ps' (cnt keep n) p z' β x' y' iteration))
+      hr.vapor_fraction
+      (strike_turn_at rr.vapor_fraction x x' y y' hx hy iteration)))))
+
+  -- the split, with the evaluations that it begins
+  module _ (tolerance : Float) where
+    pub strike_split_counted : (left done : ℕ) (lg lg' : List Float) → ((i : ℕ) → i < n → T (keep i) → at lg i ≈ at lg' (cnt keep i))
+        → AccCounted (SameSplit keep n) (split_counted E ps n p z tolerance left done lg) (split_counted E' ps' (cnt keep n) p z' tolerance left done lg')
+    unfolding split_counted
+    strike_split_counted zero done lg lg' hl = accc_no 27 _
+    strike_split_counted (suc left) done lg lg' hl =
+        accc_bind (SameTurn keep n) _ _ _ _ (strike_split_turn lg lg' hl (suc done)) (λ u u' hu.
+        accc_if _ _ _ _ _ _ (le_≈ hu.split.residual (≈refl tolerance))
+        (λ c. accc_ok _ _ hu.split)
+        (λ c. strike_split_counted left (suc done) u.activity.ln_gamma u'.activity.ln_gamma hu.activity.ln_gamma))
+
+    pub strike_split : (left done : ℕ) (lg lg' : List Float) → ((i : ℕ) → i < n → T (keep i) → at lg i ≈ at lg' (cnt keep i))
+        → Acc (SameSplit keep n) (split_from E ps n p z tolerance left done lg) (split_from E' ps' (cnt keep n) p z' tolerance left done lg')
+    strike_split left done lg lg' hl =
+        forget_acc (split-outcome E ps n p z tolerance left done lg) (split-outcome E' ps' (cnt keep n) p z' tolerance left done lg')
+        (strike_split_counted left done lg lg' hl)

@@ -14,23 +14,28 @@ use lib.Ieee.{Float, binary64, lt, of_int, of_bits}
 use lib.Ieee.Fits.{div-fits}
 use Rattle.floats.specs.Arithmetic.{◌⊕◌, ◌⊘◌, 0f, 1f}
 use Rattle.floats.specs.Vector.{at}
-use Rattle.floats.specs.Outcome.{Out, ok, bind, choose}
+use Rattle.floats.specs.Outcome.{Out, ok}
+use Rattle.counted.specs.Counted.{Counted, uncounted, bind_counted, choose_counted}
 use Rattle.numerics.specs.Numerics.{exp_of, ln_of}
 use Rattle.thermo_types.specs.declared.ActivityOptions.{ActivityOptions}
 use Rattle.thermo_models.specs.Model.{Activity}
 use Rattle.liquid_stability.specs.declared.LiquidStabilityTrial.{LiquidStabilityTrial}
-use Rattle.liquid_stability.specs.Stability.{present_count, tangent, start_of, total_of, trial_composition, distance_of, next_of, change_of, apart_of, trivial_at, unstable, trial_with, no_trial, Trials, no_trials, with_trial, trial_from, trials_to, stability_of, start_rest, start_from, others_in, judge}
+use Rattle.liquid_stability.specs.Stability.{present_count, tangent, start_of, total_of, trial_composition, distance_of, next_of, change_of, apart_of}
+use Rattle.liquid_stability.specs.Stability.{trivial_at, unstable, trial_with, no_trial, Trials, no_trials, with_trial, stability_of, start_rest, start_from}
+use Rattle.liquid_stability.specs.Stability.{others_in}
+use Rattle.liquid_stability.specs.Counted.{judge_counted, trial_counted, trials_counted, stability_counted}
+use Rattle.liquid_stability.proofs.Forgets.{stability_outcome}
 use Rattle.zeros.specs.Same.{◌≈◌}
 use Rattle.zeros.proofs.Congruence.{≈refl, same, add_≈, sub_≈, mul_≈, div_≈, lt_≈, le_≈}
 use Rattle.zeros.specs.Below.{◌⊑◌}
 use Rattle.zeros.proofs.Below.{gone}
 use Rattle.zeros.proofs.Numbers.{pick_≈, abs_≈, exp_≈, ln_≈}
 use Rattle.striking.specs.Places.{tick, cnt}
-use Rattle.striking.specs.Accepted.{Acc}
+use Rattle.striking.specs.Accepted.{Acc, AccCounted}
 use Rattle.striking.specs.Related.{Fractions}
 use Rattle.striking.specs.Results.{SameActivity, SameTrial, SameTrials}
 use Rattle.striking.proofs.Strike.{cnt_eqb}
-use Rattle.striking.proofs.Acc.{acc_bind, acc_need, acc_if, acc_ok, acc_no, acc_weaken, bind_ok}
+use Rattle.striking.proofs.AccCounted.{accc_bind, accc_need, accc_if, accc_ok, accc_no, accc_evaluated, accc_weaken, accc_alone, forget_acc, counted-no}
 use Rattle.striking.proofs.Excess.{is_finite_≈}
 use Rattle.striking.proofs.Active.{gone_not_pos, cond_fit, zero_cond, max_≈, strike_active, cong2}
 use Rattle.striking.proofs.Vectors.{vec-fractions, vec_kept}
@@ -144,19 +149,20 @@ module _ (keep : ℕ → Bool) (n : ℕ) (small : n ≤ 8) (E E' : List Float �
 
   strike_trial : (d d' : List Float) → ((i : ℕ) → i < n → T (keep i) → at d i ≈ at d' (cnt keep i)) → (j : ℕ) → j < n → T (keep j) → (left done : ℕ) (lw lw' : List Float)
       → ((i : ℕ) → i < n → T (keep i) → at lw i ≈ at lw' (cnt keep i))
-      → Acc (SameTrial keep n) (trial_from E threshold n x d j left done lw) (trial_from E' threshold (cnt keep n) x' d' (cnt keep j) left done lw')
-  unfolding trial_from judge trial_with
-  strike_trial d d' hd j lj qj zero done lw lw' hl = acc_no _
+      → AccCounted (SameTrial keep n) (trial_counted E threshold n x d j left done lw)
+      (trial_counted E' threshold (cnt keep n) x' d' (cnt keep j) left done lw')
+  unfolding trial_counted judge_counted trial_with
+  strike_trial d d' hd j lj qj zero done lw lw' hl = accc_no 27 _
   strike_trial d d' hd j lj qj (suc left) done lw lw' hl =
-      acc_bind (SameActivity keep n) _ _ _ _ (hE _ _ (same-composition lw lw' hl)) (λ a a' ha.
+      accc_bind (SameActivity keep n) _ _ _ _ (accc_evaluated _ _ (hE _ _ (same-composition lw lw' hl))) (λ a a' ha.
       let v = same-distance lw lw' hl a.ln_gamma a'.ln_gamma d d' ha.ln_gamma hd in
       let w = same-composition lw lw' hl in
       let t = same-trivial _ _ w in
-      acc_need _ _ 25 _ _ (λ h. subst T (is_finite_≈ v) h) (λ f.
-      acc_if _ _ _ _ _ _ (same-unstable threshold v t)
-      (λ b. acc_ok (record { below = lj; kept = qj; component = refl; distance = v; composition = w; iterations = refl; trivial = refl }))
-      (λ b. acc_if _ _ _ _ _ _ (le_≈ (same-change lw lw' hl a.ln_gamma a'.ln_gamma d d' ha.ln_gamma hd) (≈refl _))
-      (λ c. acc_ok (record { below = lj; kept = qj; component = refl; distance = v; composition = w; iterations = refl; trivial = t }))
+      accc_need _ _ 25 _ _ (λ h. subst T (is_finite_≈ v) h) (λ f.
+      accc_if _ _ _ _ _ _ (same-unstable threshold v t)
+      (λ b. accc_ok _ _ (record { below = lj; kept = qj; component = refl; distance = v; composition = w; iterations = refl; trivial = refl }))
+      (λ b. accc_if _ _ _ _ _ _ (le_≈ (same-change lw lw' hl a.ln_gamma a'.ln_gamma d d' ha.ln_gamma hd) (≈refl _))
+      (λ c. accc_ok _ _ (record { below = lj; kept = qj; component = refl; distance = v; composition = w; iterations = refl; trivial = t }))
       (λ c. strike_trial d d' hd j lj qj left (suc done) _ _ (same_next a.ln_gamma a'.ln_gamma d d' ha.ln_gamma hd)))))
 
   same_start : (j : ℕ) → j < n → T (keep j) → (i : ℕ) → i < n → T (keep i) → at (start_of x n j) i ≈ at (start_of x' (cnt keep n) (cnt keep j)) (cnt keep i)
@@ -175,36 +181,50 @@ module _ (keep : ℕ → Bool) (n : ℕ) (small : n ≤ 8) (E E' : List Float �
     limit = o.max_iterations
 
     -- what a solvent adds
-    abbrev turn : (E : List Float → Out Activity) (n : ℕ) (x d : List Float) (k : ℕ) → Trials → Out Trials
-    turn E n x d k s = choose (lt 0f (at x k)) (bind (trial_from E threshold n x d k limit 0 (start_of x n k)) (λ r. ok (with_trial threshold s r))) (ok s)
+    abbrev turn : (E : List Float → Out Activity) (n : ℕ) (x d : List Float) (k : ℕ) → Trials → Counted Trials
+    turn E n x d k s =
+        choose_counted (lt 0f (at x k))
+        (bind_counted (trial_counted E threshold n x d k limit 0 (start_of x n k)) (λ r. uncounted (ok (with_trial threshold s r))))
+        (uncounted (ok s))
 
-    turn-kept : (k : ℕ) → k < n → T (keep k) → (s s' : Trials) → Running keep n k s s' → Acc (Running keep n (suc k)) (turn E n x d k s) (turn E' (cnt keep n) x' d' (cnt keep k) s')
+    turn-kept : (k : ℕ) → k < n → T (keep k) → (s s' : Trials) → Running keep n k s s'
+        → AccCounted (Running keep n (suc k)) (turn E n x d k s) (turn E' (cnt keep n) x' d' (cnt keep k) s')
     turn-kept k l q s s' hs =
-        acc_if _ _ _ _ _ _ (lt_≈ (≈refl 0f) (hx.fraction k l q))
-        (λ c. acc_bind (SameTrial keep n) _ _ _ _ (strike_trial d d' hd k l q limit 0 _ _ (same_start k l q)) (λ r r' hr. acc_ok (one_more keep n threshold k (le_trans l small) s s' hs r r' hr)))
-        (λ c. acc_ok (no_more keep n k s s' hs))
+        accc_if _ _ _ _ _ _ (lt_≈ (≈refl 0f) (hx.fraction k l q))
+        (λ c. accc_bind (SameTrial keep n) _ _ _ _ (strike_trial d d' hd k l q limit 0 _ _ (same_start k l q)) (λ r r' hr.
+        accc_ok _ _ (one_more keep n threshold k (le_trans l small) s s' hs r r' hr)))
+        (λ c. accc_ok _ _ (no_more keep n k s s' hs))
 
-    turn-struck : (k : ℕ) → k < n → T (not (keep k)) → (s s' : Trials) → Running keep n k s s' → Acc (Running keep n (suc k)) (turn E n x d k s) (ok s')
-    unfolding choose
+    turn-struck : (k : ℕ) → k < n → T (not (keep k)) → (s s' : Trials) → Running keep n k s s'
+        → AccCounted (Running keep n (suc k)) (turn E n x d k s) (uncounted (ok s'))
     turn-struck k l q s s' hs =
-        subst (λ (c : Bool). Acc (Running keep n (suc k)) (choose c (bind (trial_from E threshold n x d k limit 0 (start_of x n k)) (λ r. ok (with_trial threshold s r))) (ok s)) (ok s')) (sym (gone_not_pos (hx.absent k l q))) (acc_ok (no_more keep n k s s' hs))
+        subst (λ (c : Counted Trials). AccCounted (Running keep n (suc k)) c (uncounted (ok s'))) (sym (counted-no _ _ (gone_not_pos (hx.absent k l q))))
+        (accc_ok _ _ (no_more keep n k s s' hs))
 
-    strike_trials : (k : ℕ) → k ≤ n → Acc (Running keep n k) (trials_to E n o x d k) (trials_to E' (cnt keep n) o x' d' (cnt keep k))
-    unfolding trials_to cnt
-    strike_trials zero h = acc_ok (none-running keep n)
+    strike_trials : (k : ℕ) → k ≤ n → AccCounted (Running keep n k) (trials_counted E n o x d k) (trials_counted E' (cnt keep n) o x' d' (cnt keep k))
+    unfolding trials_counted cnt
+    strike_trials zero h = accc_ok _ _ (none-running keep n)
     strike_trials (suc k) h = go (keep k) (turn-kept k h) (turn-struck k h) (strike_trials k (omega arith))
       where
-        go : (b : Bool) → (T b → (s s' : Trials) → Running keep n k s s' → Acc (Running keep n (suc k)) (turn E n x d k s) (turn E' (cnt keep n) x' d' (cnt keep k) s'))
-            → (T (not b) → (s s' : Trials) → Running keep n k s s' → Acc (Running keep n (suc k)) (turn E n x d k s) (ok s'))
-            → Acc (Running keep n k) (trials_to E n o x d k) (trials_to E' (cnt keep n) o x' d' (cnt keep k))
-            → Acc (Running keep n (suc k)) (bind (trials_to E n o x d k) (turn E n x d k)) (trials_to E' (cnt keep n) o x' d' (tick b (cnt keep k)))
-        go true f g ih = acc_bind (Running keep n k) _ _ _ _ ih (f tt)
-        go false f g ih = subst (λ (r : Out Trials). Acc (Running keep n (suc k)) (bind (trials_to E n o x d k) (turn E n x d k)) r) (bind_ok (trials_to E' (cnt keep n) o x' d' (cnt keep k))) (acc_bind (Running keep n k) _ _ _ _ ih (g tt))
+        go : (b : Bool)
+            → (T b → (s s' : Trials) → Running keep n k s s'
+            → AccCounted (Running keep n (suc k)) (turn E n x d k s) (turn E' (cnt keep n) x' d' (cnt keep k) s'))
+            → (T (not b) → (s s' : Trials) → Running keep n k s s' → AccCounted (Running keep n (suc k)) (turn E n x d k s) (uncounted (ok s')))
+            → AccCounted (Running keep n k) (trials_counted E n o x d k) (trials_counted E' (cnt keep n) o x' d' (cnt keep k))
+            → AccCounted (Running keep n (suc k)) (bind_counted (trials_counted E n o x d k) (turn E n x d k))
+            (trials_counted E' (cnt keep n) o x' d' (tick b (cnt keep k)))
+        go true f g ih = accc_bind (Running keep n k) _ _ _ _ ih (f tt)
+        go false f g ih = accc_alone (Running keep n k) _ _ _ ih (g tt)
 
-  -- `liquid_stability`
+  -- `liquid_stability`, with the evaluations that it begins
+  pub strike_stability_counted : AccCounted (SameTrials keep n) (stability_counted E n o x) (stability_counted E' (cnt keep n) o x')
+  unfolding stability_counted
+  strike_stability_counted =
+      accc_bind (SameActivity keep n) _ _ _ _ (accc_evaluated _ _ (hE x x' hx)) (λ a a' ha.
+      accc_if _ _ _ _ _ _ (ap (λ (c : ℕ). ltb c 2) (same-present keep n x x' hx)) (λ b. accc_ok _ _ (none-same keep n)) (λ b.
+      accc_weaken (Running keep n n) _ _
+      (strike_trials (tangent x a.ln_gamma n) (tangent x' a'.ln_gamma (cnt keep n)) (same-tangent a.ln_gamma a'.ln_gamma ha.ln_gamma) n (le_refl n))
+      (λ s s' h. h.same-trials)))
+
   pub strike_stability : Acc (SameTrials keep n) (stability_of E n o x) (stability_of E' (cnt keep n) o x')
-  unfolding stability_of
-  strike_stability =
-      acc_bind (SameActivity keep n) _ _ _ _ (hE x x' hx) (λ a a' ha.
-      acc_if _ _ _ _ _ _ (ap (λ (c : ℕ). ltb c 2) (same-present keep n x x' hx)) (λ b. acc_ok (none-same keep n)) (λ b.
-      acc_weaken (Running keep n n) _ _ (strike_trials (tangent x a.ln_gamma n) (tangent x' a'.ln_gamma (cnt keep n)) (same-tangent a.ln_gamma a'.ln_gamma ha.ln_gamma) n (le_refl n)) (λ s s' h. h.same-trials)))
+  strike_stability = forget_acc (stability_outcome E n o x) (stability_outcome E' (cnt keep n) o x') strike_stability_counted

@@ -15,12 +15,12 @@ use Rattle.rachford_rice.specs.Rachford.{constrained, negative}
 use Rattle.saturation.specs.Saturation.{bubble_pressure, dew_pressure_point}
 use Rattle.saturation_temperature.specs.Boiling.{bubble_temperature, dew_temperature}
 use Rattle.liquid_stability.specs.Stability.{stability_of}
-use Rattle.tp_flash.specs.Tp.{tp_flash}
+use Rattle.tp_flash.specs.Counted.{flash_counted}
 use Rattle.zeros.proofs.Congruence.{same}
 use Rattle.zeros.proofs.Zero.{Zero}
 use Rattle.zeros.proofs.Below.{gone}
 use Rattle.striking.specs.Places.{cnt}
-use Rattle.striking.specs.Accepted.{Acc}
+use Rattle.striking.specs.Accepted.{Acc, AccCounted}
 use Rattle.striking.specs.Related.{Fractions, SameExcess}
 use Rattle.striking.specs.Results.{SameActivity, SamePures, SameSolution, SameRice, SameSaturation, SameTrials, SameFlash}
 use Rattle.striking.specs.Books.{KeptSolvents, KeptPairs}
@@ -96,9 +96,10 @@ module _ (keep : ℕ → Bool) (n : ℕ) (small : n ≤ 8) (m m' : Mixture) (hm 
     pub task6 : (o : ActivityOptions) (t : Float) → Acc (SameTrials keep n) (stability_of (activity m t) m.n o z) (stability_of (activity m' t) m'.n o z')
     task6 o t = rw (hm.count, hm.count') (strike_stability keep n small (activity m t) (activity m' t) (strike_activity t) o z z' hz)
 
-    -- task 7
+    -- task 7, with the evaluations that it begins
     pub task7 : (o : ActivityOptions) (t p : Float)
-        → Acc (SameFlash keep n) (tp_flash (activity m) m.liquids m.domain m.n o t z p) (tp_flash (activity m') m'.liquids m'.domain m'.n o t z' p)
+        → AccCounted (SameFlash keep n) (flash_counted (activity m) m.liquids m.domain m.n o t z p)
+        (flash_counted (activity m') m'.liquids m'.domain m'.n o t z' p)
     task7 o t p =
         rw (hm.count, hm.count')
         (strike_flash keep n small (activity m) (activity m') strike_activity m.liquids m'.liquids hm.liquids m.domain m'.domain hm.domain o t z z' hz s.fractions p)

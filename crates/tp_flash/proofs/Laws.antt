@@ -1,7 +1,7 @@
 -- Turns of the loops, and the ways out of a split and of a flash. Assumes nothing.
 use Prim.Native.Nat.{ℕ, suc, ◌+◌, ◌-◌, ◌<◌, ◌≤◌}
 use mathlib.Core.Path.{◌≡◌, refl, ◌∙◌, ap}
-use mathlib.Core.Bool.{cond}
+use mathlib.Core.Bool.{true, false, cond}
 use mathlib.Core.List.{List}
 use native.Mathlib.Numerals.{add-one}
 use native.Mathlib.Omega.{arith}
@@ -10,16 +10,19 @@ use Rattle.floats.specs.Arithmetic.{◌⊕◌, ◌⊖◌, 0f, 1f}
 use Rattle.floats.specs.Small.{max_of, abs_of}
 use Rattle.floats.specs.Fold.{fold_to, active}
 use Rattle.floats.specs.Vector.{at, vec, zeros8, places}
-use Rattle.floats.specs.Outcome.{Out, ok, no, bind, choose}
+use Rattle.floats.specs.Outcome.{Out, ok, no, bind}
 use Rattle.floats.proofs.Folds.{fold_cong}
 use Rattle.floats.proofs.Fills.{fill-at, vec-at, fill_cong}
+use Rattle.counted.specs.Counted.{Counted, uncounted, evaluated, bind_counted, Counts}
+use Rattle.counted.proofs.Laws.{counts_none, counts_next, counts_stop, counts_first, counts_second, counts_pure, counts-pure-stop, of_ok, of-no}
 use Rattle.numerics.specs.Numerics.{exp_of, ln_of}
 use Rattle.thermo_types.specs.Composition.{normalize_of}
 use Rattle.thermo_types.proofs.Normalizing.{normalize_cong}
 use Rattle.thermo_models.specs.Model.{Activity}
-use Rattle.rachford_rice.specs.Rachford.{Solution, negative, two_phase}
+use Rattle.rachford_rice.specs.Rachford.{negative, two_phase}
 use Rattle.rachford_rice.specs.declared.RachfordRice.{RachfordRice}
-use Rattle.tp_flash.specs.Split.{Split, Turn, k_values, phase_of, split_gap, rice_limit, fraction_in, turn_at, split_turn, split_from}
+use Rattle.tp_flash.specs.Split.{Split, Turn, k_values, phase_of, split_gap, rice_limit, fraction_in, turn_at}
+use Rattle.tp_flash.specs.Counted.{split_turn_counted, split_counted}
 
 -- ---- a phase of the split
 pub phase_is : (z l : List Float) (n : ℕ) {w : List Float} {o : Out (List Float)} → n ≤ 8 → w ≡ vec (λ i. cond (lt 0f (at z i)) (at l i) 0f) n → o ≡ normalize_of (at w) n
@@ -47,40 +50,49 @@ module _ (z ps : List Float) (n : ℕ) (h : n ≤ 8) (p : Float) {lnps : List Fl
 
 module _ (E : List Float → Out Activity) (ps : List Float) (n : ℕ) (p : Float) (z : List Float) where
   -- ---- a turn of the split, from the code's solution of Rachford-Rice
-  abbrev phases : ℕ → RachfordRice → Out Turn
+  abbrev phases : ℕ → RachfordRice → Counted Turn
   phases iteration rr =
-      bind (phase_of z rr.liquid n) (λ x.
-      bind (phase_of z rr.vapor n) (λ y.
-      turn_at E ps n p z (fraction_in rr.outcome) x y iteration))
+      bind_counted (uncounted (phase_of z rr.liquid n)) (λ x.
+      bind_counted (uncounted (phase_of z rr.vapor n)) (λ y.
+      evaluated (turn_at E ps n p z (fraction_in rr.outcome) x y iteration)))
 
-  by_code : (iteration : ℕ) (o : Out Solution)
-      → bind o (λ s. bind (phase_of z s.liquid n) (λ x. bind (phase_of z s.vapor n) (λ y. turn_at E ps n p z s.vapor_fraction x y iteration)))
-      ≡ bind (bind o (λ s. ok (two_phase s))) (phases iteration)
-  unfolding bind two_phase
-  by_code iteration (ok s) = refl
-  by_code iteration (no r) = refl
+  module _ (lg : List Float) (iteration : ℕ) {k : List Float} (q : k ≡ k_values z ps p lg n) where
+    pub no_rice : {old r : ℕ} → no r ≡ bind (negative (at z) (at k) n rice_limit) (λ s. ok (two_phase s)) → Counts old (no r) old (split_turn_counted E ps n p z lg iteration)
+    unfolding split_turn_counted
+    no_rice e = counts-pure-stop _ (of-no two_phase _ (rw q at e))
 
-  pub from_rice : (lg : List Float) (iteration : ℕ) {k : List Float} {o : Out RachfordRice} → k ≡ k_values z ps p lg n
-      → o ≡ bind (negative (at z) (at k) n rice_limit) (λ s. ok (two_phase s)) → split_turn E ps n p z lg iteration ≡ bind o (phases iteration)
-  unfolding split_turn
-  from_rice lg iteration q e = rw (← q, e) (by_code iteration _)
+    pub from_rice : {old new : ℕ} {rr : RachfordRice} {o : Out Turn} → ok rr ≡ bind (negative (at z) (at k) n rice_limit) (λ s. ok (two_phase s))
+        → Counts old o new (phases iteration rr) → Counts old o new (split_turn_counted E ps n p z lg iteration)
+    unfolding split_turn_counted two_phase
+    from_rice e h =
+        let (s, g, t) = of_ok two_phase _ (rw q at e) in
+        counts_pure _ g (rw t at h)
 
-  -- ---- the iteration of the split
-  module _ (tolerance : Float) where
-    abbrev run : ℕ → ℕ → List Float → Out Split
-    run left done lg = split_from E ps n p z tolerance left done lg
+  -- ---- the iteration of the split: after `done` of at most `limit` turns, what is left to run from here, the count at k, is the whole run W from `old`
+  module _ (tolerance : Float) (limit done : ℕ) (lg : List Float) {old k : ℕ} {W : Counted Split}
+      (run : (o : Out Split) (new : ℕ) → Counts k o new (split_counted E ps n p z tolerance (limit - done) done lg) → Counts old o new W) where
+    pub loop_out : limit ≤ done → Counts old (no 27) k W
+    unfolding split_counted
+    loop_out l =
+        let m : limit - done ≡ 0 = omega arith in
+        (rw m at run) (no 27) k (counts_none refl)
 
-    -- after `done` of at most `limit` turns: what is left to run from here is the whole run W
-    module _ (limit done : ℕ) (lg : List Float) {W : Out Split} (whole : split_from E ps n p z tolerance (limit - done) done lg ≡ W) where
-      pub loop_out : limit ≤ done → no 27 ≡ W
-      unfolding split_from
-      loop_out l =
-          let m : limit - done ≡ 0 = omega arith in
-          rw m at whole
-
-      pub loop_on : done < limit → {o : Out Turn} → o ≡ split_turn E ps n p z lg (done + 1)
-          → bind o (λ t. choose (le t.split.residual tolerance) (ok t.split) (run (limit - (done + 1)) (done + 1) t.activity.ln_gamma)) ≡ W
-      unfolding split_from
-      loop_on l e =
+    module _ (l : done < limit) where
+      left : (o : Out Split) (new : ℕ) → Counts k o new (split_counted E ps n p z tolerance (suc (limit - suc done)) done lg) → Counts old o new W
+      left =
           let m : limit - done ≡ suc (limit - suc done) = omega arith in
-          rw (e, add-one done) (rw m at whole)
+          rw m at run
+
+      pub loop-refused : {r new : ℕ} → Counts k (no r) new (split_turn_counted E ps n p z lg (done + 1)) → Counts old (no r) new W
+      unfolding split_counted
+      loop-refused e = left _ _ (counts_stop _ (rw (add-one done) at e))
+
+      module _ {t : Turn} {mid : ℕ} (e : Counts k (ok t) mid (split_turn_counted E ps n p z lg (done + 1))) where
+        pub loop_done : le t.split.residual tolerance ≡ true → Counts old (ok t.split) mid W
+        unfolding split_counted
+        loop_done h = left _ _ (counts_next _ (rw (add-one done) at e) (counts_first _ h (counts_none refl)))
+
+        pub loop_more : le t.split.residual tolerance ≡ false → (o : Out Split) (new : ℕ)
+            → Counts mid o new (split_counted E ps n p z tolerance (limit - (done + 1)) (done + 1) t.activity.ln_gamma) → Counts old o new W
+        unfolding split_counted
+        loop_more h o new g = left o new (counts_next _ (rw (add-one done) at e) (counts_second _ h (rw (add-one done) at g)))

@@ -6,10 +6,12 @@ ghost use Rattle.std.specs.Prelude.{◌≡◌};
 ghost use Rattle.floats.specs.Vector.{at, vec, places};
 ghost use Rattle.floats.specs.Outcome.{ok};
 ghost use Rattle.outcome.specs.Refused.{outcome_of};
+ghost use Rattle.counted.specs.Counted.{Counts, evaluated};
 ghost use Rattle.numerics.specs.Numerics.{ln_of};
 ghost use Rattle.thermo_models.specs.Activity.{activity_on};
-ghost use Rattle.tp_flash.specs.Split.{k_values, phase_of, split_gap, balance_of, fraction_in, turn_at, split_turn, split_from};
-ghost use Rattle.tp_flash.specs.Tp.{inside, near_edge, stable_liquid, dew_of, single_phase, as_vapor, as_liquid, as_both, boundary_of, from_split, between_of, phases_of};
+ghost use Rattle.tp_flash.specs.Split.{k_values, phase_of, split_gap, balance_of, fraction_in, turn_at};
+ghost use Rattle.tp_flash.specs.Tp.{inside, near_edge, single_phase, as_vapor};
+ghost use Rattle.tp_flash.specs.Counted.{split_turn_counted, split_counted, stable_counted, dew_of_counted, liquid_counted, both_counted, boundary_counted, from_split_counted, between_counted, phases_counted};
 
 use liquid_stability::LiquidStability;
 use outcome::Refusal;
@@ -190,16 +192,18 @@ impl<'a> Splitting<'a> {
     }
 
     // The phases x and y of a solution of Rachford-Rice: the activity at x, and the gap (25).
-    #[tactic(auto, using(outcome::proofs::Exits::met), unfolding(crate::specs::Split::turn_at, floats::specs::Outcome::bind))]
     fn turn_at(
         self,
         beta: f64,
         x: [f64; 8],
         y: [f64; 8],
         iteration: u64,
+        begun: &mut u64,
     ) -> Result<SplitTurn, Refusal>
-        ensures { let f = self.entry.feed in outcome_of result ≡ turn_at (activity_on f.table.now f.at) f.ps.now (places f.at.n) f.p.0 f.z.now beta x y iteration }
+        ensures { let f = self.entry.feed in
+            Counts begun.old (outcome_of result) begun.new (evaluated (turn_at (activity_on f.table.now f.at) f.ps.now (places f.at.n) f.p.0 f.z.now beta x y iteration)) }
     {
+        counted::begin(begun);
         let activity = thermo_models::activity(self.feed.table, self.feed.at, &x)?;
         let residual = self.split_gap(&activity.ln_gamma, &x, &y);
         if !floats::is_finite(residual) {
@@ -218,8 +222,14 @@ impl<'a> Splitting<'a> {
     }
 
     // One turn from ln γ.
-    fn split_turn(self, lg: &[f64; 8], iteration: u64) -> Result<SplitTurn, Refusal>
-        ensures { let f = self.entry.feed in outcome_of result ≡ split_turn (activity_on f.table.now f.at) f.ps.now (places f.at.n) f.p.0 f.z.now lg.now iteration }
+    fn split_turn(
+        self,
+        lg: &[f64; 8],
+        iteration: u64,
+        begun: &mut u64,
+    ) -> Result<SplitTurn, Refusal>
+        ensures { let f = self.entry.feed in
+            Counts begun.old (outcome_of result) begun.new (split_turn_counted (activity_on f.table.now f.at) f.ps.now (places f.at.n) f.p.0 f.z.now lg.now iteration) }
     {
         let k = self.k_values(lg);
         let rr = rachford_rice::rachford_rice_negative(
@@ -231,17 +241,18 @@ impl<'a> Splitting<'a> {
         let x = self.feed.phase_of(&rr.liquid)?;
         let y = self.feed.phase_of(&rr.vapor)?;
         let beta = vapor_fraction(rr.outcome);
-        self.turn_at(beta, x, y, iteration)
+        self.turn_at(beta, x, y, iteration, begun)
     }
 
     // Successive substitution from ln γ of the feed, `start`; 27 where the turns are used up.
-    #[tactic(auto, using(crate::proofs::Laws::loop_out))]
-    fn split_from(self, start: &[f64; 8]) -> Result<SplitPoint, Refusal>
-        ensures { let f = self.entry.feed in outcome_of result ≡ split_from (activity_on f.table.now f.at) f.ps.now (places f.at.n) f.p.0 f.z.now f.o.tolerance f.o.max_iterations 0 start.now }
+    fn split_from(self, start: &[f64; 8], begun: &mut u64) -> Result<SplitPoint, Refusal>
+        ensures { let f = self.entry.feed in
+            Counts begun.old (outcome_of result) begun.new
+            (split_counted (activity_on f.table.now f.at) f.ps.now (places f.at.n) f.p.0 f.z.now f.o.tolerance f.o.max_iterations 0 start.now) }
     {
         let mut lg = *start;
         for done in 0..self.feed.o.max_iterations {
-            let turn = self.split_turn(&lg, done + 1)?;
+            let turn = self.split_turn(&lg, done + 1, begun)?;
             if turn.split.residual <= self.feed.o.tolerance {
                 return Ok(turn.split);
             }
@@ -279,11 +290,10 @@ impl<'a> Feed<'a> {
     // ---- the phases of the feed
 
     // The trials of a liquid: 29 where they find a split.
-    #[tactic(auto, using(outcome::proofs::Exits::met), unfolding(crate::specs::Tp::stable_liquid, floats::specs::Outcome::bind, floats::specs::Outcome::need))]
-    fn stable_liquid(self, x: &[f64; 8]) -> Result<LiquidStability, Refusal>
-        ensures { let f = self.entry in outcome_of result ≡ stable_liquid (activity_on f.table.now f.at) (places f.at.n) f.o x.now }
+    fn stable_liquid(self, x: &[f64; 8], begun: &mut u64) -> Result<LiquidStability, Refusal>
+        ensures { let f = self.entry in Counts begun.old (outcome_of result) begun.new (stable_counted (activity_on f.table.now f.at) (places f.at.n) f.o x.now) }
     {
-        let trials = liquid_stability::liquid_stability(self.table, self.at, self.o, x)?;
+        let trials = liquid_stability::liquid_stability(self.table, self.at, self.o, x, begun)?;
         if !trials.stable {
             return Err(Refusal::LiquidUnstable);
         }
@@ -303,11 +313,16 @@ impl<'a> Feed<'a> {
     }
 
     // The feed as one liquid: its trials (29), then its fractions.
-    #[tactic(auto, using(outcome::proofs::Exits::met, thermo_types::proofs::Passing::fractions_first), unfolding(crate::specs::Tp::as_liquid, floats::specs::Outcome::bind))]
-    fn as_liquid(self, saturated: Saturated, notes: u64) -> Result<ActivityTpFlash, Refusal>
-        ensures { let f = self.entry in outcome_of result ≡ as_liquid (activity_on f.table.now f.at) (places f.at.n) f.o f.z.now saturated.bubble saturated.dew notes }
+    fn as_liquid(
+        self,
+        saturated: Saturated,
+        notes: u64,
+        begun: &mut u64,
+    ) -> Result<ActivityTpFlash, Refusal>
+        ensures { let f = self.entry in
+            Counts begun.old (outcome_of result) begun.new (liquid_counted (activity_on f.table.now f.at) (places f.at.n) f.o f.z.now saturated.bubble saturated.dew notes) }
     {
-        let trials = self.stable_liquid(self.z)?;
+        let trials = self.stable_liquid(self.z, begun)?;
         thermo_types::with_fractions(self.z, self.at.n)?;
         Ok(ActivityTpFlash {
             liquid: *self.z,
@@ -317,10 +332,16 @@ impl<'a> Feed<'a> {
     }
 
     // Both phases: the trials of the liquid (29), then the fractions of the vapor and of the liquid.
-    fn as_both(self, saturated: Saturated, split: SplitPoint) -> Result<ActivityTpFlash, Refusal>
-        ensures { let f = self.entry in outcome_of result ≡ as_both (activity_on f.table.now f.at) (places f.at.n) f.o f.z.now saturated.bubble saturated.dew split }
+    fn as_both(
+        self,
+        saturated: Saturated,
+        split: SplitPoint,
+        begun: &mut u64,
+    ) -> Result<ActivityTpFlash, Refusal>
+        ensures { let f = self.entry in
+            Counts begun.old (outcome_of result) begun.new (both_counted (activity_on f.table.now f.at) (places f.at.n) f.o f.z.now saturated.bubble saturated.dew split) }
     {
-        let trials = self.stable_liquid(&split.liquid)?;
+        let trials = self.stable_liquid(&split.liquid, begun)?;
         thermo_types::with_fractions(&split.vapor, self.at.n)?;
         thermo_types::with_fractions(&split.liquid, self.at.n)?;
         Ok(ActivityTpFlash {
@@ -339,26 +360,37 @@ impl<'a> Feed<'a> {
     }
 
     // The saturated single phase of a split at a boundary.
-    #[tactic(auto, unfolding(crate::specs::Tp::boundary_of, floats::specs::Outcome::choose))]
-    fn at_boundary(self, saturated: Saturated, beta: f64) -> Result<ActivityTpFlash, Refusal>
-        ensures { let f = self.entry in outcome_of result ≡ boundary_of (activity_on f.table.now f.at) (places f.at.n) f.o f.z.now saturated.bubble saturated.dew beta }
+    fn at_boundary(
+        self,
+        saturated: Saturated,
+        beta: f64,
+        begun: &mut u64,
+    ) -> Result<ActivityTpFlash, Refusal>
+        ensures { let f = self.entry in
+            Counts begun.old (outcome_of result) begun.new (boundary_counted (activity_on f.table.now f.at) (places f.at.n) f.o f.z.now saturated.bubble saturated.dew beta) }
     {
         if beta >= 1.0 {
             self.as_vapor(saturated, AT_BOUNDARY)
         } else {
-            self.as_liquid(saturated, AT_BOUNDARY)
+            self.as_liquid(saturated, AT_BOUNDARY, begun)
         }
     }
 
     // A converged split: both phases, or the saturated single phase at a boundary; else 30.
-    fn from_split(self, saturated: Saturated, split: SplitPoint) -> Result<ActivityTpFlash, Refusal>
-        ensures { let f = self.entry in outcome_of result ≡ from_split (activity_on f.table.now f.at) (places f.at.n) f.o f.z.now saturated.bubble saturated.dew split }
+    fn from_split(
+        self,
+        saturated: Saturated,
+        split: SplitPoint,
+        begun: &mut u64,
+    ) -> Result<ActivityTpFlash, Refusal>
+        ensures { let f = self.entry in
+            Counts begun.old (outcome_of result) begun.new (from_split_counted (activity_on f.table.now f.at) (places f.at.n) f.o f.z.now saturated.bubble saturated.dew split) }
     {
         let beta = split.vapor_fraction;
         if inside(beta) {
-            self.as_both(saturated, split)
+            self.as_both(saturated, split, begun)
         } else if near_edge(beta) {
-            self.at_boundary(saturated, beta)
+            self.at_boundary(saturated, beta, begun)
         } else {
             Err(Refusal::VaporFractionOutside)
         }
@@ -371,48 +403,51 @@ impl<'a> Feed<'a> {
         std::array::from_fn(|i| if i < n { numerics::ln(self.ps[i]) } else { 0.0 })
     }
 
-    // p ≥ bubble is liquid, then p ≤ dew is vapor, else the split from the activity of the feed.
+    // p ≥ bubble is liquid, then p ≤ dew is vapor, else the split from the activity of the feed, which counts once more though it
+    // is there.
     fn between(
         self,
         saturated: Saturated,
         activity: ActivityCoefficients,
+        begun: &mut u64,
     ) -> Result<ActivityTpFlash, Refusal>
         requires { activity_on self.table.now self.at self.z.now ≡ ok activity }
-        ensures { let f = self.entry in outcome_of result ≡ between_of (activity_on f.table.now f.at) (places f.at.n) f.o f.z.now f.p.0 f.ps.now saturated.bubble saturated.dew }
+        ensures { let f = self.entry in
+            Counts begun.old (outcome_of result) begun.new (between_counted (activity_on f.table.now f.at) (places f.at.n) f.o f.z.now f.p.0 f.ps.now saturated.bubble saturated.dew) }
     {
         let pressure = self.p.value();
         if pressure >= saturated.bubble {
-            return self.as_liquid(saturated, GAMMA_PHI);
+            return self.as_liquid(saturated, GAMMA_PHI, begun);
         }
         if pressure <= saturated.dew {
             return self.as_vapor(saturated, GAMMA_PHI);
         }
+        counted::begin(begun);
         let ln_ps = self.ln_pressures();
         let splitting = Splitting {
             feed: self,
             ln_ps: &ln_ps,
             ln_p: numerics::ln(pressure),
         };
-        let split = splitting.split_from(&activity.ln_gamma)?;
-        self.from_split(saturated, split)
+        let split = splitting.split_from(&activity.ln_gamma, begun)?;
+        self.from_split(saturated, split, begun)
     }
 
     // With one solvent present it is the bubble pressure.
-    #[tactic(auto, using(outcome::proofs::Exits::met), unfolding(crate::specs::Tp::dew_of, floats::specs::Outcome::choose, floats::specs::Outcome::bind))]
-    fn dew_pressure(self, bubble: f64) -> Result<f64, Refusal>
-        ensures { let f = self.entry in outcome_of result ≡ dew_of (activity_on f.table.now f.at) (places f.at.n) f.o f.z.now f.ps.now bubble }
+    fn dew_pressure(self, bubble: f64, begun: &mut u64) -> Result<f64, Refusal>
+        ensures { let f = self.entry in
+            Counts begun.old (outcome_of result) begun.new (dew_of_counted (activity_on f.table.now f.at) (places f.at.n) f.o f.z.now f.ps.now bubble) }
     {
         if liquid_stability::present_count(self.z, self.at.n) == 1 {
             return Ok(bubble);
         }
-        let d = saturation::dew_at(self.table, self.at, self.z, self.ps, self.o)?;
+        let d = saturation::dew_at(self.table, self.at, self.z, self.ps, self.o, begun)?;
         Ok(d.pressure)
     }
 }
 
 // The flash of the feed z at p, from the tables and the vapor pressures of a temperature: bubble and dew both, then the phases; what
-// bubble, dew, split and trials refuse (15 to 18, 24, 25, 27 to 30, 34).
-#[tactic(auto, using(outcome::proofs::Exits::met), unfolding(crate::specs::Tp::phases_of, saturation::specs::Saturation::bubble_at, floats::specs::Outcome::bind))]
+// bubble, dew, split and trials refuse (15 to 18, 24, 25, 27 to 30, 34). `begun` counts the evaluations on.
 pub fn activity_tp_flash(
     table: &[f64; 512],
     at: Tabled,
@@ -420,9 +455,11 @@ pub fn activity_tp_flash(
     z: &[f64; 8],
     p: Pressure,
     ps: &[f64; 8],
+    begun: &mut u64,
 ) -> Result<ActivityTpFlash, Refusal>
-    ensures { outcome_of result ≡ phases_of (activity_on table.now at) (places at.n) o z.now p.0 ps.now }
+    ensures { Counts begun.old (outcome_of result) begun.new (phases_counted (activity_on table.now at) (places at.n) o z.now p.0 ps.now) }
 {
+    counted::begin(begun);
     let activity = thermo_models::activity(table, at, z)?;
     let b = saturation::bubble_from(z, &activity.ln_gamma, ps, at.n)?;
     let feed = Feed {
@@ -433,10 +470,10 @@ pub fn activity_tp_flash(
         p,
         ps,
     };
-    let dew = feed.dew_pressure(b.pressure)?;
+    let dew = feed.dew_pressure(b.pressure, begun)?;
     let saturated = Saturated {
         bubble: b.pressure,
         dew,
     };
-    feed.between(saturated, activity)
+    feed.between(saturated, activity, begun)
 }

@@ -2,9 +2,10 @@
 #![tactic(auto)]
 
 ghost use Rattle.std.specs.Prelude.{length, ◌≡◌};
-ghost use Rattle.sheet.specs.Sheet.{sheet_of, number_of, Answers};
+ghost use Rattle.sheet.specs.Sheet.{sheet_of, number_of, slice_of, Answers};
 ghost use Rattle.pool.specs.Pool.{pooled_of};
-ghost use Rattle.batch.specs.Feeds.{feeds_of, slice_of};
+ghost use Rattle.batch.specs.Feeds.{feeds_of};
+ghost use Rattle.queue.specs.Queue.{queue_of};
 ghost use Rattle.preview.specs.Preview.{preview_of};
 
 use outcome::number_in;
@@ -32,6 +33,20 @@ pub extern "C" fn zektonk_feeds(book: &[u8], question: &[u8], feeds: &[u8], out:
     ensures { (result ≡ number_of (feeds_of book.now question.now feeds.now out.old)) × (out.new ≡ slice_of (feeds_of book.now question.now feeds.now out.old) out.old) }
 {
     number_in(batch::answer(book, question, feeds, out))
+}
+
+// Up to 64 flash questions under an allowance of activity evaluations: 0 and each question's blocks at the front of its own 4,608
+// bytes of `out`, an answer's, a refusal's, or the one of a question that is put off; or a number, and `out` as it was.
+#[unsafe(no_mangle)]
+pub extern "C" fn zektonk_queue(
+    book: &[u8],
+    questions: &[u8],
+    allowance: u64,
+    out: &mut [u8],
+) -> u64
+    ensures { (result ≡ number_of (queue_of book.now questions.now allowance out.old)) × (out.new ≡ slice_of (queue_of book.now questions.now allowance out.old) out.old) }
+{
+    number_in(queue::answer(book, questions, allowance, out))
 }
 
 // As `zektonk_answer` on a copy of the book that holds the offered pair block in the place of its own; the book is only read.

@@ -1,5 +1,5 @@
-//! Calls the core with book, question and answer slices, and drums, feeds or an offered pair, that end, or begin, at a page that can't
-//! be touched, and compares every byte with the reference.
+//! Calls the core with book, question and answer slices, and drums, feeds, an offered pair or a queue of questions, that end, or begin,
+//! at a page that can't be touched, and compares every byte with the reference.
 //!
 //! guarded [--count N] [--seed S]
 //!
@@ -14,7 +14,8 @@ use reference::command::count_and_seed;
 use reference::counts::Tally;
 use reference::generate::cases::{sheets, Cases};
 use reference::generate::Rng;
-use reference::rattle::{zektonk_answer, zektonk_feeds, zektonk_pooled, zektonk_preview};
+use reference::rattle::{zektonk_answer, zektonk_feeds, zektonk_pooled, zektonk_preview, zektonk_queue};
+use reference::sheet::anew::word;
 use reference::sheet::blocks::{bytes_of, rule_of, seal, words_of, Rule, BLOCK};
 use reference::sheet::feeds::FEED;
 use reference::sheet::question::{MAX_ITERATIONS, MAX_TEMPERATURE_ITERATIONS};
@@ -34,13 +35,17 @@ const READ: c_int = 1;
 const READ_AND_WRITE: c_int = 3;
 const PRIVATE_ANONYMOUS: c_int = 0x22;
 
-/// Longest slices that are lent. A book has 18,944 bytes at most, drums and feeds 4,096, an answer needs 4,608.
+/// Longest slices that are lent. A book has 18,944 bytes at most, drums and feeds 4,096, a queue 32,768, an answer needs 4,608.
 const BOOK: usize = 20_480;
 const QUESTION: usize = 1024;
+const QUEUE: usize = 36_864;
 const MORE: usize = 8192;
 const ANSWER: usize = 5120;
-/// Of up to 8 feeds, and of any.
+/// Of up to 8 feeds or questions, and of any.
 const ANSWERS: [usize; 2] = [8 * ANSWER_BYTES + 512, 64 * ANSWER_BYTES + 512];
+
+/// In the order of `place`.
+const CALLS: [&str; 5] = ["plain", "with drums", "with feeds", "with a pair", "in a queue"];
 
 /// Differences that are printed.
 const SHOWN: usize = 10;
@@ -98,7 +103,7 @@ impl Area {
 struct Call {
     book: Vec<u8>,
     question: Vec<u8>,
-    /// Where the call takes one slice more.
+    /// Where the call takes one slice more, or the allowance of a queue, whose questions stand in place of the question.
     more: Option<(With, Vec<u8>)>,
     room: usize,
     /// Book, question, answer and the slice more.
@@ -123,7 +128,7 @@ struct Pages {
 
 impl Pages {
     fn new(rng: &mut Rng) -> Self {
-        let [book, question, more] = [BOOK, QUESTION, MORE].map(Area::new);
+        let [book, question, more] = [BOOK, QUEUE, MORE].map(Area::new);
         let answers = [ANSWER, ANSWERS[0], ANSWERS[1]].map(|most| {
             let area = Area::new(most);
             let noise = random(rng, area.length);
@@ -177,6 +182,7 @@ impl Pages {
                 Some((With::Drums, _)) => zektonk_pooled(b, b_len, q, q_len, m, m_len, a, a_len),
                 Some((With::Feeds, _)) => zektonk_feeds(b, b_len, q, q_len, m, m_len, a, a_len),
                 Some((With::Pair, _)) => zektonk_preview(b, b_len, m, m_len, q, q_len, a, a_len),
+                Some((With::Allowance, _)) => zektonk_queue(b, b_len, q, q_len, word(more, 0), a, a_len),
             }
         };
         for area in [&self.book, &self.question, &self.more] {
@@ -208,7 +214,10 @@ fn call(rng: &mut Rng, book: Vec<u8>, question: Vec<u8>) -> Call {
 /// As `calls`, with drums, feeds or a pair: as they are in half of the calls, changed, of another length, or noise.
 fn calls_with(rng: &mut Rng, case: &Case) -> Vec<Call> {
     let Case::With { with, book, question, lent, .. } = case else { unreachable!("one slice more was asked for") };
-    let mut all = calls(rng, book, question);
+    if *with == With::Allowance {
+        return queues(rng, book, question, word(lent, 0));
+    }
+    let mut all = calls(rng, book, question, QUESTION);
     for call in &mut all {
         let mut more = lent[..lent.len().min(MORE)].to_vec();
         match rng.below(8) {
@@ -227,9 +236,26 @@ fn calls_with(rng: &mut Rng, case: &Case) -> Vec<Call> {
     all
 }
 
+/// As `calls`, with many questions in place of one: the allowance as it is in half of the calls, none, all there is, or any.
+fn queues(rng: &mut Rng, book: &[u8], questions: &[u8], allowance: u64) -> Vec<Call> {
+    let mut all = calls(rng, book, questions, QUEUE);
+    for call in &mut all {
+        let allowance = match rng.below(8) {
+            0 => 0,
+            1 => u64::MAX,
+            2 => rng.below(10_000) as u64,
+            3 => rng.bits() >> rng.below(64),
+            _ => allowance,
+        };
+        call.room += ANSWER_BYTES * (call.question.len() / BLOCK).clamp(1, 64) - ANSWER_BYTES;
+        call.more = Some((With::Allowance, allowance.to_le_bytes().to_vec()));
+    }
+    all
+}
+
 /// Six calls made from one sheet: as it is at two places, changed thrice, and with noise for the question.
-fn calls(rng: &mut Rng, book: &[u8], question: &[u8]) -> Vec<Call> {
-    let (book, question) = (&book[..book.len().min(BOOK)], &question[..question.len().min(QUESTION)]);
+fn calls(rng: &mut Rng, book: &[u8], question: &[u8], most: usize) -> Vec<Call> {
+    let (book, question) = (&book[..book.len().min(BOOK)], &question[..question.len().min(most)]);
     let mut all = Vec::with_capacity(6);
     for _ in 0..2 {
         all.push(call(rng, book.to_vec(), question.to_vec()));
@@ -238,11 +264,11 @@ fn calls(rng: &mut Rng, book: &[u8], question: &[u8]) -> Vec<Call> {
         let [of_book, of_question] = rng.pick(&[[true, true], [true, false], [false, true]]);
         let book = if of_book { mutated(rng, book, BOOK, sealed, rule_of) } else { book.to_vec() };
         let rule = rule_of(&book);
-        let question = if of_question { mutated(rng, question, QUESTION, sealed, |_| rule) } else { question.to_vec() };
+        let question = if of_question { mutated(rng, question, most, sealed, |_| rule) } else { question.to_vec() };
         all.push(call(rng, book, if sealed { quick(question, rule) } else { question }));
     }
     let book = if rng.one_in(3) { book.to_vec() } else { noise(rng, BOOK / 16) };
-    let question = noise(rng, QUESTION);
+    let question = noise(rng, most);
     all.push(call(rng, book, question));
     all
 }
@@ -255,12 +281,12 @@ fn noise(rng: &mut Rng, most: usize) -> Vec<u8> {
 
 /// Limits low enough that a changed tolerance doesn't keep the call busy.
 fn quick(mut question: Vec<u8>, rule: Rule) -> Vec<u8> {
-    if question.len() == BLOCK {
-        let mut words = words_of(&question);
+    for block in question.chunks_exact_mut(BLOCK) {
+        let mut words = words_of(block);
         words[MAX_ITERATIONS] = words[MAX_ITERATIONS].min(300);
         words[MAX_TEMPERATURE_ITERATIONS] = words[MAX_TEMPERATURE_ITERATIONS].min(60);
         seal(&mut words, rule);
-        question.copy_from_slice(&bytes_of(&words));
+        block.copy_from_slice(&bytes_of(&words));
     }
     question
 }
@@ -321,20 +347,21 @@ fn main() -> ExitCode {
     };
     let mut rng = Rng::new(seed ^ 0x6775_6172_6465_6421);
     let mut pages = Pages::new(&mut rng);
-    let mut tallies = [Tally::default(), Tally::default(), Tally::default(), Tally::default()];
+    let mut tallies = [(); CALLS.len()].map(|_| Tally::default());
     let (mut made, mut differences) = (0, 0);
     let mut plain = sheets(seed);
-    let mut others = [Stage::Pooled, Stage::Feeds, Stage::Preview].map(|stage| Cases::new(stage, seed, false));
+    let stages = [Stage::Pooled, Stage::Feeds, Stage::Preview, Stage::Queue];
+    let mut others = stages.map(|stage| Cases::new(stage, seed, false));
     for turn in 0.. {
         if made >= count {
             break;
         }
         // Half of the sheets have nothing more.
         let all = if turn % 2 == 1 {
-            calls_with(&mut rng, &others[turn / 2 % 3].draw().1)
+            calls_with(&mut rng, &others[turn / 2 % stages.len()].draw().1)
         } else {
             let (book, question) = plain.next().expect("sheets have no end");
-            calls(&mut rng, &book, &question)
+            calls(&mut rng, &book, &question, QUESTION)
         };
         for call in all.iter().take(count - made) {
             let (number, same) = pages.compare(&mut rng, call);
@@ -348,7 +375,7 @@ fn main() -> ExitCode {
             }
         }
     }
-    for (what, tally) in ["plain", "with drums", "with feeds", "with a pair"].iter().zip(&tallies) {
+    for (what, tally) in CALLS.iter().zip(&tallies) {
         let (all, accepted, refused) = (tally.all(), tally.accepted(), tally.refused());
         println!("guarded, {what}: {all} calls, {accepted} accepted, refused {refused}");
     }
@@ -366,6 +393,7 @@ fn place(call: &Call) -> usize {
         Some((With::Drums, _)) => 1,
         Some((With::Feeds, _)) => 2,
         Some((With::Pair, _)) => 3,
+        Some((With::Allowance, _)) => 4,
     }
 }
 

@@ -9,6 +9,8 @@
 //! oracle pooled-borders                          drums at the borders of 31, 32 and 36
 //! oracle feeds-borders                           many feeds at the borders of 33, 10, 11, 12 and 36
 //! oracle preview-borders                         offered pairs at the borders of their 1, 2, 7, 8 and 9
+//! oracle queue-borders                           queues at the borders of 39, 10 and the allowance
+//! oracle full                                    flashes that begin as many evaluations as any can
 
 use std::io::{BufWriter, Write};
 use std::process::ExitCode;
@@ -16,7 +18,7 @@ use std::process::ExitCode;
 use reference::command::{Options, USAGE};
 use reference::counts::{count_sheets, count_stage};
 use reference::generate::cases::Cases;
-use reference::generate::{batches, differences, exchanged, mass, pooled, previews, wilson};
+use reference::generate::{batches, differences, exchanged, mass, pooled, previews, queues, wilson};
 use reference::stage::{hex, hex_words, Case, Stage};
 
 /// Lines of a stage where no count is given.
@@ -32,13 +34,15 @@ fn main() -> ExitCode {
         ["pooled-borders"] => Some(pooled::borders().into_iter().map(|(case, _)| case).collect()),
         ["feeds-borders"] => Some(batches::borders().into_iter().map(|(case, _)| case).collect()),
         ["preview-borders"] => Some(previews::borders().into_iter().map(|(case, _)| case).collect()),
+        ["queue-borders"] => Some(queues::borders().into_iter().map(|(case, _)| case).collect()),
+        ["full"] => Some(queues::full().iter().map(|found| found.case()).collect()),
         _ => None,
     };
     if let Some(cases) = named {
         return if write(cases.into_iter()).is_ok() { ExitCode::SUCCESS } else { ExitCode::FAILURE };
     }
     let Some(options) = Options::read(words.into_iter()) else {
-        eprintln!("usage: oracle differences|borders|exchanged-borders|wilson-borders|pooled-borders|feeds-borders|preview-borders|{USAGE}");
+        eprintln!("usage: oracle differences|borders|exchanged-borders|wilson-borders|pooled-borders|feeds-borders|preview-borders|queue-borders|full|{USAGE}");
         return ExitCode::from(2);
     };
     for stage in &options.stages {

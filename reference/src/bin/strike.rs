@@ -1,8 +1,9 @@
 //! Runs demand 3 on the core: generated sheets with absent solvents, and the same sheets with those struck. Every sheet asked is
 //! compared with the reference's plain call too.
 //!
-//! strike [--count N] [--seed S] [--task K] [--wilson] [--feeds|--preview]     N accepted sheets, as many of each task, or of task K; of
-//! NRTL books, or of Wilson books and tasks 1 to 7; by the plain call, as one of several feeds (tasks 1, 2, 3, 6, 7), or by a preview
+//! strike [--count N] [--seed S] [--task K] [--wilson] [--feeds|--preview|--queue]     N accepted sheets, as many of each task, or of task
+//! K; of NRTL books, or of Wilson books and tasks 1 to 7; by the plain call, as one of several feeds (tasks 1, 2, 3, 6, 7), by a preview, or
+//! as one of a queue (task 7)
 
 use std::process::ExitCode;
 
@@ -10,9 +11,10 @@ use reference::command::not_built_in_fails;
 use reference::generate::absent::Base;
 use reference::generate::Rng;
 use reference::sheet::blocks::{rule_of, Rule};
+use reference::sheet::queue::FLASH;
 use reference::sheet::{feeds, ANSWER_BYTES};
 use reference::stage::{hex_bytes, Stage};
-use reference::strike::{core, core_feeds, core_preview, reference, shown, Call, Sheet, Shown, TASKS};
+use reference::strike::{core, core_feeds, core_preview, core_queue, reference, shown, Call, Sheet, Shown, TASKS};
 
 /// Books that are tried with a question.
 const TRIES: usize = 4;
@@ -36,7 +38,7 @@ struct Counts {
 
 fn main() -> ExitCode {
     let Some(Options { count, seed, tasks, wilson, by }) = options() else {
-        eprintln!("usage: strike [--count N] [--seed S] [--task K] [--wilson] [--feeds|--preview]");
+        eprintln!("usage: strike [--count N] [--seed S] [--task K] [--wilson] [--feeds|--preview|--queue]");
         return ExitCode::from(2);
     };
     if !by.built_in() {
@@ -73,6 +75,7 @@ fn call_of(by: Stage) -> Call {
     match by {
         Stage::Feeds => core_feeds,
         Stage::Preview => core_preview,
+        Stage::Queue => core_queue,
         _ => core,
     }
 }
@@ -89,16 +92,18 @@ fn options() -> Option<Options> {
             "--wilson" => wilson = true,
             "--feeds" => by = Stage::Feeds,
             "--preview" => by = Stage::Preview,
+            "--queue" => by = Stage::Queue,
             _ => return None,
         }
     }
     // Tasks 8 and 9 have no model.
     let all = match by {
         Stage::Feeds => &feeds::TASKS[..],
+        Stage::Queue => &[FLASH],
         _ if wilson => &TASKS[..7],
         _ => &TASKS,
     };
-    if by == Stage::Feeds && task.is_some_and(|task| !all.contains(&task)) {
+    if matches!(by, Stage::Feeds | Stage::Queue) && task.is_some_and(|task| !all.contains(&task)) {
         return None;
     }
     Some(Options { count, seed, tasks: task.map_or(all.to_vec(), |task| vec![task]), wilson, by })

@@ -169,7 +169,8 @@ fn damage(rng: &mut Rng, question: &mut questions::Draft) {
     questions::damage(rng, question, number);
 }
 
-fn no_room(rng: &mut Rng, m: usize) -> usize {
+/// Fewer bytes than m answers need.
+pub(super) fn no_room(rng: &mut Rng, m: usize) -> usize {
     let least = m * ANSWER_BYTES;
     match rng.below(6) {
         0 | 1 => least - 1,

@@ -2,7 +2,8 @@
 
 use super::exchanged::Exchange;
 use super::{
-    batches, books, differences, exchanged, feeds, mass, numbers, pooled, previews, questions, rice, small, wilson, Rng,
+    batches, books, differences, exchanged, feeds, mass, numbers, pooled, previews, questions, queues, rice, small,
+    wilson, Rng,
 };
 use crate::sheet::open_book;
 use crate::stage::{Case, Function, Stage};
@@ -50,7 +51,8 @@ impl Cases {
         let first = match stage {
             Stage::Numbers if !compact => edge_numbers(),
             Stage::Sheet if !compact => {
-                small::others().into_iter().map(|(case, _)| case).chain(differences::cases()).collect()
+                let full = queues::full().into_iter().map(|found| found.case());
+                small::others().into_iter().map(|(case, _)| case).chain(differences::cases()).chain(full).collect()
             }
             Stage::Mass if !compact => mass::borders().into_iter().map(|(case, _)| case).collect(),
             Stage::Exchanged if !compact => exchanged::borders().into_iter().map(|(case, _)| case).collect(),
@@ -58,6 +60,7 @@ impl Cases {
             Stage::Pooled if !compact => pooled::borders().into_iter().map(|(case, _)| case).collect(),
             Stage::Feeds if !compact => batches::borders().into_iter().map(|(case, _)| case).collect(),
             Stage::Preview if !compact => previews::borders().into_iter().map(|(case, _)| case).collect(),
+            Stage::Queue if !compact => queues::borders().into_iter().map(|(case, _)| case).collect(),
             _ => Vec::new(),
         };
         let rng = if compact { Rng::tidy(seed) } else { Rng::new(seed) };
@@ -96,6 +99,7 @@ impl Cases {
             Stage::Pooled => return pooled::draw(&mut self.rng, n),
             Stage::Feeds => return batches::draw(&mut self.rng, n),
             Stage::Preview => return previews::draw(&mut self.rng, n),
+            Stage::Queue => return queues::draw(&mut self.rng, n),
             _ => {}
         }
         // The stored ones of versions 2 and 3 stand among the sheets.

@@ -289,6 +289,15 @@ pub(super) fn overflow(rng: &mut Rng, draft: &mut books::Draft, w: &[f64]) {
     }
 }
 
+/// The same for a feed of its own, in a book of any version.
+pub(super) fn enter_overflow(rng: &mut Rng, draft: &mut books::Draft) {
+    if draft.blocks[0][1] == 1 {
+        enter(rng, draft);
+    }
+    let w = masses(rng, draft.n);
+    overflow(rng, draft, &w);
+}
+
 /// A question by mass that is answerable where its book's model is: near the saturation points of the mole feed.
 pub fn question(rng: &mut Rng, book: &Book, task: u64, w: &[f64]) -> Draft {
     let molar_masses = book.molar_masses.as_ref().expect("a version 2 book");

@@ -4,6 +4,7 @@ use std::ops::{Add, Div, Mul, Neg, Sub};
 
 use super::composition::COMPOSITION_SUM_TOLERANCE;
 use super::liquid::{AlphaTerms, TauTerms};
+use crate::evaluations;
 use crate::helpers::{HelperNumbers, SumFromZero};
 use crate::types::{
     CalculationError as Error, ComponentId, InputError, Temperature, ValidityStatus, MOLAR_GAS_CONSTANT as R,

@@ -3,6 +3,7 @@
 use super::blocks::Words;
 use super::question::Question;
 use super::Book;
+use crate::evaluations;
 use crate::helpers::bits_of;
 use crate::named::model::ActivityModel;
 use crate::named::nrtl::ExcessState;
@@ -32,6 +33,8 @@ pub const REDUCED_GIBBS: usize = 30;
 pub const VALIDITY: usize = 35;
 pub const INFERRED: usize = 36;
 pub const STABLE: usize = 37;
+/// Activity evaluations that a flash began.
+pub const EVALUATIONS: usize = 38;
 
 /// Outcomes of word 3.
 const LIQUID_ONLY: u64 = 1;
@@ -66,7 +69,11 @@ fn with_feed(model: &ActivityModel, question: &Question) -> Result<Blocks, Error
         4 => Ok(saturation(&activity_bubble_temperature(model, pressure()?, options)?)),
         5 => Ok(saturation(&activity_dew_temperature(model, pressure()?, options)?)),
         6 => Ok(stability(&liquid_stability(model, temperature()?, model.fractions(), options)?)),
-        _ => Ok(flash(&activity_tp_flash(model, temperature()?, pressure()?, options)?)),
+        _ => {
+            let (t, p) = (temperature()?, pressure()?);
+            let (found, begun) = evaluations::counted(|| activity_tp_flash(model, t, p, options));
+            Ok(flash(&found?, begun))
+        }
     }
 }
 
@@ -145,8 +152,9 @@ fn trial(found: &LiquidStabilityTrial) -> Words {
 }
 
 /// Task 7.
-fn flash(found: &ActivityTpFlash) -> Blocks {
+fn flash(found: &ActivityTpFlash, begun: u64) -> Blocks {
     let mut words = [0; 64];
+    words[EVALUATIONS] = begun;
     put(&mut words, T, found.temperature_k);
     put(&mut words, P, found.pressure_pa);
     put(&mut words, BUBBLE, found.bubble_pressure_pa);

@@ -3,7 +3,8 @@ use mathlib.Core.Path.{sym}
 use native.Mathlib.Omega.{arith}
 use Rattle.floats.specs.Outcome.{bind, need}
 use Rattle.batch.specs.Feeds.{feeds_of}
-use Rattle.batch.proofs.Calls.{ends, ends_exit, leaves, room-no, all_answered, few_feeds}
+use Rattle.sheet.proofs.Parts.{ends, ends_exit, leaves}
+use Rattle.batch.proofs.Calls.{room-no, all_answered, few_feeds}
 use Rattle.batch.proofs.answer.Goals as goal
 
 pub returns-in_err-head : goal.returns-in_err-head

@@ -10,10 +10,10 @@ pub returns-in_err-turn : goal.returns-in_err-turn
 returns-in_err-turn c = rw (met c.in_err-turn.field-0.0 c.from_residual.result c.from_residual.ensures.1) (loop-refused _ _ _ _ _ _ _ _ c.loop-done.invariant c.loop-done-test.true c.in_err-turn.ensures)
 
 pub returns-then-turn-o : goal.returns-then-turn-o
-returns-then-turn-o c = rw c.point.ensures (loop_done _ _ _ _ _ _ _ _ c.loop-done.invariant c.loop-done-test.true c.in_ok-turn.ensures c.if-turn-o.true)
+returns-then-turn-o c = loop_done _ _ _ _ _ _ _ _ c.loop-done.invariant c.loop-done-test.true c.in_ok-turn.ensures c.if-turn-o.true c.point.ensures
 
 pub loop-done-preserved : goal.loop-done-preserved
 loop-done-preserved c = loop_more _ _ _ _ _ _ _ _ c.loop-done.invariant c.loop-done-test.true c.in_ok-turn.ensures c.if-turn-o.false
 
 pub returns : goal.returns
-returns c = search loop_out
+returns c = loop_out _ _ _ _ _ _ _ _ c.loop-done.invariant c.loop-done-test.false

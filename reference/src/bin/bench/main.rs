@@ -1,7 +1,7 @@
 //! Times of the core, of the reference and, where it is at hand, of the peer on the same inputs in one run: nanoseconds a
 //! call, median of five.
 //!
-//! bench numbers|book|excess|rice|sheet|wilson|parts|pooled|feeds|preview|all
+//! bench numbers|book|excess|rice|sheet|wilson|parts|pooled|feeds|preview|queue|all
 
 use std::hint::black_box;
 use std::process::ExitCode;
@@ -11,7 +11,9 @@ use reference::helpers;
 use reference::named::rachford_rice::{rachford_rice, rachford_rice_negative, RachfordRiceOutcome};
 use reference::rattle;
 use reference::sheet::blocks::{rule_of, words_of, BLOCK};
-use reference::sheet::question::FRACTIONS;
+use reference::sheet::question::{FRACTIONS, TASK};
+use reference::sheet::queue::FLASH;
+use reference::sheet::reply::EVALUATIONS;
 use reference::sheet::{answer, feeds, open_book, pool, ANSWER_BYTES};
 use reference::stage::padded;
 
@@ -29,7 +31,7 @@ const RUN: f64 = 2e7;
 
 fn main() -> ExitCode {
     let stage = std::env::args().nth(1).unwrap_or_default();
-    let stages: [(&str, fn()); 10] = [
+    let stages: [(&str, fn()); 11] = [
         ("numbers", bench_numbers),
         ("book", bench_book),
         ("excess", bench_excess),
@@ -40,11 +42,12 @@ fn main() -> ExitCode {
         ("pooled", bench_pooled),
         ("feeds", bench_feeds),
         ("preview", bench_preview),
+        ("queue", bench_queue),
     ];
     let chosen: Vec<_> = stages.iter().filter(|(name, _)| *name == stage || stage == "all").collect();
     chosen.iter().for_each(|(_, bench)| bench());
     if chosen.is_empty() {
-        eprintln!("usage: bench numbers|book|excess|rice|sheet|wilson|parts|pooled|feeds|preview|all");
+        eprintln!("usage: bench numbers|book|excess|rice|sheet|wilson|parts|pooled|feeds|preview|queue|all");
         return ExitCode::from(2);
     }
     ExitCode::SUCCESS
@@ -336,10 +339,15 @@ fn time_task(model: &str, task: u64, book: Drafts, peer: Option<Peer>) {
 /// A book and a question.
 type Sheet = (Vec<u8>, Vec<u8>);
 
-/// The peer answers with the core's bytes.
+/// The peer answers with the core's bytes, but for the evaluations of a flash, which it doesn't count.
 fn same_answer((book, question): &Sheet, peer: Peer) {
     let [mut core, mut fast] = [[7; ANSWER_BYTES]; 2];
     if let Some(number) = rattle::answer(book, question, &mut core) {
+        let mut words = words_of(&core[..BLOCK]);
+        if number == 0 && words[TASK] == FLASH {
+            words[EVALUATIONS] = 0;
+            core[..BLOCK].copy_from_slice(&small::sealed_by(rule_of(book), words));
+        }
         assert_eq!((peer.answer)(book, question, &mut fast), number, "the peer's number");
         assert!(fast == core, "the peer's bytes");
     }
@@ -554,5 +562,45 @@ fn time_preview(model: &str, task: u64, book: Drafts) {
         &inputs,
         |(book, offered, question, _)| rattle::preview(book, offered, question, &mut out).map(drop_value),
         |(_, _, question, copy)| drop_value(rattle::answer(copy, question, &mut other)),
+    );
+}
+
+/// The core alone: one queue with all that it asks for, and as many plain calls; then one with nothing, which puts all off.
+fn bench_queue() {
+    for (model, book) in [("", books::realistic as Drafts), ("Wilson ", wilson::realistic)] {
+        for n in SOLVENTS {
+            for q in [64, 2] {
+                time_queue(model, n, q, book, u64::MAX);
+            }
+        }
+        time_queue(model, 8, 64, book, 0);
+    }
+}
+
+fn time_queue(model: &str, n: usize, q: usize, book: Drafts, allowance: u64) {
+    // All questions are answered by themselves.
+    let inputs = few(|rng| {
+        let (book, first) = accepted(rng, n, FLASH, book);
+        let opened = open_book(&book).expect("realistic");
+        let mut plain = vec![first];
+        while plain.len() < q {
+            let question = questions::realistic(rng, &opened, FLASH).question();
+            if answer(&book, &question, &mut [0; ANSWER_BYTES]) == 0 {
+                plain.push(question);
+            }
+        }
+        (book, plain.concat(), plain)
+    });
+    let (mut out, mut other) = (vec![0; q * ANSWER_BYTES], vec![0; q * ANSWER_BYTES]);
+    beside_plain(
+        &format!("{model}queue, n = {n}, {q} questions{}", if allowance == 0 { ", all put off" } else { "" }),
+        &format!("{q} plain calls"),
+        &inputs,
+        |(book, queue, _)| rattle::queue(book, queue, allowance, &mut out).map(drop_value),
+        |(book, _, plain)| {
+            for (question, part) in plain.iter().zip(other.chunks_mut(ANSWER_BYTES)) {
+                drop_value(rattle::answer(book, question, part));
+            }
+        },
     );
 }

@@ -4,7 +4,7 @@ use lib.ListN.{length-replicate}
 use Rattle.floats.specs.Arithmetic.{0f}
 use Rattle.floats.specs.Fold.{fold_to}
 use Rattle.batch.specs.Feeds.{parts_to}
-use Rattle.batch.proofs.Parts.{part_room}
+use Rattle.sheet.proofs.Parts.{part_room}
 use Rattle.batch.proofs.Calls.{keeps-nothing, replied, refused, feeds_turn}
 use Rattle.batch.proofs.Call.answer_feeds.Goals as goal
 use Rattle.batch.proofs.Call.answer_feeds.Goals.{in-Err, in_default}

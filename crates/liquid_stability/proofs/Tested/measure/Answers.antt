@@ -1,6 +1,4 @@
-use mathlib.Core.Path.{refl}
 use native.Mathlib.Omega.{arith}
-use Rattle.floats.specs.Fold.{fold_to}
 use Rattle.liquid_stability.specs.Stability.{distance_of, change_of, apart_of}
 use Rattle.liquid_stability.proofs.Laws.{amount-at, present-turn, absent-turn}
 use Rattle.liquid_stability.proofs.Tested.measure.Goals as goal

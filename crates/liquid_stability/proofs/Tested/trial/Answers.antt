@@ -1,21 +1,19 @@
-use mathlib.Core.Path.{◌∙◌}
-use Rattle.floats.specs.Outcome.{bind}
 use Rattle.outcome.proofs.Exits.{met}
-use Rattle.liquid_stability.specs.Steps.{after}
-use Rattle.liquid_stability.proofs.Laws.{trial-start, trial_out, trial_on}
+use Rattle.liquid_stability.proofs.Laws.{trial-start, trial_out, trial-refused, trial-found, trial-more}
 use Rattle.liquid_stability.proofs.Tested.trial.Goals as goal
 
+pub loop-done-init : goal.loop-done-init
+loop-done-init c = trial-start _ _ _ _ _ _ _ _ _ c.start-ln_w.ensures
+
 pub returns-in_err-found : goal.returns-in_err-found
-unfolding bind
-returns-in_err-found c = met _ _ c.from_residual.ensures.1 ∙ trial_on _ _ _ _ _ _ _ _ _ c.loop-done.invariant c.loop-done-test.true c.in_err-found.ensures
+returns-in_err-found c = rw (met _ _ c.from_residual.ensures.1)
+    (trial-refused _ _ _ _ _ _ _ _ _ c.loop-done.invariant c.loop-done-test.true c.begin.ensures c.in_err-found.ensures)
 
 pub returns-in-Break : goal.returns-in-Break
-unfolding bind after
-returns-in-Break c = rw c.in-Break.is at (trial_on _ _ _ _ _ _ _ _ _ c.loop-done.invariant c.loop-done-test.true c.in_ok-found.ensures)
+returns-in-Break c = trial-found _ _ _ _ _ _ _ _ _ c.loop-done.invariant c.loop-done-test.true c.begin.ensures c.in_ok-found.ensures c.in-Break.is
 
 pub loop-done-preserved : goal.loop-done-preserved
-unfolding bind after
-loop-done-preserved c = rw c.in-Continue.is at (trial_on _ _ _ _ _ _ _ _ _ c.loop-done.invariant c.loop-done-test.true c.in_ok-found.ensures)
+loop-done-preserved c = trial-more _ _ _ _ _ _ _ _ _ c.loop-done.invariant c.loop-done-test.true c.begin.ensures c.in_ok-found.ensures c.in-Continue.is
 
 pub returns : goal.returns
 returns c = trial_out _ _ _ _ _ _ _ _ _ c.loop-done.invariant c.loop-done-test.false

@@ -39,4 +39,4 @@ returns-in_ok-p-in_default-clause-answers c h w = let d = c.task_or_flash.ensure
     let o = pascal-ok _ c.in_ok-p-in_default.ensures in
     let r = at_rest _ _ _ _ d n.not-Activity n.not-BubblePressure n.not-DewPressure n.not-Stability in
     let f = pressures-rest _ _ _ _ _ d n.not-Activity n.not-BubblePressure n.not-DewPressure n.not-Stability in
-    same_as (ap (replied _ _) (r ∙ bind_yes _ o)) (c.flash.ensures h (sym (f ∙ bind_yes _ o) ∙ w))
+    same_as (ap (replied _ _) (r ∙ bind_yes _ o)) (c.flash.ensures.answers h (sym (f ∙ bind_yes _ o) ∙ w))

@@ -1,0 +1,2 @@
+-- Laws of counted outcomes. Assumes nothing.
+pub mod Laws

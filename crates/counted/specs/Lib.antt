@@ -1,0 +1,2 @@
+-- What a counted outcome is. Assumes nothing.
+pub mod Counted

@@ -1,0 +1,2 @@
+-- Laws of a queue, which other crates may cite. Assumes nothing.
+pub mod Calls

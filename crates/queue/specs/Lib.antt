@@ -1,0 +1,2 @@
+-- What the contract of the queue cites. Assumes nothing.
+pub mod Queue
