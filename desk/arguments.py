@@ -51,6 +51,7 @@ QUESTIONS_HELP = (
 )
 TEMPERATURE_HELP = "with its unit: 351.44K, 78.29C or 78.29°C"
 PRESSURE_HELP = "with its unit: 90000Pa, 90kPa, 0.9bar, 900mbar, 1atm, 675mmHg, 675Torr or 13psi"
+HIGHER_HELP = "a higher one can't change any accepted sheet"
 BRACKET_HELP = "temperatures between which a point is looked for (default 273.16K:450K, narrowed to the book's ranges)"
 LAYERS = (
     "./sheet layers --drum toluene=0.4,water=0.6 --temperature 25C",
@@ -256,7 +257,7 @@ def _add_queue(commands) -> None:
     command.set_defaults(tried=None)  # the core has no call for both
     _add_list_options(command)
     _add_sheet_options(command)
-    _add_options(command)
+    _add_options(command, ", but more of the allowance is asked for")
 
 
 def _add_try(command: Parser) -> None:
@@ -281,19 +282,21 @@ def _add_program(command: Parser) -> None:
     )
 
 
-def _add_limit(command: Parser) -> None:
+def _add_limit(command: Parser, besides: str = "") -> None:
     command.add_argument(
-        "--max-iterations", metavar="M", help=f"limit of iterations (default {Options.max_iterations})"
+        "--max-iterations",
+        metavar="M",
+        help=f"limit of iterations (default {Options.max_iterations}); {HIGHER_HELP}{besides}",
     )
 
 
-def _add_options(command: Parser) -> None:
-    _add_limit(command)
+def _add_options(command: Parser, of_limit: str = "") -> None:
+    _add_limit(command, of_limit)
     command.add_argument("--tolerance", metavar="E", help=f"largest ln fugacity residual (default {Options.tolerance})")
     command.add_argument(
         "--max-temperature-iterations",
         metavar="M",
-        help=f"limit of temperatures tried (default {Options.max_temperature_iterations})",
+        help=f"limit of temperatures tried (default {Options.max_temperature_iterations}); {HIGHER_HELP}",
     )
     command.add_argument(
         "--energy-tolerance",

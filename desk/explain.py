@@ -73,13 +73,14 @@ def advice(sheet: Sheet) -> List[str]:
     if sheet.offered_refused:
         return [f"What to do: {refusals.OFFERED[number].advice}."]
     if sheet.judgement.mark:
-        return list(sheet.judgement.mark.advice)
+        kept = [f"{refusals.KEPT}."] if number == NOT_CONVERGED else []
+        return [*sheet.judgement.mark.advice, *kept]
     if number == FRACTIONS_DO_NOT_SUM and not _sums(sheet):
         pasted = to_paste(sheet.book, sheet.feed)
         look = f"What to do: look at {_option(sheet.feed)}."
         return ["What to do: add --normalize, or paste", pasted] if pasted else [look]
-    if number == NOT_CONVERGED and not sheet.book.shows_layers(sheet.present()):
-        return ["What to do: raise --max-iterations, or --tolerance a little; look at the data of its pairs."]
+    if number == NOT_CONVERGED and sheet.question.task.takes_options and not sheet.book.shows_layers(sheet.present()):
+        return [f"What to do: {refusals.HIGHER}; look at the data of its pairs. {refusals.KEPT}."]
     return [f"What to do: {refusals.advice(number, sheet.question.task.command)}."]
 
 

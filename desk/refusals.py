@@ -6,6 +6,8 @@ from typing import Dict
 
 MAKE_AGAIN = "make it again with ./sheet book"
 LOOK_AT_LIMITS = "look at --max-iterations and --max-temperature-iterations"
+HIGHER = "raise --max-iterations and, for a temperature, --max-temperature-iterations, or --tolerance a little"
+KEPT = "A higher limit can't change any accepted sheet"  # a law of the core
 
 
 @dataclass(frozen=True)
@@ -80,8 +82,8 @@ REFUSALS: Dict[int, Refusal] = {
     26: Refusal("the bracket holds no root: the point lies outside it", "widen --bracket, or change the pressure"),
     27: Refusal(
         "not converged within the iteration limit, or the bracket collapsed",
-        "where the drum's liquid is one layer: raise --max-iterations, or --tolerance a little; "
-        "ask ./sheet layers whether it is",
+        f"where the drum's liquid is one layer: {HIGHER}; ask ./sheet layers whether it is. {KEPT}",
+        {command: f"raise --max-iterations. {KEPT}" for command in ("rachford-rice", "rachford-rice-negative")},
     ),
     28: Refusal(
         "the K values of the solvents present lie on one side of 1",

@@ -4,7 +4,7 @@ trials, and where it fails the sheet says so above its numbers."""
 import json
 import unittest
 
-from desk import answer, tasks
+from desk import answer, refusals, tasks
 from desk.core import Core
 from desk.judgement import judged, rice_root
 from desk.openbook import open_book
@@ -80,6 +80,7 @@ class RowsOfTheTable(Marked):
         self.assert_marked(run, SPLITS + "the core refused (number 27)", status=1)
         self.assertIn("the first drop comes at 86.27 °C", run.out)
         self.assertNotIn("raise", run.out)
+        self.assertIn(f"{refusals.KEPT}.", " ".join(run.out.split()))
 
     def test_diagram_far_out_of_the_pair_s_range(self):
         """An azeotrope at 290.61 K from a pair that was fitted for 351 to 373 K."""

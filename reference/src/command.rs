@@ -3,7 +3,7 @@
 use crate::stage::{Stage, STAGES};
 
 pub const USAGE: &str =
-    "numbers|fractions|book|pressure|excess|rice|sheet|mass|exchanged|wilson|pooled|feeds|preview|queue|all [--count N] [--seed S] [--counts]";
+    "numbers|fractions|book|pressure|excess|rice|sheet|mass|exchanged|wilson|pooled|feeds|preview|queue|limits|all [--count N] [--seed S] [--counts]";
 
 pub struct Options {
     pub stages: Vec<Stage>,

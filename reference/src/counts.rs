@@ -4,6 +4,7 @@ mod drums;
 mod feeds;
 mod flashes;
 mod kinds;
+mod limits;
 mod pairs;
 mod queues;
 
@@ -12,6 +13,7 @@ use std::collections::BTreeMap;
 use drums::Drums;
 use feeds::Feeds;
 use flashes::Flashes;
+use limits::Raised;
 use pairs::Pairs;
 use queues::Queues;
 
@@ -289,11 +291,16 @@ pub struct Counts {
     feeds: Feeds,
     pairs: Pairs,
     queues: Queues,
+    raised: Raised,
     pub flashes: Flashes,
 }
 
 impl Counts {
     pub fn add(&mut self, kind: Kind, case: &Case, found: &Found) {
+        if let Case::Raised { asked, .. } = case {
+            self.raised.add(case, found);
+            return self.add(kind, asked, found);
+        }
         self.all.add(found.refusal);
         self.sheets.add(kind, case, found);
         self.drums.add(case, found.refusal);
@@ -310,6 +317,7 @@ impl Counts {
             Stage::Feeds => self.feeds.print(),
             Stage::Preview => self.pairs.print(),
             Stage::Queue => self.queues.print(),
+            Stage::Limits => self.raised.print(),
             _ => {}
         }
         self.flashes.print();

@@ -7,6 +7,7 @@ pub mod cases;
 pub mod differences;
 pub mod exchanged;
 pub mod feeds;
+pub mod limits;
 pub mod mass;
 pub mod numbers;
 pub mod pooled;

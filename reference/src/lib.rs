@@ -7,6 +7,7 @@ pub mod edits;
 pub mod evaluations;
 pub mod generate;
 pub mod helpers;
+pub mod limits;
 pub mod named;
 pub mod rattle;
 pub mod sheet;

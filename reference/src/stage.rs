@@ -5,6 +5,7 @@ use std::hint::black_box;
 
 use crate::evaluations::counted;
 use crate::helpers::{self, bits_of};
+use crate::limits::{self, Limits};
 use crate::named::liquid::Correlation;
 use crate::named::rachford_rice::{rachford_rice, rachford_rice_negative, RachfordRiceOutcome, RachfordRiceSolution};
 use crate::rattle;
@@ -38,9 +39,11 @@ pub enum Stage {
     Preview,
     /// Flashes in a queue.
     Queue,
+    /// Calls with a limit raised.
+    Limits,
 }
 
-pub const STAGES: [Stage; 14] = [
+pub const STAGES: [Stage; 15] = [
     Stage::Numbers,
     Stage::Fractions,
     Stage::Book,
@@ -55,6 +58,7 @@ pub const STAGES: [Stage; 14] = [
     Stage::Feeds,
     Stage::Preview,
     Stage::Queue,
+    Stage::Limits,
 ];
 
 impl Stage {
@@ -74,6 +78,7 @@ impl Stage {
             Stage::Feeds => "feeds",
             Stage::Preview => "preview",
             Stage::Queue => "queue",
+            Stage::Limits => "limits",
         }
     }
 
@@ -101,6 +106,7 @@ impl Stage {
             Stage::Feeds => cfg!(feature = "feeds"),
             Stage::Preview => cfg!(feature = "preview"),
             Stage::Queue => cfg!(feature = "queue"),
+            Stage::Limits => cfg!(feature = "limits"),
         }
     }
 
@@ -172,6 +178,11 @@ pub enum Case {
         lent: Vec<u8>,
         room: usize,
     },
+    /// Another sheet's call, made as it is and with these limits.
+    Raised {
+        asked: Box<Case>,
+        limits: Limits,
+    },
 }
 
 /// One side's result: the refusal number (0 for an answer) and all words that were returned or written.
@@ -210,6 +221,7 @@ impl Case {
                 let (number, begun) = counted(|| with.reference(book, question, lent, &mut answer));
                 Found { begun, ..refused_or(number, bytes_as_words(&answer)) }
             }
+            Case::Raised { asked, limits } => limits::both(asked, *limits),
         }
     }
 
@@ -217,8 +229,37 @@ impl Case {
     pub fn sheet(&self) -> Option<(&[u8], &[u8])> {
         match self {
             Case::Sheet { book, question, .. } | Case::With { book, question, .. } => Some((book, question)),
+            Case::Raised { asked, .. } => asked.sheet(),
             _ => None,
         }
+    }
+
+    /// How many parts of the answer slice an accepted sheet fills.
+    pub fn parts(&self) -> usize {
+        match self {
+            Case::With { with, question, lent, .. } => with.parts(question, lent),
+            _ => 1,
+        }
+    }
+
+    /// The calls that it makes.
+    pub fn calls(self) -> Vec<Self> {
+        match self {
+            Case::Raised { asked, limits } => {
+                let raised = asked.with_limits(limits);
+                vec![*asked, raised]
+            }
+            call => vec![call],
+        }
+    }
+
+    /// The same call with these limits in its question, whose check is made right.
+    pub fn with_limits(&self, limits: Limits) -> Self {
+        let mut raised = self.clone();
+        if let Case::Sheet { book, question, .. } | Case::With { book, question, .. } = &mut raised {
+            *question = limits::raised(book, question, limits);
+        }
+        raised
     }
 
     /// The core's words; `None` where the stage is not built in.
@@ -261,6 +302,11 @@ impl Case {
                 words.extend((black_box(&own) != book).then_some(0));
                 Some(words)
             }
+            Case::Raised { asked, limits } => {
+                let mut words = asked.offered()?;
+                words.extend(asked.with_limits(*limits).offered()?);
+                Some(words)
+            }
         }
     }
 
@@ -299,6 +345,9 @@ impl Case {
                 }
                 hex(&mut line, &[*room as u64]);
             }
+            Case::Raised { asked, limits } => {
+                return format!("{}, {}", asked.line(), asked.with_limits(*limits).line())
+            }
         }
         line
     }
@@ -320,7 +369,7 @@ impl Case {
         words
     }
 
-    fn name(&self) -> &'static str {
+    pub fn name(&self) -> &'static str {
         match self {
             Case::Number { function, .. } => match function {
                 Function::Exp => "exp",
@@ -342,6 +391,7 @@ impl Case {
             Case::Rice { negative: true, .. } => "rachford_rice_negative",
             Case::Sheet { .. } => "answer",
             Case::With { with, .. } => with.name(),
+            Case::Raised { asked, .. } => asked.name(),
         }
     }
 }

@@ -11,6 +11,7 @@
 //! oracle preview-borders                         offered pairs at the borders of their 1, 2, 7, 8 and 9
 //! oracle queue-borders                           queues at the borders of 39, 10 and the allowance
 //! oracle full                                    flashes that begin as many evaluations as any can
+//! oracle limits-borders                          sheets with one turn too few or just enough, each as asked and with limits raised
 
 use std::io::{BufWriter, Write};
 use std::process::ExitCode;
@@ -18,7 +19,7 @@ use std::process::ExitCode;
 use reference::command::{Options, USAGE};
 use reference::counts::{count_sheets, count_stage};
 use reference::generate::cases::Cases;
-use reference::generate::{batches, differences, exchanged, mass, pooled, previews, queues, wilson};
+use reference::generate::{batches, differences, exchanged, limits, mass, pooled, previews, queues, wilson};
 use reference::stage::{hex, hex_words, Case, Stage};
 
 /// Lines of a stage where no count is given.
@@ -35,6 +36,7 @@ fn main() -> ExitCode {
         ["feeds-borders"] => Some(batches::borders().into_iter().map(|(case, _)| case).collect()),
         ["preview-borders"] => Some(previews::borders().into_iter().map(|(case, _)| case).collect()),
         ["queue-borders"] => Some(queues::borders().into_iter().map(|(case, _)| case).collect()),
+        ["limits-borders"] => Some(limits::turns().into_iter().map(|(case, ..)| case).collect()),
         ["full"] => Some(queues::full().iter().map(|found| found.case()).collect()),
         _ => None,
     };
@@ -42,7 +44,7 @@ fn main() -> ExitCode {
         return if write(cases.into_iter()).is_ok() { ExitCode::SUCCESS } else { ExitCode::FAILURE };
     }
     let Some(options) = Options::read(words.into_iter()) else {
-        eprintln!("usage: oracle differences|borders|exchanged-borders|wilson-borders|pooled-borders|feeds-borders|preview-borders|queue-borders|full|{USAGE}");
+        eprintln!("usage: oracle differences|borders|exchanged-borders|wilson-borders|pooled-borders|feeds-borders|preview-borders|queue-borders|full|limits-borders|{USAGE}");
         return ExitCode::from(2);
     };
     for stage in &options.stages {
@@ -72,7 +74,7 @@ fn count(stage: Stage, options: &Options) {
 /// Name, inputs, `=`, outputs.
 fn write(cases: impl Iterator<Item = Case>) -> std::io::Result<()> {
     let mut out = BufWriter::new(std::io::stdout().lock());
-    for case in cases {
+    for case in cases.flat_map(Case::calls) {
         let mut results = String::new();
         let words = case.stored();
         hex(&mut results, &words[..1]);

@@ -2,8 +2,8 @@
 
 use super::exchanged::Exchange;
 use super::{
-    batches, books, differences, exchanged, feeds, mass, numbers, pooled, previews, questions, queues, rice, small,
-    wilson, Rng,
+    batches, books, differences, exchanged, feeds, limits, mass, numbers, pooled, previews, questions, queues, rice,
+    small, wilson, Rng,
 };
 use crate::sheet::open_book;
 use crate::stage::{Case, Function, Stage};
@@ -43,6 +43,8 @@ pub struct Cases {
     first: std::vec::IntoIter<Case>,
     /// Where the stage is of version 3 books.
     third: Option<Box<exchanged::Sheets>>,
+    /// Where the stage is of raised limits.
+    raised: Option<Box<limits::Calls>>,
     exchange: Option<Exchange>,
 }
 
@@ -61,11 +63,19 @@ impl Cases {
             Stage::Feeds if !compact => batches::borders().into_iter().map(|(case, _)| case).collect(),
             Stage::Preview if !compact => previews::borders().into_iter().map(|(case, _)| case).collect(),
             Stage::Queue if !compact => queues::borders().into_iter().map(|(case, _)| case).collect(),
+            Stage::Limits if !compact => limits::borders().into_iter().map(|(case, ..)| case).collect(),
             _ => Vec::new(),
         };
         let rng = if compact { Rng::tidy(seed) } else { Rng::new(seed) };
         let third = (stage == Stage::Exchanged).then(|| Box::new(exchanged::Sheets::new(seed, compact)));
-        Self { rng, stage, compact, first: first.into_iter(), third, exchange: None }
+        let raised = (stage == Stage::Limits).then(|| Box::new(limits::Calls::new(seed, compact)));
+        Self { rng, stage, compact, first: first.into_iter(), third, raised, exchange: None }
+    }
+
+    /// The random ones alone.
+    pub(super) fn without_borders(mut self) -> Self {
+        self.first = Vec::new().into_iter();
+        self
     }
 
     /// What was exchanged in the case drawn last.
@@ -90,6 +100,9 @@ impl Cases {
             let drawn = third.draw();
             self.exchange = drawn.exchange;
             return (drawn.kind, drawn.case);
+        }
+        if let Some(calls) = &mut self.raised {
+            return calls.draw();
         }
         let n = self.solvents();
         match self.stage {

@@ -1,0 +1,4 @@
+-- Laws of a raised limit in each call. Assumes nothing.
+pub mod Calls
+pub mod Queue
+pub mod Example

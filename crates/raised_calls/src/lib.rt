@@ -1,0 +1,2 @@
+// Raising a limit, in each call: laws; no code.
+#![tactic(auto)]
