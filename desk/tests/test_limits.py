@@ -3,20 +3,12 @@
 import shlex
 import unittest
 
-from desk import refusals
+from desk import refusals, tasks
 from desk.arguments import EXAMPLES
 
 from .support import ALCOHOLS, sheet
 
-LIMITED = (
-    "dew-pressure",
-    "bubble-temperature",
-    "dew-temperature",
-    "stability",
-    "flash",
-    "rachford-rice",
-    "rachford-rice-negative",
-)
+LIMITED = tuple(task.command for task in tasks.TASKS if task.takes_options or task.takes_k)
 OUTER = "--max-temperature-iterations"
 
 
