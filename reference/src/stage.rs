@@ -356,9 +356,7 @@ impl Case {
     pub fn stored(&self) -> Vec<u64> {
         let mut words = self.expected().words;
         let kept = match self {
-            Case::With { with, question, lent, .. } if words[0] == 0 => {
-                return blocks_of_parts(&words, with.parts(question, lent))
-            }
+            Case::With { .. } if words[0] == 0 => return blocks_of_parts(&words, self.parts()),
             Case::Sheet { .. } if words[0] == 0 => 1 + written_words(&words[1..]),
             Case::Normalize { .. } | Case::Pressure { .. } | Case::Excess { .. } if words[0] == 0 => words.len(),
             Case::Rice { .. } if words[0] == 3 => words.len(),
