@@ -15,10 +15,11 @@ docs/LINKING.md has more of this, docs/FORMAT.md what the words of an answer hol
 from pathlib import Path
 from typing import Union
 
-from . import answer, batch, pool, queue, refusals
+from . import answer, batch, distance, pool, queue, refusals
 from .answer import Blocks
 from .book import Book, Correlation, Interval, Model, Pair, Solvent, WilsonPair, encode
 from .core import Core
+from .distance import Distance
 from .errors import DeskError
 from .library import Library, find
 from .openbook import open_book, open_yard
@@ -38,8 +39,9 @@ def open_core(book: bytes) -> Union[Library, Core]:
 
 
 __all__ = [
-    "Blocks", "Book", "Core", "Correlation", "DeskError", "Drum", "Interval", "Library", "Model", "Options", "Pair",
-    "Preview", "Question", "Solvent", "Task", "WilsonPair", "BUBBLE_PRESSURE", "BUBBLE_TEMPERATURE", "DEW_PRESSURE",
-    "DEW_TEMPERATURE", "EXCESS", "FLASH", "RACHFORD_RICE", "RACHFORD_RICE_NEGATIVE", "STABILITY", "TASKS", "answer",
-    "batch", "encode", "find", "open_book", "open_core", "open_yard", "pair_block", "pool", "queue", "refusals",
+    "Blocks", "Book", "Core", "Correlation", "DeskError", "Distance", "Drum", "Interval", "Library", "Model", "Options",
+    "Pair", "Preview", "Question", "Solvent", "Task", "WilsonPair", "BUBBLE_PRESSURE", "BUBBLE_TEMPERATURE",
+    "DEW_PRESSURE", "DEW_TEMPERATURE", "EXCESS", "FLASH", "RACHFORD_RICE", "RACHFORD_RICE_NEGATIVE", "STABILITY",
+    "TASKS", "answer", "batch", "distance", "encode", "find", "open_book", "open_core", "open_yard", "pair_block",
+    "pool", "queue", "refusals",
 ]  # fmt: skip

@@ -64,6 +64,10 @@ class Blocks:
         return [(name, others.get(name, words)) for name, words in found]
 
 
+def outcome_words(outcome: int) -> str:
+    return OUTCOMES.get(outcome, str(outcome))
+
+
 def phases(task: Task, blocks: Blocks) -> Tuple[bool, bool]:
     """Which of liquid and vapor the answer gives a composition of."""
     outcome = blocks.head[OUTCOME]

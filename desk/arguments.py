@@ -42,6 +42,7 @@ TRY_HELP = (
     "a pair in place of the book's own, for this sheet alone, which says that it is a preview: a file with its section "
     "of a yard text, the section itself as 'pair NAME NAME: KEY = VALUE; KEY = VALUE', or a pair's block of 512 bytes"
 )
+FAR = "./sheet distance --drum ethanol=0.5,water=0.5 --temperature 78.29C --pressure 90kPa"
 TRYING = "./sheet bubble-temperature --drum ethanol=0.3,water=0.7 --pressure 1atm --try yard/try.txt"
 MANY = "./sheet flash --drums yard/week.csv --temperature 76C --pressure 1bar"
 SHIFT = "./sheet queue --questions yard/shift.csv --allowance 5000"
@@ -99,7 +100,7 @@ def parser() -> Parser:
         + "\n  ".join(EXAMPLES.values())
         + "\n  ./sheet strike flash --drum ethanol=0.5,water=0.5 --temperature 78.29C --pressure 90kPa"
         + "\n  "
-        + "\n  ".join((*WEIGHED, MANY, SHIFT, TRYING, *LAYERS))
+        + "\n  ".join((*WEIGHED, MANY, SHIFT, TRYING, FAR, *LAYERS))
         + "\n  ./sheet diagram txy --pair ethanol,water --pressure 101325Pa -o txy.svg"
         + f"\n\n{STATUSES}",
     )
@@ -108,6 +109,7 @@ def parser() -> Parser:
     for task in tasks.TASKS:
         _add_task(commands, task)
     _add_layers(commands)
+    _add_distance(commands)
     _add_queue(commands)
     _add_strike(commands)
     _add_diagram(commands)
@@ -167,9 +169,7 @@ def _add_task(commands, task: tasks.Task) -> None:
     )
     _add_book_options(command)
     _add_try(command)
-    feed = command.add_mutually_exclusive_group(required=True)
-    feed.add_argument("--drum", action="append", metavar="NAME=X,NAME=X", help=DRUM_HELP)
-    feed.add_argument("--mass", action="append", metavar="NAME=W,NAME=W", help=MASS_HELP)
+    feed = _add_feed(command)
     command.set_defaults(drums=None)
     if task in batch.TASKS:
         feed.add_argument("--drums", metavar="FILE", help=DRUMS_HELP)
@@ -190,6 +190,13 @@ def _add_task(commands, task: tasks.Task) -> None:
         "--strike", action="store_true", help="ask again with the drum's solvents alone, and compare word by word"
     )
     command.add_argument("--words", action="store_true", help="with --strike: list every word that was compared")
+
+
+def _add_feed(command: Parser):
+    feed = command.add_mutually_exclusive_group(required=True)
+    feed.add_argument("--drum", action="append", metavar="NAME=X,NAME=X", help=DRUM_HELP)
+    feed.add_argument("--mass", action="append", metavar="NAME=W,NAME=W", help=MASS_HELP)
+    return feed
 
 
 def _add_list_options(command: Parser) -> None:
@@ -233,6 +240,27 @@ def _add_layers(commands) -> None:
     command.add_argument("--pressure", metavar="P", help=f"at which the layers boil, {PRESSURE_HELP}")
     command.add_argument("--bracket", metavar="LOW:HIGH", help=BRACKET_HELP)
     _add_sheet_options(command)
+
+
+def _add_distance(commands) -> None:
+    command = _add(
+        commands,
+        "distance",
+        "how far the pressure can rise or fall, in steps of 100 Pa, until a drum's phases change",
+        FAR,
+        f"{FAR} --both",
+        "./sheet distance --drum ethanol=40kg,water=12kg --temperature 80C --pressure 1atm --both --details",
+    )
+    _add_book_options(command)
+    _add_try(command)
+    _add_feed(command)
+    command.add_argument("--temperature", required=True, metavar="T", help=TEMPERATURE_HELP)
+    command.add_argument("--pressure", required=True, metavar="P", help=f"from which the steps go, {PRESSURE_HELP}")
+    command.add_argument(
+        "--both", action="store_true", help="the nearest change upwards and downwards, not the nearest of both alone"
+    )
+    _add_sheet_options(command)
+    _add_options(command)
 
 
 def _add_queue(commands) -> None:

@@ -73,6 +73,7 @@ def _close_output() -> None:
 
 _HANDLERS: Dict[str, Callable[[argparse.Namespace], int]] = {
     "layers": commands.layers,
+    "distance": commands.ask_distance,
     "queue": commands.ask_queue,
     "diagram": commands.draw,
     "book": commands.make_book,

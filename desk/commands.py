@@ -8,14 +8,15 @@ from dataclasses import replace
 from typing import Iterator, List, Optional, Tuple, Union
 
 from . import (
-    answer, batch, building, core, diagram, drumlist, explain, files, jsonsheet, layersreport, library, listreport
+    answer, batch, building, core, diagram, distancereport, drumlist, explain, files, jsonsheet, layersreport, library
 )
-from . import picture, queuereport, refusals, report, strikereport, tasks, text, units, yardcheck
+from . import listreport, picture, queuereport, refusals, report, strikereport, tasks, text, units, yardcheck
 from .arguments import commands_of, options_of, parser
 from .book import VERSION, Model, encode
+from .distancesheet import distance_sheet
 from .errors import CoreRefusal, DeskError, quoted, suggestion
 from .feed import Feed
-from .judgement import judged
+from .judgement import Mark, judged
 from .layersheet import layers_sheet
 from .listsheet import MARKED as MARKED_ROW
 from .listsheet import REFUSED as REFUSED_ROW
@@ -55,18 +56,38 @@ def ask(arguments: argparse.Namespace) -> int:
     for option in LIST_OPTIONS:
         if getattr(arguments, option, None):
             raise DeskError(f"--{option.replace('_', '-')} belongs to --drums")
-    book = open_book(arguments.book, arguments.names)
-    feed = feed_of(book, arguments.drum, arguments.mass, arguments.normalize)
-    question = _question(arguments, book, feed)
-    with _asking(arguments, book) as (program, asked, tried):
-        sheet = _sheet(program, asked, feed, question)
-        if tried and sheet.blocks.refusal not in batch.OF_THE_BOOK:
-            tried = replace(tried, own=_sheet(program.core, book, feed, question, advise=False))
-        sheet = replace(sheet, label=_label(arguments), date=today(), tried=tried)
+    with _asked(arguments, tasks.BY_COMMAND[arguments.command]) as (_, sheet):
+        pass
     if arguments.strike:
         return _strike(arguments, sheet)
     sys.stdout.write((jsonsheet if arguments.json else report).render(sheet, arguments.details))
-    return _ended(sheet)
+    return _ended(sheet, sheet.judgement.mark)
+
+
+def ask_distance(arguments: argparse.Namespace) -> int:
+    """From a drum's flash to the next phase change."""
+    with _asked(arguments, tasks.FLASH, "zektonk_distance") as (program, flash):
+        sheet = distance_sheet(program, flash, arguments.both)
+        if flash.tried and flash.tried.own:
+            sheet = replace(sheet, own=distance_sheet(program.core, flash.tried.own))
+    if arguments.json:
+        sys.stdout.write(jsonsheet.dumped(distancereport.document(sheet, arguments.details)))
+    else:
+        sys.stdout.write(distancereport.render(sheet, arguments.details))
+    return _ended(flash, sheet.mark)
+
+
+@contextlib.contextmanager
+def _asked(arguments: argparse.Namespace, task: tasks.Task, call: str = "") -> Iterator[Tuple["Asked", Sheet]]:
+    """One drum's sheet, and who was asked; with a pair that is tried also by the book itself."""
+    book = open_book(arguments.book, arguments.names)
+    feed = feed_of(book, arguments.drum, arguments.mass, arguments.normalize)
+    question = _question(arguments, book, feed, task)
+    with _asking(arguments, book, call) as (program, asked, tried):
+        sheet = _sheet(program, asked, feed, question)
+        if tried and sheet.blocks.refusal not in batch.OF_THE_BOOK:
+            tried = replace(tried, own=_sheet(program.core, book, feed, question, advise=False))
+        yield program, replace(sheet, label=_label(arguments), date=today(), tried=tried)
 
 
 Asked = Union[core.Core, library.Library, Preview]
@@ -107,7 +128,7 @@ def ask_many(arguments: argparse.Namespace) -> int:
     _expect_one_form(arguments)
     book = open_book(arguments.book, arguments.names)
     drums = drumlist.read(arguments.drums, book, arguments.by_mass, arguments.normalize, _skip(arguments))
-    question = _question(arguments, book, Feed(()))
+    question = _question(arguments, book, Feed(()), tasks.BY_COMMAND[arguments.command])
     with _asking(arguments, book, "zektonk_feeds") as (program, asked, tried):
         _expect_offered(tried)
         sheet = list_sheet(program, asked, shown(arguments.drums), drums, question, _label(arguments), tried)
@@ -173,8 +194,7 @@ def _ranges(program: Asked, sheet: Sheet) -> Optional[Ranges]:
     return ranges_at(program, sheet.book, sheet.moles, kelvin)
 
 
-def _question(arguments: argparse.Namespace, book: NamedBook, feed: Feed) -> Question:
-    task = tasks.BY_COMMAND[arguments.command]
+def _question(arguments: argparse.Namespace, book: NamedBook, feed: Feed, task: tasks.Task) -> Question:
     return Question(
         task,
         feed.fractions,
@@ -186,9 +206,9 @@ def _question(arguments: argparse.Namespace, book: NamedBook, feed: Feed) -> Que
     )
 
 
-def _ended(sheet: Sheet) -> int:
+def _ended(sheet: Sheet, mark: Optional[Mark]) -> int:
     """The status, and for a refusal or a mark one line on standard error."""
-    number, mark = sheet.blocks.refusal, sheet.judgement.mark
+    number = sheet.blocks.refusal
     if number or mark:
         sys.stdout.flush()
         line = refusals.line(number, sheet.offered_refused)
@@ -208,7 +228,7 @@ def _strike(arguments: argparse.Namespace, sheet: Sheet) -> int:
         sys.stdout.flush()
         print("sheet: the two sheets differ", file=sys.stderr)
         return REFUSED
-    return _ended(sheet)
+    return _ended(sheet, sheet.judgement.mark)
 
 
 def layers(arguments: argparse.Namespace) -> int:

@@ -7,8 +7,9 @@ import tempfile
 from pathlib import Path
 from typing import Dict, List, Sequence, Tuple
 
-from . import answer, batch, pool, preview, queue
+from . import answer, batch, distance, pool, preview, queue
 from .blocks import rule_of, sealed
+from .distance import Distance
 from .errors import DeskError
 from .feed import Fractions
 from .pool import Drum
@@ -74,6 +75,10 @@ class Core:
     def begun(self, question: Question, number: int) -> Tuple[int, bool]:
         """How many evaluations a flash that was refused with the number may have begun, and whether that is exact."""
         return queue.begun_at_most(self, question, number)
+
+    def ask_distance(self, question: Question) -> Distance:
+        """From a flash's pressure to the first step with another outcome, by a run for each step."""
+        return distance.ask_plainly(self, question)
 
     def ask_block(self, block: bytes) -> answer.Blocks:
         if block not in self._answers:

@@ -9,6 +9,7 @@ from typing import Any, Callable, Dict, Iterable, List, Optional, Sequence
 from . import answer, charge, explain, refusals, units
 from .blocks import bits_of, float_of, floats_at
 from .feed import ByMass, Feed
+from .judgement import Mark
 from .question import Options
 from .ranges import Ranges
 from .report import phase_amounts
@@ -83,7 +84,7 @@ class Document:
 
     def whole(self) -> Dict[str, Any]:
         sheet, judgement = self.sheet, self.sheet.judgement
-        number, task, mark = sheet.blocks.refusal, sheet.question.task, sheet.judgement.mark
+        number, task = sheet.blocks.refusal, sheet.question.task
         return {
             "command": task.command,
             "task": task.number,
@@ -93,7 +94,7 @@ class Document:
             **({"preview": preview_document(sheet.tried, self.details)} if sheet.tried else {}),
             "book": book_document(sheet.tried.book if sheet.tried else sheet.book, self.details),
             "question": self._question(),
-            "warning": {"kind": mark.kind, "line": mark.line, "advice": list(mark.advice)} if mark else None,
+            "warning": mark_document(judgement.mark),
             "one_liquid_layer": sheet.book.one_layer(judgement.one_layer, sheet.present()),
             "refusal": self._refusal(number) if number else None,
             "answer": None if number else self._answer(),
@@ -184,6 +185,10 @@ class Document:
             "trivial": bool(words[answer.TRIAL_TRIVIAL]),
             "stopped_at": self.numbers.by_name(floats_at(words, answer.TRIAL_FRACTIONS, len(self.sheet.book.names))),
         }
+
+
+def mark_document(mark: Optional[Mark]) -> Optional[Dict[str, Any]]:
+    return {"kind": mark.kind, "line": mark.line, "advice": list(mark.advice)} if mark else None
 
 
 def preview_document(tried: Tried, details: bool, own: bool = True) -> Dict[str, Any]:

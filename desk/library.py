@@ -5,9 +5,10 @@ import os
 from pathlib import Path
 from typing import Callable, List, Optional, Sequence, Tuple
 
-from . import answer, batch, queue
+from . import answer, batch, distance, queue
 from .blocks import BLOCK, rule_of, sealed, words_of
 from .core import ROOT
+from .distance import Distance
 from .errors import DeskError
 from .feed import Fractions
 from .pool import Drum, bytes_of
@@ -20,7 +21,12 @@ ANSWER_ROOM = 9 * BLOCK
 BOOK_MOST, QUESTION_MOST = 38 * BLOCK, BLOCK + 1
 WITHOUT_TASK = (*range(1, 13), 35, 37, 38)  # refusals that are found before the task is known
 _LENT = [ctypes.c_char_p, ctypes.c_size_t]
-_ARGUMENTS = {"zektonk_answer": _LENT * 3, "zektonk_queue": [*_LENT * 2, ctypes.c_uint64, *_LENT]}  # else four slices
+_WORDS = [ctypes.POINTER(ctypes.c_uint64), ctypes.c_size_t]
+_ARGUMENTS = {
+    "zektonk_answer": _LENT * 3,
+    "zektonk_queue": [*_LENT * 2, ctypes.c_uint64, *_LENT],
+    "zektonk_distance": [*_LENT * 2, *_WORDS],
+}  # of the calls that don't take four slices of bytes
 
 
 def folder() -> Path:
@@ -100,6 +106,15 @@ class Library:
     def begun(self, question: Question, number: int) -> Tuple[int, bool]:
         """How many evaluations a flash began that was refused with the number."""
         return queue.begun_by(self, question, number)
+
+    def ask_distance(self, question: Question) -> Distance:
+        """From a flash's pressure to the first step with another outcome, in one call."""
+        words = (ctypes.c_uint64 * distance.WORDS)()
+        lent = _lent(self.book, question.block(self.rule))
+        number = _loaded(self.path, "zektonk_distance")(*lent, words, distance.WORDS)
+        if number:
+            raise batch.CallRefused(number)
+        return distance.of_words(words)
 
     def _parts(self, name: str, count: int, *lent: object) -> List[answer.Blocks]:
         """What a call writes that has so many parts of the answer slice."""

@@ -4,10 +4,11 @@ that holds it (crates/previews/specs/Copy.antt, `PreviewAsCopy`), and that is wh
 
 from typing import TYPE_CHECKING, List, Sequence, Union
 
-from . import answer, batch, pool
+from . import answer, batch, distance, pool
 from .blocks import BLOCK, check_right, float_of, rule_of, sealed, words_of
 from .book import ALPHA_IJ, ALPHA_JI, B_JI, BOUNDS, FLAG, INFERRED, KIND_PAIR, TAU_IJ, AnyPair, Model
 from .book import model_of, pair_place, pair_words, solvent_count
+from .distance import Distance
 from .feed import Fractions
 from .pool import Drum
 from .question import Question
@@ -85,3 +86,7 @@ class Preview:
     def ask_feeds(self, question: Question, feeds: Sequence[Fractions]) -> List[answer.Blocks]:
         """One after another: the core has no call for both."""
         return batch.ask_plainly(self, question, feeds)
+
+    def ask_distance(self, question: Question) -> Distance:
+        """Step by step: the core has no call for both."""
+        return distance.ask_plainly(self, question)

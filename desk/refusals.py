@@ -45,7 +45,8 @@ REFUSALS: Dict[int, Refusal] = {
         "this can't come from ./sheet; look at what wrote the question, whose check goes by the book's version",
     ),
     12: Refusal(
-        "the task is not one of those that the core answers, or not one that takes many feeds",
+        "the task is not one of those that the core answers, not one that takes many feeds, or, of a distance, not the "
+        "flash",
         "ask one of the nine commands; many feeds go to excess, bubble-pressure, dew-pressure, stability and flash",
     ),
     13: Refusal("the temperature is not finite and positive", "give a temperature above 0 K"),

@@ -68,8 +68,12 @@ class Report:
         if question.k_values is not None:
             rows.append(("K", self._listed(question.k_values)))
         rows += [("Task", f"{task.number}, {task.function}")] if self.details else []
-        lines = [tryreport.title(f"{task.title.upper()}: {task.about}", sheet.tried)] + text.fields(rows)
+        lines = [tryreport.title(self.title(), sheet.tried)] + text.fields(rows)
         return lines + (charge.table(sheet.feed, sheet.book.names, self.details) if sheet.feed.charge else [])
+
+    def title(self) -> str:
+        task = self.sheet.question.task
+        return f"{task.title.upper()}: {task.about}"
 
     def _listed(self, values: Sequence[float], unit: str = "") -> str:
         written = text.exact if self.details else text.plain
@@ -175,18 +179,26 @@ class Report:
         return self._one_layer() + [""] + self._trials() + [""] + text.sentences(words)
 
     def flash(self) -> Lines:
-        blocks = self.sheet.blocks
-        outcome = blocks.head[answer.OUTCOME]
-        fraction = self.fraction(blocks.real(answer.VAPOR_FRACTION))
-        fraction += f" (moles of vapor per mole of {self.sheet.feed.called})"
-        phases = answer.OUTCOMES.get(outcome, str(outcome)) + (" (as one liquid)" if self.sheet.judgement.mark else "")
-        rows = [("phases", phases), ("vapor fraction", fraction)]
-        rows += [self._bound("bubble"), self._bound("dew")] + self._effort()
-        rows += [("balance", text.small(blocks.real(answer.BALANCE)))] if self.details else []
-        lines = text.fields(rows) + [""] + self._phases()
-        if outcome != answer.VAPOR_ONLY:
-            lines += [""] + self._one_layer() + (self._trials() if self.details and blocks.trials else [])
+        return text.fields(self.flash_rows()) + [""] + self._phases() + self.flash_remarks()
+
+    def flash_rows(self) -> List[Tuple[str, str]]:
+        rows = self._state() + [self._bound("bubble"), self._bound("dew")] + self._effort()
+        balance = text.small(self.sheet.blocks.real(answer.BALANCE))
+        return rows + ([("balance", balance)] if self.details else [])
+
+    def flash_remarks(self) -> Lines:
+        """Below its numbers: whether its liquid is one, and the core's notes."""
+        blocks, lines = self.sheet.blocks, []
+        if blocks.head[answer.OUTCOME] != answer.VAPOR_ONLY:
+            lines = [""] + self._one_layer() + (self._trials() if self.details and blocks.trials else [])
         return lines + self._notes()
+
+    def _state(self) -> List[Tuple[str, str]]:
+        """What a flash gives: phases and vapor fraction."""
+        sheet, outcome = self.sheet, self.sheet.blocks.head[answer.OUTCOME]
+        phases = answer.outcome_words(outcome) + (" (as one liquid)" if sheet.judgement.mark else "")
+        fraction = self.fraction(sheet.blocks.real(answer.VAPOR_FRACTION))
+        return [("phases", phases), ("vapor fraction", f"{fraction} (moles of vapor per mole of {sheet.feed.called})")]
 
     def _bound(self, which: str) -> Tuple[str, str]:
         """A pressure of a liquid that isn't stable is no bubble or dew pressure."""
@@ -205,7 +217,7 @@ class Report:
     def split(self) -> Lines:
         blocks = self.sheet.blocks
         outcome = blocks.head[answer.OUTCOME]
-        rows = [("phases", answer.OUTCOMES.get(outcome, str(outcome)))]
+        rows = [("phases", answer.outcome_words(outcome))]
         if not any(answer.phases(self.sheet.question.task, blocks)):
             return text.fields(rows)
         rows.append(("vapor fraction", self.fraction(blocks.real(answer.VAPOR_FRACTION))))

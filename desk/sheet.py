@@ -12,8 +12,8 @@ from .blocks import floats_at
 from .book import Model, model_of, model_word, molar_masses
 from .errors import DeskError
 from .feed import ByMass, Feed, Fractions, by_mass
-from .question import Question
-from .text import counted
+from .question import Options, Question
+from .text import counted, exact
 
 if TYPE_CHECKING:  # both need the names below
     from .judgement import Judgement
@@ -156,6 +156,16 @@ def feed_words(book: NamedBook, feed: Feed) -> str:
     if feed.kilograms:
         return f"--drum {drum_words(book, feed.kilograms, unit='kg')}"
     return f"{'--mass' if feed.by_mass else '--drum'} {drum_words(book, feed.fractions)}"
+
+
+def flash_command(book: NamedBook, feed: Feed, question: Question) -> str:
+    """A flash's own sheet, to paste."""
+    words = [f"./sheet flash {feed_words(book, feed)}"]
+    words += [f"--temperature {exact(question.temperature)}K", f"--pressure {exact(question.pressure)}Pa"]
+    for name in ("max_iterations", "tolerance", "tm_threshold"):
+        value, option = getattr(question.options, name), name.replace("tm_", "").replace("_", "-")
+        words += [f"--{option} {value}"] if value != getattr(Options, name) else []
+    return " ".join(words + book_options(book))
 
 
 def drum_words(book: NamedBook, fractions: Sequence[float], digits: int = 17, unit: str = "") -> str:

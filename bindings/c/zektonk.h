@@ -4,7 +4,8 @@
  * The core as a C program calls it: a book, a question and room for an answer in, the answer's blocks or a number out;
  * by a second call with drums besides, whose pool is the feed; by a third with up to 64 feeds, each answered by itself;
  * by a fourth with a pair's block that is tried in place of the book's own; by a fifth with up to 64 flash questions,
- * which are run in order as far as one allowance of work goes.
+ * which are run in order as far as one allowance of work goes; by a sixth, how far a flash's pressure can rise or fall
+ * until its outcome changes.
  * docs/FORMAT.md says what each word holds, docs/LINKING.md has the commands. Link with libzektonk.a, for x86-64 Linux.
  *
  * A block is 512 bytes: 64 little-endian words of 64 bits, a float as its bits. Word 63 is the check of words 0 to 62,
@@ -45,9 +46,14 @@ extern "C" {
 #define ZEKTONK_DRUMS_MOST 64    /* that pool into one charge */
 #define ZEKTONK_FEEDS_MOST 64    /* of one call */
 #define ZEKTONK_QUEUE_MOST 64    /* questions of one queue */
+#define ZEKTONK_DISTANCE_WORDS 4 /* that zektonk_distance gives */
+#define ZEKTONK_STEPS_MOST 1000  /* of a distance, each way */
 #define ZEKTONK_FORMAT_VERSION 1 /* word 1 of block 0 of a book without molar masses, */
 #define ZEKTONK_FORMAT_VERSION_MASS 2 /* of a book with them, which takes feeds by mass too, */
 #define ZEKTONK_FORMAT_VERSION_RUNNING 3 /* and of one whose checks are running sums besides */
+
+/* A distance's step, Pa. */
+#define ZEKTONK_STEP_PASCALS 100
 
 /* Micromoles that a pool may hold, 2^53: up to here every count is a float. */
 #define ZEKTONK_POOL_MOST 9007199254740992
@@ -187,6 +193,14 @@ enum zektonk_trial_word {
     ZEKTONK_TRIAL_WORD_FRACTIONS = 5 /* 8 words */
 };
 
+/* The words that zektonk_distance gives. */
+enum zektonk_distance_word {
+    ZEKTONK_DISTANCE_WORD_FOUND = 0,   /* 1; 0 where no step has another outcome, then the next two are 0 too */
+    ZEKTONK_DISTANCE_WORD_STEPS = 1,   /* s, in two's complement (zektonk_signed_of) */
+    ZEKTONK_DISTANCE_WORD_OUTCOME = 2, /* there, an enum zektonk_outcome */
+    ZEKTONK_DISTANCE_WORD_REFUSED = 3  /* steps before it that are refused, or of all */
+};
+
 /* Tasks, word 1 of a question and of its answer. */
 enum zektonk_task {
     ZEKTONK_EXCESS_AT = 1,
@@ -218,7 +232,7 @@ enum zektonk_validity { ZEKTONK_UNASSESSED = 0, ZEKTONK_WITHIN = 1, ZEKTONK_EXTR
  * after 12 and, of a feed by mass, 34 after 18; the others, and 15 to 18 and 34 once more, where the calculation puts
  * them. 31 and 32 are zektonk_pooled's alone, after 12 and ahead of 36; 33 is zektonk_feeds's alone, after 9 and ahead
  * of 10. There zektonk_preview puts 1, 2, 7, 8 and 9 to the offered block too. 39 is zektonk_queue's alone, in the place
- * of 33.
+ * of 33. zektonk_distance doesn't put 10.
  */
 enum zektonk_refusal {
     ZEKTONK_ANSWERED = 0,
@@ -233,7 +247,8 @@ enum zektonk_refusal {
     ZEKTONK_PAIR_ALPHAS = 9,              /* alpha_ij and alpha_ji differ; NRTL */
     ZEKTONK_ANSWER_SHORT = 10,            /* fewer than ZEKTONK_ANSWER_ROOM bytes, for each feed or queued question */
     ZEKTONK_QUESTION_BLOCK = 11,          /* not 512 bytes, its check by the book's version, or its kind */
-    ZEKTONK_TASK = 12,                    /* none of 1 to 9; of zektonk_feeds none of 1, 2, 3, 6 and 7 */
+    ZEKTONK_TASK = 12,                    /* none of 1 to 9; of zektonk_feeds none of 1, 2, 3, 6 and 7; of
+                                             zektonk_distance not 7 */
     ZEKTONK_TEMPERATURE = 13,             /* not finite and positive */
     ZEKTONK_PRESSURE = 14,                /* not finite and positive */
     ZEKTONK_NOT_FINITE = 15,              /* a fraction or a K value */
@@ -370,6 +385,37 @@ uint64_t zektonk_preview(const uint8_t *book, size_t book_len, const uint8_t *of
  */
 uint64_t zektonk_queue(const uint8_t *book, size_t book_len, const uint8_t *questions, size_t questions_len,
                        uint64_t allowance, uint8_t *answers, size_t answers_len);
+
+/*
+ * How far to the next phase change: from the pressure P of a flash question, task 7, steps of ZEKTONK_STEP_PASCALS are
+ * tried, P + 100 s pascals for s = 1, -1, 2, -2 and on to 1000, -1000, each one rounded addition. The first step whose
+ * flash is accepted with another outcome than at P is the answer.
+ *
+ * Gives 0 and the words of enum zektonk_distance_word at the front of `result`, those behind them as they were: 1, s,
+ * that outcome and the count of refused steps before it; or 0, 0, 0 and the count of all refused ones, where no step of
+ * the 2000 is such. Or gives a number, with every word as it was: the book's, 11, 12 where the task is another, then
+ * what refuses the flash at P. `result_len` counts words. A slice of fewer than ZEKTONK_DISTANCE_WORDS stays as it was,
+ * the number being the same: 10 isn't put.
+ *
+ * - The flash of a step is what zektonk_answer says to the question with that pressure in word 3 and its check right.
+ *   One that is refused, by whatever number, is passed over and counted: a pressure of 0 or below is 14 there, one
+ *   outside 100 to 500,000 Pa is 23.
+ * - An outcome that holds between two steps alone isn't seen. Close to an azeotrope liquid and vapor are both there for
+ *   less than 100 Pa, and the answer can be from all liquid to all vapor.
+ * - All that holds of zektonk_answer holds of this call. `result` is aligned as uint64_t is, and overlaps neither
+ *   `book` nor `question`. Tables, vapor pressures, bubble and dew point and the trials of the feed are worked out once:
+ *   a step with one phase costs next to nothing, another one a split.
+ */
+uint64_t zektonk_distance(const uint8_t *book, size_t book_len, const uint8_t *question, size_t question_len,
+                          uint64_t *result, size_t result_len);
+
+/* The whole number that a word holds in two's complement, as zektonk_distance gives s. */
+static inline int64_t zektonk_signed_of(uint64_t word)
+{
+    int64_t value;
+    memcpy(&value, &word, sizeof value);
+    return value;
+}
 
 /* Word `at` of a block, 0 to 63, copied: x86-64 has the lowest byte first, as blocks have. */
 static inline uint64_t zektonk_get_word(const uint8_t *block, size_t at)

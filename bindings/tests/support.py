@@ -10,6 +10,7 @@ import tempfile
 import unittest
 from pathlib import Path
 from typing import List, Tuple
+from unittest import mock
 
 from desk.cli import main
 
@@ -62,6 +63,13 @@ class InFolder(unittest.TestCase):
         temporary = tempfile.TemporaryDirectory(prefix="bindings-test-")
         self.addCleanup(temporary.cleanup)
         self.folder = Path(temporary.name)
+
+    def by_both(self, *arguments: str) -> Tuple[Tuple[int, str], Tuple[int, str]]:
+        """`./sheet` over the library, and over the program."""
+        with mock.patch.dict(os.environ, {"SOURCE_DATE_EPOCH": "1794821400"}):
+            found = sheet(*arguments)
+            with mock.patch.dict(os.environ, {"ZEKTONK_LIB": str(self.folder)}):
+                return found, sheet(*arguments)
 
     def run_in_folder(self, *command: object, **settings: object) -> subprocess.CompletedProcess:
         words = [str(word) for word in command]

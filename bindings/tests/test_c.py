@@ -103,6 +103,21 @@ class Examples(InFolder):
         run = self.run_in_folder("sh", "-c", f'"{program}" nowhere "{QUESTION}"; echo "status $?"')
         self.assertTrue(run.stdout.endswith(b"refused: 1\nstatus 1\n"))
 
+    def test_distance_says_how_far(self):
+        """The second is the stored question; the last is refused at P."""
+        program = self.compiled(C / "distance.c")
+        self.assert_stored("distance.txt", self.run_in_folder(program, BOOK, QUESTION).stdout.decode("ascii"))
+        lines = (C / "distance.txt").read_text(encoding="ascii").splitlines()
+        with desk.Core(BOOK.read_bytes()) as core:
+            for line, pascals in zip(lines, (5000.0, 90000.0)):
+                found = core.ask_distance(dataclasses.replace(NINE[7], pressure=pascals))
+                words = f"{desk.answer.OUTCOMES[found.outcome]} at {100 * found.steps:+d} Pa"
+                self.assertEqual(line, f"from {pascals:.0f} Pa: {words}, {found.refused} steps refused")
+        none = "from 400000 Pa: no change within 100000 Pa, 0 steps refused"
+        self.assertEqual(lines[3:], [none, "from 90 Pa: refused: 23"])
+        run = self.run_in_folder("sh", "-c", f'"{program}" nowhere "{QUESTION}"; echo "status $?"')
+        self.assertTrue(run.stdout.endswith(b"from 90 Pa: refused: 1\nstatus 0\n"))
+
     def test_header_alone(self):
         self.compiled(C / "ask.c")
         strict = ("-fsyntax-only", "-Wsign-conversion", *WARNINGS)

@@ -9,6 +9,7 @@ import desk.answer
 import desk.batch
 import desk.blocks
 import desk.book
+import desk.distance
 import desk.pool
 import desk.preview
 import desk.question
@@ -37,6 +38,7 @@ WILSON = short("zektonk_wilson_word", "ZEKTONK_WILSON_WORD_")
 QUESTION = short("zektonk_question_word", "ZEKTONK_QUESTION_WORD_")
 ANSWER = short("zektonk_answer_word", "ZEKTONK_ANSWER_WORD_")
 TRIAL = short("zektonk_trial_word", "ZEKTONK_TRIAL_WORD_")
+DISTANCE = short("zektonk_distance_word", "ZEKTONK_DISTANCE_WORD_")
 FEED = short("zektonk_feed", "ZEKTONK_FEED_")
 TASK = short("zektonk_task", "ZEKTONK_")
 REFUSAL = short("zektonk_refusal", "ZEKTONK_")
@@ -261,6 +263,27 @@ class Definitions(unittest.TestCase):
         self.assertEqual(body("put_off_words"), f"{KIND['ANSWER']} ∷ {flash} ∷ 0 ∷ put_off ∷ replicate 60 0")
         self.assertEqual(desk.queue.put_off(desk.blocks.Rule.PLAIN).head[:4], [KIND["ANSWER"], flash, 0, put_off])
 
+    def test_distance(self):
+        """Steps of 100 Pa up and down in turn; 12 for all tasks but the flash; the four words of the result."""
+        names = ("STEP_PASCALS", "STEPS_MOST", "DISTANCE_WORDS")
+        pascals, most, words = (macros()[f"ZEKTONK_{name}"] for name in names)
+        self.assertEqual(body("step_count"), str(2 * int(most)))
+        self.assertEqual(body("hundreds"), f"of_int binary64 (pos ({pascals} * m))")
+        up, size = "eqb (j % 2) 0", "(hundreds (step_size j))"
+        self.assertEqual(body("step_size"), "j / 2 + 1")
+        self.assertEqual(body("pressure_at"), f"P ⊕ cond ({up}) {size} (neg {size})")
+        self.assertEqual(body("step_word"), f"cond ({up}) (step_size j) (2 ^ 64 - step_size j)")
+        self.assertIn(f"need (eqb task {TASK['TP_FLASH']}) {REFUSAL['TASK']} (question_to ", body("flash_question"))
+        order = sorted(DISTANCE, key=DISTANCE.get)
+        self.assertEqual(order, ["FOUND", "STEPS", "OUTCOME", "REFUSED"])
+        self.assertEqual((list(DISTANCE.values()), int(words)), (list(range(4)), len(DISTANCE)))
+        found, none = "1 ∷ s ∷ o ∷ refused ∷ []", "0 ∷ 0 ∷ 0 ∷ refused ∷ []"
+        four = f"four_words (Step s o refused) = {found} four_words (None refused) = {none}"
+        self.assertIn(four, stated("distance::four_words"))
+        written = "(ok d) old = four_in (four_words d) old distance_written (no r) old = old"
+        self.assertIn(written, stated("distance_written"))
+        self.assertEqual(body("four_in"), f"cond (leb {words} (length old)) (ws ++ drop {words} old) old")
+
     def test_offered(self):
         """Behind the book: 1, 2, 7, 8 and 9 of one block, a pair of any i < j below n; then as on the copy."""
         numbers = [REFUSAL[name] for name in ("BOOK_LENGTH", "BOOK_CHECK", "PAIR_BLOCK", "PAIR_NUMBER", "PAIR_ALPHAS")]
@@ -366,6 +389,8 @@ class Page(unittest.TestCase):
             words = [word for name in names for word in span(page()[name])]
             self.assertEqual(words, list(range(1, last + 1)), block)
         self.assertEqual(list(WILSON.values()), list(range(PAIR["TAU_IJ"], PAIR["TAU_JI"])))
+        words = [word for name in page() if name.startswith("ZEKTONK_DISTANCE_WORD_") for word in span(page()[name])]
+        self.assertEqual(words, list(range(int(macros()["ZEKTONK_DISTANCE_WORDS"]))))
 
 
 class Desk(unittest.TestCase):
@@ -446,6 +471,13 @@ class Desk(unittest.TestCase):
         names = ("NOT_FINITE", "FRACTION_SUM", "NOT_NORMALIZABLE", "ALPHA_NOT_POSITIVE")
         numbers = desk.queue.NOT_FINITE, desk.queue.SUM, desk.queue.NORMALIZED, desk.queue.ALPHA
         self.assertEqual(numbers, tuple(REFUSAL[name] for name in names))
+
+    def test_distance(self):
+        there = desk.distance
+        self.assertEqual([there.FOUND, there.STEPS, there.CHANGED, there.REFUSED], list(DISTANCE.values()))
+        found = [int(macros()[f"ZEKTONK_{name}"]) for name in ("DISTANCE_WORDS", "STEP_PASCALS", "STEPS_MOST")]
+        self.assertEqual([there.WORDS, there.STEP, there.MOST_STEPS], found)
+        self.assertEqual((there.ORDER[:4], there.ORDER[-2:], len(there.ORDER)), ((1, -1, 2, -2), (1000, -1000), 2000))
 
     def test_tasks_and_refusals(self):
         functions = {task.function.replace("activity_", "").upper(): task.number for task in desk.tasks.TASKS}

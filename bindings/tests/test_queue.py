@@ -2,7 +2,6 @@
 asks. The same blocks, to a bit, as far as the program says what a question took."""
 
 import ctypes
-import os
 import random
 import unittest
 from dataclasses import replace
@@ -14,7 +13,7 @@ from desk.blocks import Rule, rule_of, sealed, split
 from desk.openbook import open_book
 from desk.queue import MOST_QUESTIONS, asks_for, bytes_of, most_evaluations, run
 from nine import NINE, SAMPLE_BOOK, WRONG_BOOKS
-from support import ANSWER_ROOM, LIBRARY, ROOT, InFolder, sheet
+from support import ANSWER_ROOM, LIBRARY, ROOT, InFolder
 
 YARD, ALCOHOLS = (open_book(str(ROOT / "yard" / name)) for name in ("yard.txt", "alcohols.txt"))
 COUNT = 40
@@ -213,12 +212,6 @@ class Bytes(unittest.TestCase):
 class Sheets(InFolder):
     """`./sheet queue` over the library, which takes 64 at a time, and over the program: the same sheet where that says
     what each took."""
-
-    def by_both(self, *arguments: str):
-        with mock.patch.dict(os.environ, {"SOURCE_DATE_EPOCH": "1794821400"}):
-            found = sheet(*arguments)
-            with mock.patch.dict(os.environ, {"ZEKTONK_LIB": str(self.folder)}):
-                return found, sheet(*arguments)
 
     def test_one_sheet(self):
         source, lines = random.Random(2), ["label,water,ethanol,acetone,temperature (C)"]

@@ -1,5 +1,6 @@
 //! How often the generator's sheets are accepted, and refused by each number.
 
+mod distances;
 mod drums;
 mod feeds;
 mod flashes;
@@ -10,6 +11,7 @@ mod queues;
 
 use std::collections::BTreeMap;
 
+use distances::Distances;
 use drums::Drums;
 use feeds::Feeds;
 use flashes::Flashes;
@@ -292,6 +294,7 @@ pub struct Counts {
     pairs: Pairs,
     queues: Queues,
     raised: Raised,
+    distances: Distances,
     pub flashes: Flashes,
 }
 
@@ -307,6 +310,7 @@ impl Counts {
         self.feeds.add(case, found);
         self.pairs.add(case, found.refusal);
         self.queues.add(case, found);
+        self.distances.add(case, found);
         self.flashes.add(case, found);
     }
 
@@ -318,6 +322,7 @@ impl Counts {
             Stage::Preview => self.pairs.print(),
             Stage::Queue => self.queues.print(),
             Stage::Limits => self.raised.print(),
+            Stage::Distance => self.distances.print(),
             _ => {}
         }
         self.flashes.print();

@@ -5,6 +5,7 @@ pub mod batches;
 pub mod books;
 pub mod cases;
 pub mod differences;
+pub mod distances;
 pub mod exchanged;
 pub mod feeds;
 pub mod limits;

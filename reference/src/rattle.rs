@@ -108,6 +108,15 @@ extern "C" {
         answers: *mut u8,
         answers_len: usize,
     ) -> u64;
+    /// From a flash's pressure to the next phase change; the last length counts words.
+    pub fn zektonk_distance(
+        book: *const u8,
+        book_len: usize,
+        question: *const u8,
+        question_len: usize,
+        result: *mut u64,
+        result_len: usize,
+    ) -> u64;
 }
 
 /// `Some` of the call where its stage is built in.
@@ -252,6 +261,21 @@ pub fn queue(book: &[u8], questions: &[u8], allowance: u64, answers: &mut [u8]) 
             allowance,
             answers.as_mut_ptr(),
             answers.len()
+        )
+    )
+}
+
+/// The words of what was found in `result`.
+pub fn distance(book: &[u8], question: &[u8], result: &mut [u64]) -> Option<u64> {
+    offered!(
+        "distance",
+        zektonk_distance(
+            book.as_ptr(),
+            book.len(),
+            question.as_ptr(),
+            question.len(),
+            result.as_mut_ptr(),
+            result.len()
         )
     )
 }

@@ -3,6 +3,7 @@
 pub mod anew;
 pub mod blocks;
 pub mod book;
+pub mod distance;
 pub mod feeds;
 pub mod pool;
 pub mod preview;

@@ -11,6 +11,7 @@ use crate::named::rachford_rice::{rachford_rice, rachford_rice_negative, Rachfor
 use crate::rattle;
 use crate::sheet::blocks::Rule;
 use crate::sheet::book::{Pairs, Solvent};
+use crate::sheet::distance::{self, Search, Way, RESULT_WORDS};
 use crate::sheet::reply::TRIALS;
 use crate::sheet::{self, open_book, Book, ANSWER_BYTES};
 use crate::types::Temperature;
@@ -41,9 +42,11 @@ pub enum Stage {
     Queue,
     /// Calls with a limit raised.
     Limits,
+    /// Distances to the next phase change.
+    Distance,
 }
 
-pub const STAGES: [Stage; 15] = [
+pub const STAGES: [Stage; 16] = [
     Stage::Numbers,
     Stage::Fractions,
     Stage::Book,
@@ -59,6 +62,7 @@ pub const STAGES: [Stage; 15] = [
     Stage::Preview,
     Stage::Queue,
     Stage::Limits,
+    Stage::Distance,
 ];
 
 impl Stage {
@@ -79,6 +83,7 @@ impl Stage {
             Stage::Preview => "preview",
             Stage::Queue => "queue",
             Stage::Limits => "limits",
+            Stage::Distance => "distance",
         }
     }
 
@@ -107,6 +112,7 @@ impl Stage {
             Stage::Preview => cfg!(feature = "preview"),
             Stage::Queue => cfg!(feature = "queue"),
             Stage::Limits => cfg!(feature = "limits"),
+            Stage::Distance => cfg!(feature = "distance"),
         }
     }
 
@@ -183,6 +189,13 @@ pub enum Case {
         asked: Box<Case>,
         limits: Limits,
     },
+    /// A flash, room for so many words of the result, and how the reference asks its steps.
+    Distance {
+        book: Vec<u8>,
+        question: Vec<u8>,
+        room: usize,
+        way: Way,
+    },
 }
 
 /// One side's result: the refusal number (0 for an answer) and all words that were returned or written.
@@ -192,6 +205,8 @@ pub struct Found {
     pub words: Vec<u64>,
     /// Activity evaluations that the reference began, of a sheet.
     pub begun: u64,
+    /// What the steps of a distance came to, where the flash at P is accepted.
+    pub search: Option<Search>,
 }
 
 /// What stands in an output before the call.
@@ -222,13 +237,25 @@ impl Case {
                 Found { begun, ..refused_or(number, bytes_as_words(&answer)) }
             }
             Case::Raised { asked, limits } => limits::both(asked, *limits),
+            Case::Distance { book, question, room, way } => {
+                let mut words = bytes_as_words(&unwritten(8 * room));
+                match distance::search(book, question, *way) {
+                    Ok(search) => {
+                        search.write(&mut words);
+                        Found { search: Some(search), ..refused_or(0, words) }
+                    }
+                    Err(number) => refused_or(number, words),
+                }
+            }
         }
     }
 
     /// Book and question, where the case is a sheet.
     pub fn sheet(&self) -> Option<(&[u8], &[u8])> {
         match self {
-            Case::Sheet { book, question, .. } | Case::With { book, question, .. } => Some((book, question)),
+            Case::Sheet { book, question, .. }
+            | Case::With { book, question, .. }
+            | Case::Distance { book, question, .. } => Some((book, question)),
             Case::Raised { asked, .. } => asked.sheet(),
             _ => None,
         }
@@ -307,6 +334,13 @@ impl Case {
                 words.extend(asked.with_limits(*limits).offered()?);
                 Some(words)
             }
+            Case::Distance { book, question, room, .. } => {
+                let (own, asked, mut words) = (book.clone(), question.clone(), bytes_as_words(&unwritten(8 * room)));
+                let number = rattle::distance(&own, &asked, &mut words)?;
+                // A word too many: book or question was written.
+                words.extend((black_box((&own, &asked)) != (book, question)).then_some(0));
+                Some(with_number(number, words))
+            }
         }
     }
 
@@ -334,7 +368,7 @@ impl Case {
                 hex(&mut line, &raw(z));
                 hex(&mut line, &raw(k));
             }
-            Case::Sheet { book, question, room, .. } => {
+            Case::Sheet { book, question, room, .. } | Case::Distance { book, question, room, .. } => {
                 hex_bytes(&mut line, book);
                 hex_bytes(&mut line, question);
                 hex(&mut line, &[*room as u64]);
@@ -360,6 +394,7 @@ impl Case {
             Case::Sheet { .. } if words[0] == 0 => 1 + written_words(&words[1..]),
             Case::Normalize { .. } | Case::Pressure { .. } | Case::Excess { .. } if words[0] == 0 => words.len(),
             Case::Rice { .. } if words[0] == 3 => words.len(),
+            Case::Distance { room, .. } if words[0] == 0 && *room >= RESULT_WORDS => 1 + RESULT_WORDS,
             Case::Number { .. } | Case::Fractions { .. } | Case::Book { .. } => words.len(),
             _ => 1,
         };
@@ -390,6 +425,7 @@ impl Case {
             Case::Sheet { .. } => "answer",
             Case::With { with, .. } => with.name(),
             Case::Raised { asked, .. } => asked.name(),
+            Case::Distance { .. } => "distance",
         }
     }
 }

@@ -6,6 +6,7 @@ use crate::generate::Rng;
 use crate::sheet::anew::word;
 use crate::sheet::blocks::{rule_of, words_of, Words, BLOCK};
 use crate::sheet::book::due_pairs;
+use crate::sheet::distance::{self, Way, RESULT_WORDS};
 use crate::sheet::feeds::{bytes_of_feeds, FEED};
 use crate::sheet::question::{BASIS, BY_MASS, FRACTIONS, K_VALUES};
 use crate::sheet::queue::{most_of, Due};
@@ -202,7 +203,7 @@ pub fn difference(long: &[Words], short: &[Words], kept: &[usize]) -> Option<(us
 /// What a sheet with an absent solvent showed.
 #[derive(Debug, Clone, Copy, PartialEq, Eq)]
 pub enum Shown {
-    /// Refused, so that nothing is demanded.
+    /// Refused, or of a distance one of its steps for another reason than its pressure, so that nothing is demanded.
     Refused(u64),
     Equal,
     /// The shorter sheet is refused, or a word differs: block and place.
@@ -223,5 +224,45 @@ pub fn shown(rng: &mut Rng, call: Call, long: &Sheet) -> Shown {
     match short.blocks(rng, call, other) {
         Ok(blocks) => difference(&answer, &blocks, &kept).map_or(Shown::Equal, |(block, at)| Shown::Word(block, at)),
         Err(number) => Shown::Shorter(number),
+    }
+}
+
+/// The four words of a distance, or the number.
+type Far = Result<[u64; RESULT_WORDS], u64>;
+
+fn far(number: u64, words: [u64; RESULT_WORDS]) -> Far {
+    if number == 0 {
+        Ok(words)
+    } else {
+        Err(number)
+    }
+}
+
+fn core_distance(sheet: &Sheet) -> Far {
+    let mut words = [0; RESULT_WORDS];
+    let number = crate::rattle::distance(&sheet.book, &sheet.question, &mut words).expect("built with the distance");
+    far(number, words)
+}
+
+/// Whether the core finds another distance than the reference.
+pub fn distance_differs(sheet: &Sheet) -> bool {
+    let mut words = [0; RESULT_WORDS];
+    let number = distance::answer(&sheet.book, &sheet.question, Way::Sides, &mut words);
+    core_distance(sheet) != far(number.into(), words)
+}
+
+/// Both distances of the core: the same where every refused step leaves the pressures (14, 23).
+pub fn distance_shown(rng: &mut Rng, long: &Sheet) -> Shown {
+    let inside = match distance::search(&long.book, &long.question, Way::Sides) {
+        Ok(found) => found.refused.into_iter().find(|number| ![14, 23].contains(number)),
+        Err(number) => Some(number),
+    };
+    if let Some(number) = inside {
+        return Shown::Refused(number.into());
+    }
+    let short = long.shorter(rng, &long.kept());
+    match (core_distance(long), core_distance(&short)) {
+        (Ok(a), Ok(b)) => (0..RESULT_WORDS).find(|at| a[*at] != b[*at]).map_or(Shown::Equal, |at| Shown::Word(0, at)),
+        (_, Err(number)) | (Err(number), _) => Shown::Shorter(number),
     }
 }

@@ -1,6 +1,6 @@
-//! The five calls of the core.
+//! The six calls of the core.
 
-use crate::Refusal;
+use crate::{Distance, Refusal, DISTANCE_WORDS};
 
 extern "C" {
     fn zektonk_answer(
@@ -53,6 +53,15 @@ extern "C" {
         allowance: u64,
         answers: *mut u8,
         answers_len: usize,
+    ) -> u64;
+
+    fn zektonk_distance(
+        book: *const u8,
+        book_len: usize,
+        question: *const u8,
+        question_len: usize,
+        result: *mut u64,
+        result_len: usize,
     ) -> u64;
 }
 
@@ -301,6 +310,38 @@ pub fn queue_bytes(book: &[u8], questions: &[u8], allowance: u64, answers: &mut 
         )
     };
     ended(number)
+}
+
+/// The [`Distance`] from the pressure of a flash question, task 7, to the first step of 100 Pa with another outcome, by
+/// value. What is said of [`answer_bytes`] holds of this call too, but for number 10, which isn't put.
+///
+/// # Errors
+///
+/// The core's number, as a [`Refusal`]: the book's, 11, 12 where the task is another, then what refuses the flash at its
+/// own pressure.
+///
+/// # Panics
+///
+/// Where the core gives a number that is no refusal, which it is proved not to.
+///
+/// ```
+/// use zektonk::{distance_bytes, Distance, Refusal};
+///
+/// let book = include_bytes!("../../../crates/still/data/book.bin");
+/// let question = include_bytes!("../../../crates/still/stdin");
+/// assert_eq!(distance_bytes(book, question)?, Distance::Step { steps: 64, outcome: 1, refused: 0 });
+/// assert_eq!(distance_bytes(book, &question[1..]), Err(Refusal::QuestionBlock));
+/// # Ok::<(), Refusal>(())
+/// ```
+pub fn distance_bytes(book: &[u8], question: &[u8]) -> Result<Distance, Refusal> {
+    let mut words = [0; DISTANCE_WORDS];
+    // SAFETY: as above.
+    #[allow(unsafe_code)]
+    let number = unsafe {
+        zektonk_distance(book.as_ptr(), book.len(), question.as_ptr(), question.len(), words.as_mut_ptr(), words.len())
+    };
+    ended(number)?;
+    Ok(words.into())
 }
 
 fn ended(number: u64) -> Result<(), Refusal> {

@@ -171,6 +171,16 @@ named! {
 }
 
 named! {
+    /// Words of a [`Distance`](crate::Distance).
+    distance: usize {
+        FOUND = 0 "1, or 0 where no step has another outcome"
+        STEPS = 1 "s, in two's complement"
+        OUTCOME = 2 "Which phases there are at the step"
+        REFUSED = 3 "Steps before it that are refused, or of all"
+    }
+}
+
+named! {
     /// Kinds of blocks.
     kind: u64 {
         BOOK = 1 "Block 0 of a book"

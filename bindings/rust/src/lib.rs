@@ -24,7 +24,8 @@
 //! Drums that are tipped into one charge are [`Drum`]s, counts of micromoles: [`pooled`] puts a task to their pool. Up to
 //! 64 feeds at one temperature go into one call by [`feeds`], and each has its own answer or refusal. A pair is tried
 //! before it is entered by [`preview`]: an [`Offered`] one stands in for the book's own, and the book stays as it is. A
-//! shift's flash questions go by [`queue`] under one allowance of work; what doesn't fit is put off.
+//! shift's flash questions go by [`queue`] under one allowance of work; what doesn't fit is put off. How far a flash's
+//! pressure can rise or fall until its outcome changes is said by [`distance`].
 //!
 //! This side tests that feed and K values have an entry for each solvent of the book, and nothing else: what a question
 //! says goes to the core as it is, and the core answers it or refuses with one of its numbers. What a changed rounding
@@ -36,6 +37,7 @@ mod answer;
 mod block;
 mod book;
 mod call;
+mod distance;
 mod drum;
 mod feeds;
 pub mod format;
@@ -53,7 +55,8 @@ pub use block::{Block, Rule, Words, BLOCK};
 pub use book::{
     Book, Builder, Correlation, Incomplete, Interval, Model, Pair, Solvent, Term, WilsonPair, BOOK_LARGEST, BOOK_MOST,
 };
-pub use call::{answer_bytes, feeds_bytes, pooled_bytes, preview_bytes, queue_bytes};
+pub use call::{answer_bytes, distance_bytes, feeds_bytes, pooled_bytes, preview_bytes, queue_bytes};
+pub use distance::{distance, Distance, DISTANCE_WORDS, STEPS_MOST, STEP_PASCALS};
 pub use drum::{pooled, Drum, DRUMS_MOST, DRUM_BYTES, POOL_MOST};
 pub use feeds::{feeds, FEEDS_MOST, FEED_BYTES};
 pub use preview::{preview, Offered};

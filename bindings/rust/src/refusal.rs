@@ -90,7 +90,7 @@ refusals! {
     9 PairAlphas "the two alphas of a pair differ"
     10 AnswerShort "the answer slice is shorter than 4,608 bytes, or than that for each feed or queued question"
     11 QuestionBlock "the question is not 512 bytes, or its check or kind is wrong"
-    12 Task "the task is none of 1 to 9, or with many feeds none of 1, 2, 3, 6 and 7"
+    12 Task "the task is none of 1 to 9, with many feeds none of 1, 2, 3, 6 and 7, or of a distance not 7"
     13 Temperature "the temperature is not finite and positive"
     14 Pressure "the pressure is not finite and positive"
     15 NotFinite "a fraction or a K value is not finite"

@@ -3,8 +3,8 @@
 
 use zektonk::format;
 use zektonk::{
-    Options, Refusal, ANSWER_ROOM, BLOCK, BOOK_LARGEST, BOOK_MOST, DRUMS_MOST, DRUM_BYTES, FEEDS_MOST, FEED_BYTES,
-    POOL_MOST, QUEUE_MOST, VERSION,
+    Options, Refusal, ANSWER_ROOM, BLOCK, BOOK_LARGEST, BOOK_MOST, DISTANCE_WORDS, DRUMS_MOST, DRUM_BYTES, FEEDS_MOST,
+    FEED_BYTES, POOL_MOST, QUEUE_MOST, STEPS_MOST, STEP_PASCALS, VERSION,
 };
 
 const HEADER: &str = include_str!("../../c/zektonk.h");
@@ -57,6 +57,7 @@ fn words() {
     same("zektonk_question_word", "ZEKTONK_QUESTION_WORD_", format::question::ALL);
     same("zektonk_answer_word", "ZEKTONK_ANSWER_WORD_", format::answer::ALL);
     same("zektonk_trial_word", "ZEKTONK_TRIAL_WORD_", format::trial::ALL);
+    same("zektonk_distance_word", "ZEKTONK_DISTANCE_WORD_", format::distance::ALL);
 }
 
 #[test]
@@ -72,7 +73,7 @@ fn numbers() {
 
 #[test]
 fn every_enumeration_is_held() {
-    assert_eq!(HEADER.matches("\nenum zektonk_").count(), 16);
+    assert_eq!(HEADER.matches("\nenum zektonk_").count(), 17);
 }
 
 /// What a macro stands for.
@@ -99,9 +100,12 @@ fn sizes_and_version() {
         ("FEED_BYTES", FEED_BYTES),
         ("FEEDS_MOST", FEEDS_MOST),
         ("QUEUE_MOST", QUEUE_MOST),
+        ("DISTANCE_WORDS", DISTANCE_WORDS),
     ] {
         assert_eq!(defined(name), value.to_string(), "{name}");
     }
+    assert_eq!(defined("STEPS_MOST"), STEPS_MOST.to_string());
+    assert_eq!(defined("STEP_PASCALS"), STEP_PASCALS.to_string());
     assert_eq!(defined("POOL_MOST"), POOL_MOST.to_string());
     assert_eq!(defined("FORMAT_VERSION"), format::VERSION.to_string());
     assert_eq!(defined("FORMAT_VERSION_MASS"), format::VERSION_MASS.to_string());

@@ -1,4 +1,5 @@
 // The core's functions on the words of a stored line.
+use distance::Distance;
 use outcome::{Refusal, number_in};
 use rachford_rice::{RachfordRice, RachfordRiceOutcome};
 use replies::ANSWER_ROOM;
@@ -194,6 +195,35 @@ fn answer_with<F: Fn(&[u8], &[u8], &[u8], &mut [u8]) -> (Result<(), Refusal>, us
     Some(())
 }
 
+fn give_distance(stored: &mut Stored, found: Distance) {
+    let words = match found {
+        Distance::Step(s, outcome, refused) => [1, s, outcome, refused],
+        Distance::None(refused) => [0, 0, 0, refused],
+    };
+    for word in words.iter() {
+        stored.give(*word);
+    }
+}
+
+// A book, a question and how many words are lent: the number and, where four are, those of what was found.
+fn next_change(stored: &mut Stored) -> Option<()> {
+    let mut book = [0; 24576];
+    let mut question = [0; 4096];
+    let book = stored.take_bytes(&mut book)?;
+    let question = stored.take_bytes(&mut question)?;
+    let lent = stored.take_count()?;
+    match distance::answer(book, question) {
+        Err(refusal) => stored.give(u64::from(refusal)),
+        Ok(found) => {
+            stored.give(0);
+            if lent >= 4 {
+                give_distance(stored, found);
+            }
+        }
+    }
+    Some(())
+}
+
 // Takes the inputs of the function with that name, and gives its results; none where there is no such function, there are too
 // few inputs or too long a slice.
 // Kept: the names stand here and in the order of the report: an enum of the functions would name each a third time, and a table
@@ -243,6 +273,7 @@ pub(crate) fn call(name: &str, stored: &mut Stored) -> Option<()> {
             ),
             stored,
         )?,
+        "distance" => next_change(stored)?,
         _ => return None,
     }
     Some(())

@@ -10,7 +10,7 @@ mod calls;
 mod text;
 
 // The stored files.
-const FILES: [&str; 11] = [
+const FILES: [&str; 12] = [
     "numbers.txt",
     "fractions.txt",
     "book.txt",
@@ -22,13 +22,14 @@ const FILES: [&str; 11] = [
     "feeds.txt",
     "preview.txt",
     "queue.txt",
+    "distance.txt",
 ];
 
 // More than any of them has.
 const FILE_BYTES: usize = 524288;
 
 // The functions, in the order of the report.
-const NAMES: [&str; 19] = [
+const NAMES: [&str; 20] = [
     "exp",
     "ln",
     "powf",
@@ -48,6 +49,7 @@ const NAMES: [&str; 19] = [
     "feeds",
     "preview",
     "queue",
+    "distance",
 ];
 
 // Of a function: how many lines were replayed, and how many of them differ.
@@ -60,7 +62,7 @@ struct Function {
 
 #[derive(Clone, Copy)]
 struct Tally {
-    functions: [Function; 19],
+    functions: [Function; 20],
     unread: u64,
 }
 
@@ -80,7 +82,7 @@ impl Tally {
 }
 
 // The place of the function that a line calls, and whether its results differ; none where it could not be read.
-fn replay(line: &str, functions: &[Function; 19]) -> Option<(usize, bool)> {
+fn replay(line: &str, functions: &[Function; 20]) -> Option<(usize, bool)> {
     let (call, results) = line.split_once(" = ")?;
     let (name, inputs) = call.split_once(' ')?;
     let k = functions.iter().position(|f| f.name == name)?;

@@ -321,7 +321,7 @@ pub fn stability_block(stable: bool, count: usize) -> AnswerBlock
 }
 
 // 1 liquid, 2 vapor, 3 both.
-fn phase_number(phases: FlashPhases) -> u64
+pub fn phase_number(phases: FlashPhases) -> u64
     ensures { result ≡ phase_number phases }
 {
     phases as u64

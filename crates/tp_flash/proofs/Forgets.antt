@@ -12,8 +12,8 @@ use Rattle.thermo_models.specs.Model.{Activity, Activities, Liquids}
 use Rattle.saturation.proofs.Forgets.{dew-outcome}
 use Rattle.liquid_stability.proofs.Forgets.{stability_outcome}
 use Rattle.tp_flash.specs.Split.{Split, split_turn, split_from}
-use Rattle.tp_flash.specs.Tp.{stable_liquid, dew_of, as_liquid, as_both, boundary_of, from_split, split_feed, between_of, from_dew, phases_of, tp_flash}
-use Rattle.tp_flash.specs.Counted.{split_turn_counted, split_counted, stable_counted, dew_of_counted, liquid_counted, both_counted, boundary_counted, from_split_counted, split_feed_counted, between_counted, from_dew_counted, phases_counted, flash_counted}
+use Rattle.tp_flash.specs.Tp.{stable_liquid, dew_of, as_liquid, as_both, boundary_of, from_split, split_feed, between_of, from_dew, phases_of, saturated_of, tp_flash}
+use Rattle.tp_flash.specs.Counted.{split_turn_counted, split_counted, stable_counted, dew_of_counted, liquid_counted, both_counted, boundary_counted, from_split_counted, split_feed_counted, between_counted, from_dew_counted, phases_counted, saturated_counted, flash_counted}
 
 module _ (E : List Float → Out Activity) (ps : List Float) (n : ℕ) (p : Float) (z : List Float) where
   turn-outcome : (lg : List Float) (iteration : ℕ) → (split_turn_counted E ps n p z lg iteration).outcome ≡ split_turn E ps n p z lg iteration
@@ -54,9 +54,13 @@ module _ (E : List Float → Out Activity) (n : ℕ) (o : ActivityOptions) (z : 
   feed-outcome bubble dew =
       forget_bind _ _ _ refl (λ a. forget_bind _ _ _ (split-outcome E ps n p z o.tolerance o.max_iterations 0 a.ln_gamma) (λ s. from_outcome E n o z bubble dew s))
 
-  between-outcome : (bubble dew : Float) → (between_counted E n o z p ps bubble dew).outcome ≡ between_of E n o z p ps bubble dew
+  pub between-outcome : (bubble dew : Float) → (between_counted E n o z p ps bubble dew).outcome ≡ between_of E n o z p ps bubble dew
   unfolding between_counted between_of uncounted
   between-outcome bubble dew = forget_choose _ _ _ (liquid-outcome E n o z bubble dew _) (forget_choose _ _ _ refl (feed-outcome bubble dew))
+
+  pub saturated-outcome : (saturated_counted E n o z ps).outcome ≡ saturated_of E n o z ps
+  unfolding saturated_counted saturated_of evaluated uncounted
+  saturated-outcome = forget_bind _ _ _ refl (λ b. forget_bind _ _ _ (pressure-outcome E n o z ps b.pressure) (λ dew. refl))
 
   pub phases-outcome : (phases_counted E n o z p ps).outcome ≡ phases_of E n o z p ps
   unfolding phases_counted phases_of from_dew_counted from_dew evaluated

@@ -1,11 +1,13 @@
 -- Turns of the loops, and the ways out of a split and of a flash. Assumes nothing.
 use Prim.Native.Nat.{ℕ, suc, ◌+◌, ◌-◌, ◌<◌, ◌≤◌}
-use mathlib.Core.Path.{◌≡◌, refl, ◌∙◌, ap}
+use mathlib.Core.Path.{◌≡◌, refl, sym, ◌∙◌, ap}
 use mathlib.Core.Bool.{true, false, cond}
 use mathlib.Core.List.{List}
 use native.Mathlib.Numerals.{add-one}
 use native.Mathlib.Omega.{arith}
 use lib.Ieee.{Float, nan, lt, le}
+use Rattle.std.specs.Prelude.{Result, Ok, Err}
+use Rattle.std.specs.Result.{IsErrAnd}
 use Rattle.floats.specs.Arithmetic.{◌⊕◌, ◌⊖◌, 0f, 1f}
 use Rattle.floats.specs.Small.{max_of, abs_of}
 use Rattle.floats.specs.Fold.{fold_to, active}
@@ -13,16 +15,21 @@ use Rattle.floats.specs.Vector.{at, vec, zeros8, places}
 use Rattle.floats.specs.Outcome.{Out, ok, no, bind}
 use Rattle.floats.proofs.Folds.{fold_cong}
 use Rattle.floats.proofs.Fills.{fill-at, vec-at, fill_cong}
-use Rattle.counted.specs.Counted.{Counted, uncounted, evaluated, bind_counted, Counts}
+use Rattle.counted.specs.Counted.{Counted, uncounted, evaluated, begun_before, go_on, bind_counted, Counts}
 use Rattle.counted.proofs.Laws.{counts_none, counts_next, counts_stop, counts_first, counts_second, counts_pure, counts-pure-stop, of_ok, of-no}
+use Rattle.outcome.specs.declared.Refusal.{Refusal}
 use Rattle.numerics.specs.Numerics.{exp_of, ln_of}
 use Rattle.thermo_types.specs.Composition.{normalize_of}
 use Rattle.thermo_types.proofs.Normalizing.{normalize_cong}
+use Rattle.thermo_types.specs.declared.ActivityOptions.{ActivityOptions}
 use Rattle.thermo_models.specs.Model.{Activity}
 use Rattle.rachford_rice.specs.Rachford.{negative, two_phase}
 use Rattle.rachford_rice.specs.declared.RachfordRice.{RachfordRice}
 use Rattle.tp_flash.specs.Split.{Split, Turn, k_values, phase_of, split_gap, rice_limit, fraction_in, turn_at}
-use Rattle.tp_flash.specs.Counted.{split_turn_counted, split_counted}
+use Rattle.saturation.specs.Saturation.{bubble_at}
+use Rattle.tp_flash.specs.Tp.{Flash, dew_of, saturated_of, between_of, from_dew, phases_of}
+use Rattle.tp_flash.specs.declared.Saturated.{Saturated}
+use Rattle.tp_flash.specs.Counted.{split_turn_counted, split_counted, dew_of_counted, between_counted, from_dew_counted, saturated_counted, phases_counted}
 
 -- ---- a phase of the split
 pub phase_is : (z l : List Float) (n : ℕ) {w : List Float} {o : Out (List Float)} → n ≤ 8 → w ≡ vec (λ i. cond (lt 0f (at z i)) (at l i) 0f) n → o ≡ normalize_of (at w) n
@@ -96,3 +103,79 @@ module _ (E : List Float → Out Activity) (ps : List Float) (n : ℕ) (p : Floa
             → Counts mid o new (split_counted E ps n p z tolerance (limit - (done + 1)) (done + 1) t.activity.ln_gamma) → Counts old o new W
         unfolding split_counted
         loop_more h o new g = left o new (counts_next _ (rw (add-one done) at e) (counts_second _ h (rw (add-one done) at g)))
+
+-- ---- counted steps in a row, put together the other way
+module _ {B C : Type 0} where
+  go-shift : (o : Out B) (k m : ℕ) (g : B → Counted C) → go_on o (k + m) g ≡ begun_before k (go_on o m g)
+  unfolding go_on begun_before
+  go-shift (ok b) k m g =
+      let e : k + m + (g b).begun ≡ k + (m + (g b).begun) = omega arith in
+      rw e
+  go-shift (no r) k m g = refl
+
+module _ {A B C : Type 0} where
+  go-go : (o : Out A) (k : ℕ) (f : A → Counted B) (g : B → Counted C) → bind_counted (go_on o k f) g ≡ go_on o k (λ a. bind_counted (f a) g)
+  unfolding bind_counted go_on begun_before
+  go-go (ok a) k f g = go-shift (f a).outcome k (f a).begun g
+  go-go (no r) k f g = refl
+
+  counted-apart : (c : Counted A) (f : A → Counted B) (g : B → Counted C) → bind_counted (bind_counted c f) g ≡ bind_counted c (λ a. bind_counted (f a) g)
+  unfolding bind_counted
+  counted-apart c f g = go-go c.outcome c.begun f g
+
+module _ {A B : Type 0} where
+  go-same : (o : Out A) (k : ℕ) (f g : A → Counted B) → ((a : A) → f a ≡ g a) → go_on o k f ≡ go_on o k g
+  unfolding go_on
+  go-same (ok a) k f g h = ap (begun_before k) (h a)
+  go-same (no r) k f g h = refl
+
+  counted-same : (c : Counted A) (f g : A → Counted B) → ((a : A) → f a ≡ g a) → bind_counted c f ≡ bind_counted c g
+  unfolding bind_counted
+  counted-same c f g h = go-same c.outcome c.begun f g h
+
+  counted-at : (a : A) (f : A → Counted B) → bind_counted (uncounted (ok a)) f ≡ f a
+  unfolding bind_counted uncounted go_on begun_before
+  counted-at a f =
+      let e : 0 + (f a).begun ≡ (f a).begun = omega arith in
+      ap (λ (k : ℕ). record { outcome = (f a).outcome; begun = k }) e
+
+-- ---- the flash, by what no pressure changes
+module _ (E : List Float → Out Activity) (n : ℕ) (o : ActivityOptions) (z : List Float) (p : Float) (ps : List Float) where
+  abbrev between : Saturated → Counted Flash
+  between s = between_counted E n o z p ps s.bubble s.dew
+
+  phases-apart : bind_counted (saturated_counted E n o z ps) between ≡ phases_counted E n o z p ps
+  unfolding saturated_counted phases_counted from_dew_counted
+  phases-apart =
+      counted-apart _ _ between
+      ∙ counted-same _ _ _ (λ b. counted-apart (dew_of_counted E n o z ps b.pressure) _ between ∙ counted-same _ _ _ (λ dew. counted-at _ between))
+
+  pub saturated-stop : {old new r : ℕ} → Counts old (no r) new (saturated_counted E n o z ps) → Counts old (no r) new (phases_counted E n o z p ps)
+  saturated-stop h = rw phases-apart at (counts_stop between h)
+
+  pub saturated-next : {old mid new : ℕ} {s : Saturated} {f : Out Flash} → Counts old (ok s) mid (saturated_counted E n o z ps)
+      → Counts mid f new (between_counted E n o z p ps s.bubble s.dew) → Counts old f new (phases_counted E n o z p ps)
+  saturated-next h g = rw phases-apart at (counts_next between h g)
+
+-- what the exit of a `?` returns
+pub exit-is : {A : Type 0} (e : Refusal) (r : Result A Refusal) → IsErrAnd r (λ y. y ≡ e) → r ≡ Err e
+exit-is e (Err y) h = rw h
+exit-is e (Ok a) h = absurd h
+
+-- ---- without the count
+bind-apart : {A B C : Type 0} (x : Out A) (k : A → Out B) (l : B → Out C) → bind (bind x k) l ≡ bind x (λ a. bind (k a) l)
+unfolding bind
+bind-apart (ok a) k l = refl
+bind-apart (no r) k l = refl
+
+bind-same : {A B : Type 0} (x : Out A) (k l : A → Out B) → ((a : A) → k a ≡ l a) → bind x k ≡ bind x l
+unfolding bind
+bind-same (ok a) k l h = h a
+bind-same (no r) k l h = refl
+
+pub phases-by : (E : List Float → Out Activity) (n : ℕ) (o : ActivityOptions) (z : List Float) (p : Float) (ps : List Float)
+    → phases_of E n o z p ps ≡ bind (saturated_of E n o z ps) (λ s. between_of E n o z p ps s.bubble s.dew)
+unfolding phases_of from_dew saturated_of bind
+phases-by E n o z p ps =
+    sym (bind-apart (bubble_at E ps n z) _ _
+    ∙ bind-same (bubble_at E ps n z) _ _ (λ b. bind-apart (dew_of E n o z ps b.pressure) _ _ ∙ bind-same (dew_of E n o z ps b.pressure) _ _ (λ dew. refl)))

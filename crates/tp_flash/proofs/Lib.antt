@@ -1,4 +1,4 @@
 -- Laws that callers of tp_flash cite, and those of its own proofs. Assumes nothing.
 pub mod Counts
 pub mod Forgets
-mod Laws
+pub mod Laws

@@ -14,6 +14,7 @@ use Rattle.saturation.specs.Counted.{dew_counted}
 use Rattle.liquid_stability.specs.Stability.{Trials, present_count}
 use Rattle.liquid_stability.specs.Counted.{stability_counted}
 use Rattle.tp_flash.specs.Split.{Split, Turn, rice_limit, k_values, phase_of, balance_of, turn_at}
+use Rattle.tp_flash.specs.declared.Saturated.{Saturated}
 use Rattle.tp_flash.specs.Tp.{Flash, inside, near_edge, gamma_phi, at_boundary, liquid_phase, both_phases, as_vapor}
 
 module _ (E : List Float → Out Activity) (ps : List Float) (n : ℕ) (p : Float) (z : List Float) where
@@ -92,6 +93,13 @@ module _ (E : List Float → Out Activity) (n : ℕ) (o : ActivityOptions) (z : 
 
   unfoldable pub phases_counted : Counted Flash
   phases_counted = bind_counted (evaluated (bubble_at E ps n z)) (λ b. from_dew_counted b.pressure)
+
+-- `saturated_of`: bubble and dew both, which no pressure changes
+unfoldable pub saturated_counted : (List Float → Out Activity) → ℕ → ActivityOptions → List Float → List Float → Counted Saturated
+saturated_counted E n o z ps =
+    bind_counted (evaluated (bubble_at E ps n z)) (λ b.
+    bind_counted (dew_of_counted E n o z ps b.pressure) (λ dew.
+    uncounted (ok (record { bubble = b.pressure; dew = dew }))))
 
 -- `activity_tp_flash`
 unfoldable pub flash_counted : Activities → Liquids → (Float → Bool) → ℕ → ActivityOptions → Float → List Float → Float → Counted Flash

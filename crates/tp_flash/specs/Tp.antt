@@ -160,6 +160,10 @@ module _ (E : List Float → Out Activity) (n : ℕ) (o : ActivityOptions) (z : 
   unfoldable pub phases_of : Out Flash
   phases_of = bind (bubble_at E ps n z) (λ b. from_dew b.pressure)
 
+-- bubble and dew pressure both, which no pressure changes
+unfoldable pub saturated_of : (List Float → Out Activity) → ℕ → ActivityOptions → List Float → List Float → Out Saturated
+saturated_of E n o z ps = bind (bubble_at E ps n z) (λ b. bind (dew_of E n o z ps b.pressure) (λ dew. ok (record { bubble = b.pressure; dew = dew })))
+
 -- T in the domain (22), p in the domain (23), the pure liquids (25), then the phases
 unfoldable pub tp_flash : Activities → Liquids → (Float → Bool) → ℕ → ActivityOptions → Float → List Float → Float → Out Flash
 tp_flash E L D n o t z p =

@@ -2,16 +2,16 @@
 // the first n are read.
 #![tactic(auto)]
 
-ghost use Rattle.std.specs.Prelude.{◌≡◌};
+ghost use Rattle.std.specs.Prelude.{◌≡◌, IfOk};
 ghost use Rattle.floats.specs.Vector.{at, vec, places};
-ghost use Rattle.floats.specs.Outcome.{ok};
+ghost use Rattle.floats.specs.Outcome.{ok, bind};
 ghost use Rattle.outcome.specs.Refused.{outcome_of};
 ghost use Rattle.counted.specs.Counted.{Counts, evaluated};
 ghost use Rattle.numerics.specs.Numerics.{ln_of};
 ghost use Rattle.thermo_models.specs.Activity.{activity_on};
 ghost use Rattle.tp_flash.specs.Split.{k_values, phase_of, split_gap, balance_of, fraction_in, turn_at};
 ghost use Rattle.tp_flash.specs.Tp.{inside, near_edge, single_phase, as_vapor};
-ghost use Rattle.tp_flash.specs.Counted.{split_turn_counted, split_counted, stable_counted, dew_of_counted, liquid_counted, both_counted, boundary_counted, from_split_counted, between_counted, phases_counted};
+ghost use Rattle.tp_flash.specs.Counted.{split_turn_counted, split_counted, stable_counted, dew_of_counted, liquid_counted, both_counted, boundary_counted, from_split_counted, split_feed_counted, between_counted, saturated_counted, phases_counted};
 
 use liquid_stability::LiquidStability;
 use outcome::Refusal;
@@ -45,9 +45,9 @@ pub struct ActivityTpFlash {
 
 // Bubble and dew pressure of the feed, Pa.
 #[derive(Clone, Copy)]
-struct Saturated {
-    bubble: f64,
-    dew: f64,
+pub struct Saturated {
+    pub bubble: f64,
+    pub dew: f64,
 }
 
 // The word `notes` of the answer: A7-GAMMA-PHI is bit 0, A7-SPLIT-AT-SATURATION-BOUNDARY bit 1, A7-LIQUID-TPD-FINITE-TRIALS bit 2.
@@ -130,31 +130,40 @@ fn single_phase(
     }
 }
 
-// The feed z at p, with the vapor pressures ps of its solvents and the table of their activities, all at one temperature.
+// The feed z, with the vapor pressures ps of its solvents and the table of their activities, all at one temperature.
 #[derive(Clone, Copy)]
 struct Feed<'a> {
     table: &'a [f64; 512],
     at: Tabled,
     o: ActivityOptions,
     z: &'a [f64; 8],
-    p: Pressure,
     ps: &'a [f64; 8],
+}
+
+// A feed at T with what no pressure changes: bubble and dew pressure, and the activity at the feed.
+#[derive(Clone, Copy)]
+pub struct FlashFeed<'a> {
+    feed: Feed<'a>,
+    pub saturated: Saturated,
+    activity: ActivityCoefficients,
+    ghost of_feed: { activity_on feed.table.now feed.at feed.z.now ≡ ok activity },
 }
 
 // The split of a feed at T and p, with what no turn changes: ln of its vapor pressures, and ln p.
 #[derive(Clone, Copy)]
 struct Splitting<'a> {
     feed: Feed<'a>,
+    p: Pressure,
     ln_ps: &'a [f64; 8],
     ln_p: f64,
     ghost of_pressures: { ln_ps.now ≡ vec (λ i. ln_of (at feed.ps.now i)) (places feed.at.n) },
-    ghost of_p: { ln_p ≡ ln_of feed.p.0 },
+    ghost of_p: { ln_p ≡ ln_of p.0 },
 }
 
 impl<'a> Splitting<'a> {
     // K_i = γ_i p_i^sat / p where the feed is positive, else 1.0, which no sum of Rachford-Rice reads.
     fn k_values(self, lg: &[f64; 8]) -> [f64; 8]
-        ensures { let f = self.entry.feed in result ≡ k_values f.z.now f.ps.now f.p.0 lg.now (places f.at.n) }
+        ensures { let f = self.entry.feed in result ≡ k_values f.z.now f.ps.now self.entry.p.0 lg.now (places f.at.n) }
     {
         let n = floats::places(self.feed.at.n);
         let ln_k = std::array::from_fn(|i| {
@@ -176,7 +185,7 @@ impl<'a> Splitting<'a> {
 
     // max_i |ln(y_i p) - ln(x_i γ_i p_i^sat)| where the feed is positive.
     fn split_gap(self, lg: &[f64; 8], x: &[f64; 8], y: &[f64; 8]) -> f64
-        ensures { let f = self.entry.feed in result ≡ split_gap f.z.now lg.now f.ps.now f.p.0 x.now y.now (places f.at.n) }
+        ensures { let f = self.entry.feed in result ≡ split_gap f.z.now lg.now f.ps.now self.entry.p.0 x.now y.now (places f.at.n) }
     {
         (0..floats::places(self.feed.at.n)).fold(0.0, |r, i| {
             if self.feed.z[i] > 0.0 {
@@ -201,7 +210,7 @@ impl<'a> Splitting<'a> {
         begun: &mut u64,
     ) -> Result<SplitTurn, Refusal>
         ensures { let f = self.entry.feed in
-            Counts begun.old (outcome_of result) begun.new (evaluated (turn_at (activity_on f.table.now f.at) f.ps.now (places f.at.n) f.p.0 f.z.now beta x y iteration)) }
+            Counts begun.old (outcome_of result) begun.new (evaluated (turn_at (activity_on f.table.now f.at) f.ps.now (places f.at.n) self.entry.p.0 f.z.now beta x y iteration)) }
     {
         counted::begin(begun);
         let activity = thermo_models::activity(self.feed.table, self.feed.at, &x)?;
@@ -229,7 +238,7 @@ impl<'a> Splitting<'a> {
         begun: &mut u64,
     ) -> Result<SplitTurn, Refusal>
         ensures { let f = self.entry.feed in
-            Counts begun.old (outcome_of result) begun.new (split_turn_counted (activity_on f.table.now f.at) f.ps.now (places f.at.n) f.p.0 f.z.now lg.now iteration) }
+            Counts begun.old (outcome_of result) begun.new (split_turn_counted (activity_on f.table.now f.at) f.ps.now (places f.at.n) self.entry.p.0 f.z.now lg.now iteration) }
     {
         let k = self.k_values(lg);
         let rr = rachford_rice::rachford_rice_negative(
@@ -248,7 +257,7 @@ impl<'a> Splitting<'a> {
     fn split_from(self, start: &[f64; 8], begun: &mut u64) -> Result<SplitPoint, Refusal>
         ensures { let f = self.entry.feed in
             Counts begun.old (outcome_of result) begun.new
-            (split_counted (activity_on f.table.now f.at) f.ps.now (places f.at.n) f.p.0 f.z.now f.o.tolerance f.o.max_iterations 0 start.now) }
+            (split_counted (activity_on f.table.now f.at) f.ps.now (places f.at.n) self.entry.p.0 f.z.now f.o.tolerance f.o.max_iterations 0 start.now) }
     {
         let mut lg = *start;
         for done in 0..self.feed.o.max_iterations {
@@ -403,36 +412,6 @@ impl<'a> Feed<'a> {
         std::array::from_fn(|i| if i < n { numerics::ln(self.ps[i]) } else { 0.0 })
     }
 
-    // p ≥ bubble is liquid, then p ≤ dew is vapor, else the split from the activity of the feed, which counts once more though it
-    // is there.
-    fn between(
-        self,
-        saturated: Saturated,
-        activity: ActivityCoefficients,
-        begun: &mut u64,
-    ) -> Result<ActivityTpFlash, Refusal>
-        requires { activity_on self.table.now self.at self.z.now ≡ ok activity }
-        ensures { let f = self.entry in
-            Counts begun.old (outcome_of result) begun.new (between_counted (activity_on f.table.now f.at) (places f.at.n) f.o f.z.now f.p.0 f.ps.now saturated.bubble saturated.dew) }
-    {
-        let pressure = self.p.value();
-        if pressure >= saturated.bubble {
-            return self.as_liquid(saturated, GAMMA_PHI, begun);
-        }
-        if pressure <= saturated.dew {
-            return self.as_vapor(saturated, GAMMA_PHI);
-        }
-        counted::begin(begun);
-        let ln_ps = self.ln_pressures();
-        let splitting = Splitting {
-            feed: self,
-            ln_ps: &ln_ps,
-            ln_p: numerics::ln(pressure),
-        };
-        let split = splitting.split_from(&activity.ln_gamma, begun)?;
-        self.from_split(saturated, split, begun)
-    }
-
     // With one solvent present it is the bubble pressure.
     fn dew_pressure(self, bubble: f64, begun: &mut u64) -> Result<f64, Refusal>
         ensures { let f = self.entry in
@@ -444,6 +423,75 @@ impl<'a> Feed<'a> {
         let d = saturation::dew_at(self.table, self.at, self.z, self.ps, self.o, begun)?;
         Ok(d.pressure)
     }
+}
+
+impl<'a> FlashFeed<'a> {
+    // The split at p from the activity of the feed, which counts once more though it is there.
+    fn split(self, p: Pressure, begun: &mut u64) -> Result<ActivityTpFlash, Refusal>
+        ensures { let f = self.entry.feed in let s = self.entry.saturated in
+            Counts begun.old (outcome_of result) begun.new (split_feed_counted (activity_on f.table.now f.at) (places f.at.n) f.o f.z.now p.0 f.ps.now s.bubble s.dew) }
+    {
+        counted::begin(begun);
+        let ln_ps = self.feed.ln_pressures();
+        let splitting = Splitting {
+            feed: self.feed,
+            p,
+            ln_ps: &ln_ps,
+            ln_p: numerics::ln(p.value()),
+        };
+        let split = splitting.split_from(&self.activity.ln_gamma, begun)?;
+        self.feed.from_split(self.saturated, split, begun)
+    }
+
+    // The flash at p: p ≥ bubble is liquid, then p ≤ dew is vapor, else the split; what split and trials refuse. `begun` counts the
+    // evaluations on.
+    pub fn at(self, p: Pressure, begun: &mut u64) -> Result<ActivityTpFlash, Refusal>
+        ensures { let f = self.entry.feed in let s = self.entry.saturated in
+            Counts begun.old (outcome_of result) begun.new (between_counted (activity_on f.table.now f.at) (places f.at.n) f.o f.z.now p.0 f.ps.now s.bubble s.dew) }
+    {
+        let pressure = p.value();
+        if pressure >= self.saturated.bubble {
+            return self.feed.as_liquid(self.saturated, GAMMA_PHI, begun);
+        }
+        if pressure <= self.saturated.dew {
+            return self.feed.as_vapor(self.saturated, GAMMA_PHI);
+        }
+        self.split(p, begun)
+    }
+}
+
+// What the flash of the feed z has at every pressure, from the tables and the vapor pressures of a temperature: bubble and dew both;
+// what they refuse (15 to 18, 24, 25, 27, 34). `begun` counts the evaluations on.
+pub fn flash_feed<'a>(
+    table: &'a [f64; 512],
+    at: Tabled,
+    o: ActivityOptions,
+    z: &'a [f64; 8],
+    ps: &'a [f64; 8],
+    begun: &mut u64,
+) -> Result<FlashFeed<'a>, Refusal>
+    ensures saturated { Counts begun.old (bind (outcome_of result) (λ f. ok f.saturated)) begun.new (saturated_counted (activity_on table.now at) (places at.n) o z.now ps.now) }
+    ensures feed { IfOk result (λ f. f.feed ≡ record { table = table.entry; at = at; o = o; z = z.entry; ps = ps.entry }) }
+{
+    counted::begin(begun);
+    let activity = thermo_models::activity(table, at, z)?;
+    let b = saturation::bubble_from(z, &activity.ln_gamma, ps, at.n)?;
+    let feed = Feed {
+        table,
+        at,
+        o,
+        z,
+        ps,
+    };
+    let dew = feed.dew_pressure(b.pressure, begun)?;
+    Ok(FlashFeed {
+        feed,
+        saturated: Saturated {
+            bubble: b.pressure,
+            dew,
+        },
+        activity,
+    })
 }
 
 // The flash of the feed z at p, from the tables and the vapor pressures of a temperature: bubble and dew both, then the phases; what
@@ -459,21 +507,6 @@ pub fn activity_tp_flash(
 ) -> Result<ActivityTpFlash, Refusal>
     ensures { Counts begun.old (outcome_of result) begun.new (phases_counted (activity_on table.now at) (places at.n) o z.now p.0 ps.now) }
 {
-    counted::begin(begun);
-    let activity = thermo_models::activity(table, at, z)?;
-    let b = saturation::bubble_from(z, &activity.ln_gamma, ps, at.n)?;
-    let feed = Feed {
-        table,
-        at,
-        o,
-        z,
-        p,
-        ps,
-    };
-    let dew = feed.dew_pressure(b.pressure, begun)?;
-    let saturated = Saturated {
-        bubble: b.pressure,
-        dew,
-    };
-    feed.between(saturated, activity, begun)
+    let feed = flash_feed(table, at, o, z, ps, begun)?;
+    feed.at(p, begun)
 }

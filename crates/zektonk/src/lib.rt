@@ -7,7 +7,9 @@ ghost use Rattle.pool.specs.Pool.{pooled_of};
 ghost use Rattle.batch.specs.Feeds.{feeds_of};
 ghost use Rattle.queue.specs.Queue.{queue_of};
 ghost use Rattle.preview.specs.Preview.{preview_of};
+ghost use Rattle.distance.specs.Distance.{distance_of, distance_number, four_words, four_in, distance_written};
 
+use distance::Distance;
 use outcome::number_in;
 
 // 0 and the answer's blocks at the front of `out`; or the number of the question that was answered no, and `out` as it was.
@@ -60,4 +62,40 @@ pub extern "C" fn zektonk_preview(
     ensures { Answers (preview_of book.now offered.now question.now (length out.old)) result out.old out.new }
 {
     number_in(preview::answer(book, offered, question, out))
+}
+
+// A distance as four words: 1, s, the outcome and the count of refused steps before it; or 0, 0, 0 and the count of all refused.
+fn four_words(distance: Distance) -> [u64; 4]
+    ensures { result ≡ four_words distance }
+{
+    match distance {
+        Distance::Step(s, outcome, refused) => [1, s, outcome, refused],
+        Distance::None(refused) => [0, 0, 0, refused],
+    }
+}
+
+// At the front of a slice that has room for them.
+fn store_four(words: [u64; 4], out: &mut [u64])
+    ensures { out.new ≡ four_in words out.old }
+{
+    let Some(front) = out.first_chunk_mut::<4>() else {
+        return;
+    };
+    *front = words;
+}
+
+// From a flash's pressure to the next phase change, in steps of 100 Pa: 0 and in `out` the words 1, s in two's complement, the
+// outcome there and the count of refused steps before it, or 0, 0, 0 and the count of all refused where no step of the 2000 has
+// another outcome; or a number, and `out` as it was. A slice of fewer than four words stays as it was.
+#[unsafe(no_mangle)]
+pub extern "C" fn zektonk_distance(book: &[u8], question: &[u8], out: &mut [u64]) -> u64
+    ensures { (result ≡ distance_number (distance_of book.now question.now)) × (out.new ≡ distance_written (distance_of book.now question.now) out.old) }
+{
+    match distance::answer(book, question) {
+        Ok(found) => {
+            store_four(four_words(found), out);
+            0
+        }
+        Err(refusal) => u64::from(refusal),
+    }
 }

@@ -1,5 +1,5 @@
-//! Calls the core with book, question and answer slices, and drums, feeds, an offered pair or a queue of questions, that end, or begin,
-//! at a page that can't be touched, and compares every byte with the reference.
+//! Calls the core with book, question and answer slices, and drums, feeds, an offered pair or a queue of questions, or for a distance,
+//! that end, or begin, at a page that can't be touched, and compares every byte with the reference.
 //!
 //! guarded [--count N] [--seed S]
 //!
@@ -14,12 +14,15 @@ use reference::command::count_and_seed;
 use reference::counts::Tally;
 use reference::generate::cases::{sheets, Cases};
 use reference::generate::Rng;
-use reference::rattle::{zektonk_answer, zektonk_feeds, zektonk_pooled, zektonk_preview, zektonk_queue};
+use reference::rattle::{
+    zektonk_answer, zektonk_distance, zektonk_feeds, zektonk_pooled, zektonk_preview, zektonk_queue,
+};
 use reference::sheet::anew::word;
 use reference::sheet::blocks::{bytes_of, rule_of, seal, words_of, Rule, BLOCK};
+use reference::sheet::distance::Way;
 use reference::sheet::feeds::FEED;
 use reference::sheet::question::{MAX_ITERATIONS, MAX_TEMPERATURE_ITERATIONS};
-use reference::sheet::{self, ANSWER_BYTES};
+use reference::sheet::{self, distance, ANSWER_BYTES};
 use reference::stage::{Case, Stage};
 use reference::with::With;
 
@@ -45,7 +48,7 @@ const ANSWER: usize = 5120;
 const ANSWERS: [usize; 2] = [8 * ANSWER_BYTES + 512, 64 * ANSWER_BYTES + 512];
 
 /// In the order of `place`.
-const CALLS: [&str; 5] = ["plain", "with drums", "with feeds", "with a pair", "in a queue"];
+const CALLS: [&str; 6] = ["plain", "with drums", "with feeds", "with a pair", "in a queue", "for a distance"];
 
 /// Differences that are printed.
 const SHOWN: usize = 10;
@@ -99,12 +102,20 @@ impl Area {
     }
 }
 
+enum What {
+    Plain,
+    /// One slice more; the allowance of a queue, whose questions stand in place of the question.
+    With(With, Vec<u8>),
+    /// Whose answer slice has words.
+    Distance,
+}
+
 /// What is asked, and where.
 struct Call {
     book: Vec<u8>,
     question: Vec<u8>,
-    /// Where the call takes one slice more, or the allowance of a queue, whose questions stand in place of the question.
-    more: Option<(With, Vec<u8>)>,
+    what: What,
+    /// Bytes.
     room: usize,
     /// Book, question, answer and the slice more.
     at_end: [bool; 4],
@@ -149,9 +160,10 @@ impl Pages {
         let mut expected = noise.clone();
         let to = area.place(call.room, call.at_end[2]);
         let lent = &mut expected[to..to + call.room];
-        let number = match &call.more {
-            None => sheet::answer(&call.book, &call.question, lent),
-            Some((with, more)) => with.reference(&call.book, &call.question, more, lent),
+        let number = match &call.what {
+            What::Plain => sheet::answer(&call.book, &call.question, lent),
+            What::With(with, more) => with.reference(&call.book, &call.question, more, lent),
+            What::Distance => in_words(lent, |words| distance::answer(&call.book, &call.question, Way::Sides, words)),
         };
         area.fill(0, noise);
         let at = area.at(to);
@@ -160,7 +172,7 @@ impl Pages {
     }
 
     fn offered(&mut self, call: &Call, answer: *mut u8) -> u64 {
-        let more = call.more.as_ref().map_or(&[][..], |(_, more)| more);
+        let more = if let What::With(_, more) = &call.what { more } else { &[][..] };
         let read = [&call.book, &call.question, more];
         let mut from = [ptr::null_mut(); 3];
         let areas = [&mut self.book, &mut self.question, &mut self.more].into_iter().zip([0, 1, 3]);
@@ -177,12 +189,14 @@ impl Pages {
         // SAFETY: each pointer and length lie in pages of their own, apart from each other, that can be read or written
         // as the core's header asks.
         let number = unsafe {
-            match call.more {
-                None => zektonk_answer(b, b_len, q, q_len, a, a_len),
-                Some((With::Drums, _)) => zektonk_pooled(b, b_len, q, q_len, m, m_len, a, a_len),
-                Some((With::Feeds, _)) => zektonk_feeds(b, b_len, q, q_len, m, m_len, a, a_len),
-                Some((With::Pair, _)) => zektonk_preview(b, b_len, m, m_len, q, q_len, a, a_len),
-                Some((With::Allowance, _)) => zektonk_queue(b, b_len, q, q_len, word(more, 0), a, a_len),
+            match call.what {
+                What::Plain => zektonk_answer(b, b_len, q, q_len, a, a_len),
+                What::With(With::Drums, _) => zektonk_pooled(b, b_len, q, q_len, m, m_len, a, a_len),
+                What::With(With::Feeds, _) => zektonk_feeds(b, b_len, q, q_len, m, m_len, a, a_len),
+                What::With(With::Pair, _) => zektonk_preview(b, b_len, m, m_len, q, q_len, a, a_len),
+                What::With(With::Allowance, _) => zektonk_queue(b, b_len, q, q_len, word(more, 0), a, a_len),
+                // The words lie at a multiple of eight.
+                What::Distance => zektonk_distance(b, b_len, q, q_len, a.cast(), a_len / 8),
             }
         };
         for area in [&self.book, &self.question, &self.more] {
@@ -190,6 +204,14 @@ impl Pages {
         }
         number
     }
+}
+
+/// What `write` makes of the words that stand in these bytes.
+fn in_words(bytes: &mut [u8], write: impl FnOnce(&mut [u64]) -> u32) -> u32 {
+    let mut words: Vec<u64> = bytes.chunks_exact(8).map(|bytes| word(bytes, 0)).collect();
+    let number = write(&mut words);
+    bytes.chunks_exact_mut(8).zip(words).for_each(|(place, word)| place.copy_from_slice(&word.to_le_bytes()));
+    number
 }
 
 fn random(rng: &mut Rng, length: usize) -> Vec<u8> {
@@ -208,11 +230,14 @@ fn room(rng: &mut Rng) -> usize {
 
 fn call(rng: &mut Rng, book: Vec<u8>, question: Vec<u8>) -> Call {
     let at_end = [(); 4].map(|_| rng.one_in(2));
-    Call { book, question, more: None, room: room(rng), at_end, null: rng.one_in(4) }
+    Call { book, question, what: What::Plain, room: room(rng), at_end, null: rng.one_in(4) }
 }
 
 /// As `calls`, with drums, feeds or a pair: as they are in half of the calls, changed, of another length, or noise.
 fn calls_with(rng: &mut Rng, case: &Case) -> Vec<Call> {
+    if let Case::Distance { book, question, .. } = case {
+        return distances(rng, book, question);
+    }
     let Case::With { with, book, question, lent, .. } = case else { unreachable!("one slice more was asked for") };
     if *with == With::Allowance {
         return queues(rng, book, question, word(lent, 0));
@@ -231,7 +256,7 @@ fn calls_with(rng: &mut Rng, case: &Case) -> Vec<Call> {
         if *with == With::Feeds {
             call.room += ANSWER_BYTES * (more.len() / FEED).clamp(1, 64) - ANSWER_BYTES;
         }
-        call.more = Some((*with, more));
+        call.what = What::With(*with, more);
     }
     all
 }
@@ -248,7 +273,17 @@ fn queues(rng: &mut Rng, book: &[u8], questions: &[u8], allowance: u64) -> Vec<C
             _ => allowance,
         };
         call.room += ANSWER_BYTES * (call.question.len() / BLOCK).clamp(1, 64) - ANSWER_BYTES;
-        call.more = Some((With::Allowance, allowance.to_le_bytes().to_vec()));
+        call.what = What::With(With::Allowance, allowance.to_le_bytes().to_vec());
+    }
+    all
+}
+
+/// As `calls`, with 0 to 6 words for the result; as it is once, since that may take long.
+fn distances(rng: &mut Rng, book: &[u8], question: &[u8]) -> Vec<Call> {
+    let mut all = calls(rng, book, question, QUESTION).split_off(1);
+    for call in &mut all {
+        call.what = What::Distance;
+        call.room = 8 * rng.below(7);
     }
     all
 }
@@ -350,7 +385,7 @@ fn main() -> ExitCode {
     let mut tallies = [(); CALLS.len()].map(|_| Tally::default());
     let (mut made, mut differences) = (0, 0);
     let mut plain = sheets(seed);
-    let stages = [Stage::Pooled, Stage::Feeds, Stage::Preview, Stage::Queue];
+    let stages = [Stage::Pooled, Stage::Feeds, Stage::Preview, Stage::Queue, Stage::Distance];
     let mut others = stages.map(|stage| Cases::new(stage, seed, false));
     for turn in 0.. {
         if made >= count {
@@ -388,20 +423,22 @@ fn main() -> ExitCode {
 }
 
 fn place(call: &Call) -> usize {
-    match call.more {
-        None => 0,
-        Some((With::Drums, _)) => 1,
-        Some((With::Feeds, _)) => 2,
-        Some((With::Pair, _)) => 3,
-        Some((With::Allowance, _)) => 4,
+    match call.what {
+        What::Plain => 0,
+        What::With(With::Drums, _) => 1,
+        What::With(With::Feeds, _) => 2,
+        What::With(With::Pair, _) => 3,
+        What::With(With::Allowance, _) => 4,
+        What::Distance => 5,
     }
 }
 
 fn show(call: &Call, number: u32) {
     let (book, question, room) = (call.book.clone(), call.question.clone(), call.room);
-    let case = match call.more.clone() {
-        None => Case::Sheet { book, question, room },
-        Some((with, lent)) => Case::With { with, book, question, lent, room },
+    let case = match &call.what {
+        What::Plain => Case::Sheet { book, question, room },
+        What::With(with, lent) => Case::With { with: *with, book, question, lent: lent.clone(), room },
+        What::Distance => Case::Distance { book, question, room: room / 8, way: Way::Sides },
     };
     println!("difference: {} (reference {number}, at the end {:?}, null {})", case.line(), call.at_end, call.null);
 }

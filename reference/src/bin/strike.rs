@@ -1,9 +1,9 @@
 //! Runs demand 3 on the core: generated sheets with absent solvents, and the same sheets with those struck. Every sheet asked is
 //! compared with the reference's plain call too.
 //!
-//! strike [--count N] [--seed S] [--task K] [--wilson] [--feeds|--preview|--queue]     N accepted sheets, as many of each task, or of task
-//! K; of NRTL books, or of Wilson books and tasks 1 to 7; by the plain call, as one of several feeds (tasks 1, 2, 3, 6, 7), by a preview, or
-//! as one of a queue (task 7)
+//! strike [--count N] [--seed S] [--task K] [--wilson] [--feeds|--preview|--queue|--distance]     N accepted sheets, as many of each task,
+//! or of task K; of NRTL books, or of Wilson books and tasks 1 to 7; by the plain call, as one of several feeds (tasks 1, 2, 3, 6, 7), by a
+//! preview, as one of a queue, or the distance to the next phase change (task 7)
 
 use std::process::ExitCode;
 
@@ -14,7 +14,10 @@ use reference::sheet::blocks::{rule_of, Rule};
 use reference::sheet::queue::FLASH;
 use reference::sheet::{feeds, ANSWER_BYTES};
 use reference::stage::{hex_bytes, Stage};
-use reference::strike::{core, core_feeds, core_preview, core_queue, reference, shown, Call, Sheet, Shown, TASKS};
+use reference::strike::{
+    core, core_feeds, core_preview, core_queue, distance_differs, distance_shown, reference, shown, Call, Sheet, Shown,
+    TASKS,
+};
 
 /// Books that are tried with a question.
 const TRIES: usize = 4;
@@ -38,7 +41,7 @@ struct Counts {
 
 fn main() -> ExitCode {
     let Some(Options { count, seed, tasks, wilson, by }) = options() else {
-        eprintln!("usage: strike [--count N] [--seed S] [--task K] [--wilson] [--feeds|--preview|--queue]");
+        eprintln!("usage: strike [--count N] [--seed S] [--task K] [--wilson] [--feeds|--preview|--queue|--distance]");
         return ExitCode::from(2);
     };
     if !by.built_in() {
@@ -48,7 +51,7 @@ fn main() -> ExitCode {
     let mut rng = Rng::new(seed);
     let mut all = [0; 3];
     for task in &tasks {
-        let counts = run(&mut rng, *task, wilson, call_of(by), count.div_ceil(tasks.len()));
+        let counts = run(&mut rng, *task, wilson, by, count.div_ceil(tasks.len()));
         print(*task, &counts);
         all = [all[0] + counts.accepted, all[1] + counts.failures, all[2] + counts.differences];
     }
@@ -93,23 +96,24 @@ fn options() -> Option<Options> {
             "--feeds" => by = Stage::Feeds,
             "--preview" => by = Stage::Preview,
             "--queue" => by = Stage::Queue,
+            "--distance" => by = Stage::Distance,
             _ => return None,
         }
     }
     // Tasks 8 and 9 have no model.
     let all = match by {
         Stage::Feeds => &feeds::TASKS[..],
-        Stage::Queue => &[FLASH],
+        Stage::Queue | Stage::Distance => &[FLASH],
         _ if wilson => &TASKS[..7],
         _ => &TASKS,
     };
-    if matches!(by, Stage::Feeds | Stage::Queue) && task.is_some_and(|task| !all.contains(&task)) {
+    if matches!(by, Stage::Feeds | Stage::Queue | Stage::Distance) && task.is_some_and(|task| !all.contains(&task)) {
         return None;
     }
     Some(Options { count, seed, tasks: task.map_or(all.to_vec(), |task| vec![task]), wilson, by })
 }
 
-fn run(rng: &mut Rng, task: u64, wilson: bool, call: Call, wanted: usize) -> Counts {
+fn run(rng: &mut Rng, task: u64, wilson: bool, by: Stage, wanted: usize) -> Counts {
     let mut counts = Counts::default();
     let draw = if wilson { Base::of_wilson } else { Base::draw };
     while counts.accepted < wanted {
@@ -117,14 +121,14 @@ fn run(rng: &mut Rng, task: u64, wilson: bool, call: Call, wanted: usize) -> Cou
         for _ in 0..TRIES {
             let sheet = Sheet { book: base.aimed(rng), question: base.question() };
             counts.calls += 1;
-            if differs(call, &sheet) {
+            if differs(by, &sheet) {
                 counts.differences += 1;
                 if counts.differences <= SHOWN {
                     show("differs", &sheet);
                 }
             }
             // No sheet depends on the answers before it.
-            match shown(&mut rng.clone(), call, &sheet) {
+            match shown_by(by, &mut rng.clone(), &sheet) {
                 Shown::Refused(_) => continue,
                 Shown::Equal => {}
                 failed => {
@@ -140,9 +144,19 @@ fn run(rng: &mut Rng, task: u64, wilson: bool, call: Call, wanted: usize) -> Cou
     counts
 }
 
-/// Whether the core answers a sheet otherwise than the reference's plain call.
-fn differs(call: Call, sheet: &Sheet) -> bool {
-    let [a, b] = [call, reference].map(|call| {
+fn shown_by(by: Stage, rng: &mut Rng, sheet: &Sheet) -> Shown {
+    match by {
+        Stage::Distance => distance_shown(rng, sheet),
+        _ => shown(rng, call_of(by), sheet),
+    }
+}
+
+/// Whether the core answers a sheet otherwise than the reference's plain call, or finds another distance.
+fn differs(by: Stage, sheet: &Sheet) -> bool {
+    if by == Stage::Distance {
+        return distance_differs(sheet);
+    }
+    let [a, b] = [call_of(by), reference].map(|call| {
         let mut answer = [0xa5; ANSWER_BYTES];
         (call(&sheet.book, &sheet.question, &mut answer), answer)
     });

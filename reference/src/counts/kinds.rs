@@ -16,8 +16,13 @@ impl Kinds {
     }
 
     pub fn print(&self, what: &str) {
+        self.print_as(what, "accepted");
+    }
+
+    /// Where those that count twice have another name.
+    pub fn print_as(&self, what: &str, yes_is: &str) {
         let parts: Vec<String> =
-            self.0.iter().map(|(what, (all, yes))| format!("{what}: {all} ({yes} accepted)")).collect();
+            self.0.iter().map(|(what, (all, yes))| format!("{what}: {all} ({yes} {yes_is})")).collect();
         println!("{what}: {}", parts.join(", "));
     }
 }

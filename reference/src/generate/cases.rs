@@ -2,8 +2,8 @@
 
 use super::exchanged::Exchange;
 use super::{
-    batches, books, differences, exchanged, feeds, limits, mass, numbers, pooled, previews, questions, queues, rice,
-    small, wilson, Rng,
+    batches, books, differences, distances, exchanged, feeds, limits, mass, numbers, pooled, previews, questions,
+    queues, rice, small, wilson, Rng,
 };
 use crate::sheet::open_book;
 use crate::stage::{Case, Function, Stage};
@@ -64,6 +64,7 @@ impl Cases {
             Stage::Preview if !compact => previews::borders().into_iter().map(|(case, _)| case).collect(),
             Stage::Queue if !compact => queues::borders().into_iter().map(|(case, _)| case).collect(),
             Stage::Limits if !compact => limits::borders().into_iter().map(|(case, ..)| case).collect(),
+            Stage::Distance if !compact => distances::borders().into_iter().map(|(case, _)| case).collect(),
             _ => Vec::new(),
         };
         let rng = if compact { Rng::tidy(seed) } else { Rng::new(seed) };
@@ -113,6 +114,7 @@ impl Cases {
             Stage::Feeds => return batches::draw(&mut self.rng, n),
             Stage::Preview => return previews::draw(&mut self.rng, n),
             Stage::Queue => return queues::draw(&mut self.rng, n),
+            Stage::Distance => return distances::draw(&mut self.rng, n),
             _ => {}
         }
         // The stored ones of versions 2 and 3 stand among the sheets.

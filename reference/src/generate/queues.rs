@@ -21,11 +21,11 @@ use crate::stage::Case;
 use crate::with::With;
 
 /// Tasks that no queue takes.
-const NO_TASK: [u64; 14] = [1, 2, 3, 4, 5, 6, 8, 9, 0, 10, 256, 1 << 32 | 7, 1 << 63 | 7, u64::MAX];
+pub(super) const NO_TASK: [u64; 14] = [1, 2, 3, 4, 5, 6, 8, 9, 0, 10, 256, 1 << 32 | 7, 1 << 63 | 7, u64::MAX];
 /// Numbers of a question that is one block.
 const DAMAGES: [u32; 10] = [13, 14, 15, 16, 18, 19, 20, 21, 22, 23];
 /// `max_iterations` near what a flash needs.
-const TIGHT: [u64; 10] = [3, 6, 9, 12, 16, 20, 25, 30, 40, 60];
+pub(super) const TIGHT: [u64; 10] = [3, 6, 9, 12, 16, 20, 25, 30, 40, 60];
 
 /// What is particular about a call.
 #[derive(Debug, Clone, Copy, PartialEq, Eq)]
@@ -136,7 +136,7 @@ fn case(book: Vec<u8>, questions: Vec<u8>, allowance: u64, room: usize) -> Case 
 }
 
 /// Changes its sign between 300 and 420 K, for one pair of an NRTL book.
-fn alpha_of_some(rng: &mut Rng, draft: &mut Draft) {
+pub(super) fn alpha_of_some(rng: &mut Rng, draft: &mut Draft) {
     let nrtl = draft.blocks[0][MODEL] != WILSON;
     if let Some(at) = draft.any_pair(rng).filter(|_| nrtl) {
         let (a0, t) = (0.3 * rng.sign(), rng.range(300.0, 420.0));
@@ -433,7 +433,7 @@ fn counts() -> Vec<Asked> {
 }
 
 /// A question that the book `two` refuses with the number before any evaluation.
-fn refused_first() -> Vec<(Ask, u64)> {
+pub(super) fn refused_first() -> Vec<(Ask, u64)> {
     vec![
         (ask().word(0, 7), 11),
         (ask().word(BASIS, 2), 36),

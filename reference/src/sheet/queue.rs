@@ -62,7 +62,7 @@ fn ended_by(book: &[u8], questions: &[u8], room: usize) -> u32 {
     }
 }
 
-fn passes_11(question: &[u8], version: u64) -> bool {
+pub(super) fn passes_11(question: &[u8], version: u64) -> bool {
     is_right_block(question, version) && word(question, 0) == 8
 }
 

@@ -1,7 +1,7 @@
 //! Times of the core, of the reference and, where it is at hand, of the peer on the same inputs in one run: nanoseconds a
 //! call, median of five.
 //!
-//! bench numbers|book|excess|rice|sheet|wilson|parts|pooled|feeds|preview|queue|all
+//! bench numbers|book|excess|rice|sheet|wilson|parts|pooled|feeds|preview|queue|distance|all
 
 use std::hint::black_box;
 use std::process::ExitCode;
@@ -11,9 +11,10 @@ use reference::helpers;
 use reference::named::rachford_rice::{rachford_rice, rachford_rice_negative, RachfordRiceOutcome};
 use reference::rattle;
 use reference::sheet::blocks::{rule_of, words_of, BLOCK};
+use reference::sheet::distance::{at_step, flashed, search, steps, Distance, Way, RESULT_WORDS};
 use reference::sheet::question::{FRACTIONS, TASK};
 use reference::sheet::queue::FLASH;
-use reference::sheet::reply::EVALUATIONS;
+use reference::sheet::reply::{BUBBLE, DEW, EVALUATIONS};
 use reference::sheet::{answer, feeds, open_book, pool, ANSWER_BYTES};
 use reference::stage::padded;
 
@@ -31,7 +32,7 @@ const RUN: f64 = 2e7;
 
 fn main() -> ExitCode {
     let stage = std::env::args().nth(1).unwrap_or_default();
-    let stages: [(&str, fn()); 11] = [
+    let stages: [(&str, fn()); 12] = [
         ("numbers", bench_numbers),
         ("book", bench_book),
         ("excess", bench_excess),
@@ -43,11 +44,12 @@ fn main() -> ExitCode {
         ("feeds", bench_feeds),
         ("preview", bench_preview),
         ("queue", bench_queue),
+        ("distance", bench_distance),
     ];
     let chosen: Vec<_> = stages.iter().filter(|(name, _)| *name == stage || stage == "all").collect();
     chosen.iter().for_each(|(_, bench)| bench());
     if chosen.is_empty() {
-        eprintln!("usage: bench numbers|book|excess|rice|sheet|wilson|parts|pooled|feeds|preview|queue|all");
+        eprintln!("usage: bench numbers|book|excess|rice|sheet|wilson|parts|pooled|feeds|preview|queue|distance|all");
         return ExitCode::from(2);
     }
     ExitCode::SUCCESS
@@ -603,4 +605,59 @@ fn time_queue(model: &str, n: usize, q: usize, book: Drafts, allowance: u64) {
             }
         },
     );
+}
+
+/// The core alone: distances without a phase change and without a refused step, and the plain calls at P and at all 2000 steps.
+fn bench_distance() {
+    for (model, book) in [("", books::realistic as Drafts), ("Wilson ", wilson::realistic)] {
+        for (phases, outcome) in [("a liquid", 1), ("a vapor", 2), ("between dew and bubble", 3)] {
+            time_distance(model, phases, outcome, book);
+        }
+    }
+}
+
+fn time_distance(model: &str, phases: &str, outcome: u64, book: Drafts) {
+    const N: usize = 8;
+    let inputs = few(|rng| {
+        let (book, question) = nowhere(rng, N, outcome, book);
+        let plain: Vec<_> = steps().map(|s| at_step(&book, &question, s)).chain([question.clone()]).collect();
+        (book, question, plain)
+    });
+    let (mut out, mut other) = ([0; RESULT_WORDS], [0; ANSWER_BYTES]);
+    beside_plain(
+        &format!("{model}distance, n = {N}, none, {phases}"),
+        &format!("{} plain calls", inputs[0].2.len()),
+        &inputs,
+        |(book, question, _)| rattle::distance(book, question, &mut out).map(drop_value),
+        |(book, _, plain)| {
+            for question in plain {
+                drop_value(rattle::answer(book, question, &mut other));
+            }
+        },
+    );
+}
+
+/// A flash with this outcome at P and at every step.
+fn nowhere(rng: &mut Rng, n: usize, outcome: u64, book: Drafts) -> Sheet {
+    // 100 kPa and the domain's ends are as far as that.
+    let [low, high] = [100_100.0, 400_000.0];
+    loop {
+        let (book, question) = accepted(rng, n, FLASH, book);
+        let first = flashed(&book, &question).expect("accepted");
+        let [bubble, dew] = [BUBBLE, DEW].map(|at| f64::from_bits(word(&first[8 * at..8 * at + 8])));
+        let p = match outcome {
+            1 => (bubble + 150_000.0).max(low),
+            2 => (dew - 150_000.0).min(high),
+            _ => (dew + bubble) / 2.0,
+        };
+        let apart = outcome != 3 || bubble - dew > 200_000.0;
+        if !(low..=high).contains(&p) || !apart {
+            continue;
+        }
+        let question = small::Ask(words_of(&question)).under(p).bytes_for(&book);
+        let found = search(&book, &question, Way::Sides);
+        if found.is_ok_and(|found| found.distance == Distance::None && found.refused.is_empty()) {
+            return (book, question);
+        }
+    }
 }

@@ -1,0 +1,3 @@
+-- What the contracts of distance cite. Assumes nothing.
+pub mod Distance
+pub mod Steps

@@ -1,0 +1,5 @@
+-- What holds of every distance. Assumes nothing.
+pub mod First
+pub mod Striking
+pub mod Numbered
+pub mod Refused

@@ -1,0 +1,2 @@
+// Laws of distances; no code.
+#![tactic(auto)]

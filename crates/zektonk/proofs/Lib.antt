@@ -1,0 +1,2 @@
+-- What the proofs of zektonk cite. Assumes nothing.
+mod Words
