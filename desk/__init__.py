@@ -15,7 +15,7 @@ docs/LINKING.md has more of this, docs/FORMAT.md what the words of an answer hol
 from pathlib import Path
 from typing import Union
 
-from . import answer, batch, distance, pool, queue, refusals
+from . import answer, batch, distance, library, pool, queue, readers, refusals
 from .answer import Blocks
 from .book import Book, Correlation, Interval, Model, Pair, Solvent, WilsonPair, encode
 from .core import Core
@@ -26,6 +26,7 @@ from .openbook import open_book, open_yard
 from .pool import Drum
 from .preview import Preview, pair_block
 from .question import Options, Question
+from .readers import Floor, NoAnswer
 from .tasks import BUBBLE_PRESSURE, BUBBLE_TEMPERATURE, DEW_PRESSURE, DEW_TEMPERATURE, FLASH, STABILITY, TASKS, Task
 
 EXCESS, RACHFORD_RICE, RACHFORD_RICE_NEGATIVE = TASKS[0], TASKS[7], TASKS[8]
@@ -38,10 +39,20 @@ def open_core(book: bytes) -> Union[Library, Core]:
     return Library(book) if find() else Core(book)
 
 
+def floor(content: bytes) -> Floor:
+    """What the floor is shown of an answer's blocks: by the shared library where it is built, else by `readers`."""
+    return (library if library.offers("zektonk_floor") else readers).floor(content)
+
+
+def lab(content: bytes) -> bytes:
+    """What the lab is shown: the answer's block and its trials."""
+    return (library if library.offers("zektonk_lab") else readers).lab(content)
+
+
 __all__ = [
-    "Blocks", "Book", "Core", "Correlation", "DeskError", "Distance", "Drum", "Interval", "Library", "Model", "Options",
-    "Pair", "Preview", "Question", "Solvent", "Task", "WilsonPair", "BUBBLE_PRESSURE", "BUBBLE_TEMPERATURE",
-    "DEW_PRESSURE", "DEW_TEMPERATURE", "EXCESS", "FLASH", "RACHFORD_RICE", "RACHFORD_RICE_NEGATIVE", "STABILITY",
-    "TASKS", "answer", "batch", "distance", "encode", "find", "open_book", "open_core", "open_yard", "pair_block",
-    "pool", "queue", "refusals",
+    "Blocks", "Book", "Core", "Correlation", "DeskError", "Distance", "Drum", "Floor", "Interval", "Library", "Model",
+    "NoAnswer", "Options", "Pair", "Preview", "Question", "Solvent", "Task", "WilsonPair", "BUBBLE_PRESSURE",
+    "BUBBLE_TEMPERATURE", "DEW_PRESSURE", "DEW_TEMPERATURE", "EXCESS", "FLASH", "RACHFORD_RICE",
+    "RACHFORD_RICE_NEGATIVE", "STABILITY", "TASKS", "answer", "batch", "distance", "encode", "find", "floor", "lab",
+    "open_book", "open_core", "open_yard", "pair_block", "pool", "queue", "readers", "refusals",
 ]  # fmt: skip

@@ -3,7 +3,7 @@
 from dataclasses import dataclass
 from typing import List, Tuple
 
-from .blocks import BLOCK, Rule, Words, check_right, float_of, split
+from .blocks import BLOCK, Rule, Words, check_right, float_of, packed, split
 from .book import MOST_SOLVENTS, Model
 from .errors import DeskError
 from .tasks import Task
@@ -56,6 +56,11 @@ class Blocks:
 
     def real(self, at: int) -> float:
         return float_of(self.head[at])
+
+    @property
+    def content(self) -> bytes:
+        """The bytes that they were read from."""
+        return b"".join(map(packed, (self.head, *self.trials)))
 
     def notes(self, model: Model = Model.NRTL) -> List[Tuple[str, str]]:
         """Names and words."""

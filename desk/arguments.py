@@ -43,6 +43,8 @@ TRY_HELP = (
     "of a yard text, the section itself as 'pair NAME NAME: KEY = VALUE; KEY = VALUE', or a pair's block of 512 bytes"
 )
 FAR = "./sheet distance --drum ethanol=0.5,water=0.5 --temperature 78.29C --pressure 90kPa"
+FLOOR_HELP = "half a page for the floor: outcome, T, p, vapor fraction, compositions, and whether the liquid splits"
+FLOOR = "./sheet flash --drum ethanol=0.5,water=0.5 --temperature 78.29C --pressure 90kPa --floor"
 TRYING = "./sheet bubble-temperature --drum ethanol=0.3,water=0.7 --pressure 1atm --try yard/try.txt"
 MANY = "./sheet flash --drums yard/week.csv --temperature 76C --pressure 1bar"
 SHIFT = "./sheet queue --questions yard/shift.csv --allowance 5000"
@@ -100,7 +102,7 @@ def parser() -> Parser:
         + "\n  ".join(EXAMPLES.values())
         + "\n  ./sheet strike flash --drum ethanol=0.5,water=0.5 --temperature 78.29C --pressure 90kPa"
         + "\n  "
-        + "\n  ".join((*WEIGHED, MANY, SHIFT, TRYING, FAR, *LAYERS))
+        + "\n  ".join((*WEIGHED, MANY, SHIFT, TRYING, FAR, FLOOR, *LAYERS))
         + "\n  ./sheet diagram txy --pair ethanol,water --pressure 101325Pa -o txy.svg"
         + f"\n\n{STATUSES}",
     )
@@ -186,6 +188,7 @@ def _add_task(commands, task: tasks.Task) -> None:
         _add_limit(command)
     if task.takes_options:
         _add_options(command)
+    command.add_argument("--floor", action="store_true", help=FLOOR_HELP)
     command.add_argument(
         "--strike", action="store_true", help="ask again with the drum's solvents alone, and compare word by word"
     )

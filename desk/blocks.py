@@ -67,6 +67,11 @@ def joined(blocks: List[Words]) -> bytes:
     return b"".join(sealed(words, rule) for words in blocks)
 
 
+def packed(words: Words) -> bytes:
+    """The bytes of a block from all of its words, whatever its check."""
+    return _LAYOUT.pack(*words)
+
+
 def words_of(block: bytes) -> Words:
     return list(_LAYOUT.unpack(block))
 

@@ -8,9 +8,10 @@ from dataclasses import replace
 from typing import Iterator, List, Optional, Tuple, Union
 
 from . import (
-    answer, batch, building, core, diagram, distancereport, drumlist, explain, files, jsonsheet, layersreport, library
+    answer, batch, building, core, diagram, distancereport, drumlist, explain, files, floorreport, jsonsheet
 )
-from . import listreport, picture, queuereport, refusals, report, strikereport, tasks, text, units, yardcheck
+from . import layersreport, library, listreport, picture, queuereport, readers, refusals, report, strikereport, tasks
+from . import text, units, yardcheck
 from .arguments import commands_of, options_of, parser
 from .book import VERSION, Model, encode
 from .distancesheet import distance_sheet
@@ -56,11 +57,17 @@ def ask(arguments: argparse.Namespace) -> int:
     for option in LIST_OPTIONS:
         if getattr(arguments, option, None):
             raise DeskError(f"--{option.replace('_', '-')} belongs to --drums")
+    if arguments.floor and (arguments.details or arguments.strike):
+        other = "--details" if arguments.details else "strike"
+        raise DeskError(f"--floor is half a sheet, and {other} takes a whole one")
     with _asked(arguments, tasks.BY_COMMAND[arguments.command]) as (_, sheet):
         pass
     if arguments.strike:
         return _strike(arguments, sheet)
-    sys.stdout.write((jsonsheet if arguments.json else report).render(sheet, arguments.details))
+    if arguments.floor:
+        _show_floor(arguments, sheet)
+    else:
+        sys.stdout.write((jsonsheet if arguments.json else report).render(sheet, arguments.details))
     return _ended(sheet, sheet.judgement.mark)
 
 
@@ -88,6 +95,16 @@ def _asked(arguments: argparse.Namespace, task: tasks.Task, call: str = "") -> I
         if tried and sheet.blocks.refusal not in batch.OF_THE_BOOK:
             tried = replace(tried, own=_sheet(program.core, book, feed, question, advise=False))
         yield program, replace(sheet, label=_label(arguments), date=today(), tried=tried)
+
+
+def _show_floor(arguments: argparse.Namespace, sheet: Sheet) -> None:
+    """By the library's reader where it is built, as the core is asked."""
+    by_library = arguments.program == core.PROGRAM and library.offers("zektonk_floor")
+    floor = (library if by_library else readers).floor(sheet.blocks.content)
+    if arguments.json:
+        sys.stdout.write(jsonsheet.dumped(floorreport.document(sheet, floor)))
+    else:
+        sys.stdout.write(floorreport.render(sheet, floor))
 
 
 Asked = Union[core.Core, library.Library, Preview]
@@ -125,6 +142,8 @@ def ask_many(arguments: argparse.Namespace) -> int:
     """Of one of the tasks at a temperature, a list of drums."""
     if arguments.strike:
         raise DeskError("strike takes one drum at a time, --drum or --mass")
+    if arguments.floor:
+        raise DeskError("--floor takes one drum at a time, --drum or --mass; --drums has a table of its own")
     _expect_one_form(arguments)
     book = open_book(arguments.book, arguments.names)
     drums = drumlist.read(arguments.drums, book, arguments.by_mass, arguments.normalize, _skip(arguments))

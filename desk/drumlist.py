@@ -80,7 +80,7 @@ def read(
     over."""
     separator, rows = _rows(path)
     if not rows:
-        raise DeskError(f"{path} is empty; a list of drums begins with a line of the solvents' names")
+        raise DeskError(f"{path} is empty; the table begins with a line of names")
     skipped = _skipped(path, rows[0].cells, skip)
     columns = _columns(f"{path}, line {rows[0].line}", rows[0].cells, book, skipped, settings)
     found: List[Listed] = []
@@ -96,7 +96,7 @@ def read(
     if wrong:
         raise DeskError(f"{path}, {wrong[0][1]}{_others([line for line, _ in wrong[1:]])}")
     if not found:
-        raise DeskError(f"{path} has no drums: nothing stands below its line of names")
+        raise DeskError(f"{path} has nothing below its line of names")
     return found
 
 
@@ -109,13 +109,13 @@ def _others(lines: List[int]) -> str:
 
 def _rows(path: str) -> Tuple[str, List[Row]]:
     """What separates the cells, and the lines that hold something."""
-    content = files.read(path, "a list of drums", MOST_BYTES)
+    content = files.read(path, "a table", MOST_BYTES)
     try:
         text = content.decode("utf-8-sig")
     except UnicodeDecodeError:
         text = "\0"
     if "\0" in text:
-        raise DeskError(f"{path} is not a list of drums: no text in UTF-8; save the table as CSV, in UTF-8")
+        raise DeskError(f"{path} is not a table: no text in UTF-8; save the table as CSV, in UTF-8")
     head = next((line for line in text.splitlines() if line.strip()), "")
     separator = next((sign for sign in SEPARATORS if sign in head), SEPARATORS[-1])
     return separator, [row for row in _numbered(path, text, separator) if any(row.cells)]

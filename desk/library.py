@@ -5,7 +5,7 @@ import os
 from pathlib import Path
 from typing import Callable, List, Optional, Sequence, Tuple
 
-from . import answer, batch, distance, queue
+from . import answer, batch, distance, queue, readers
 from .blocks import BLOCK, rule_of, sealed, words_of
 from .core import ROOT
 from .distance import Distance
@@ -13,6 +13,7 @@ from .errors import DeskError
 from .feed import Fractions
 from .pool import Drum, bytes_of
 from .question import Question
+from .readers import FLOOR_WORDS, Floor, NoAnswer
 
 NAME = "libzektonk.so"
 FOLDER = ROOT / "target" / "staticlib"
@@ -26,6 +27,8 @@ _ARGUMENTS = {
     "zektonk_answer": _LENT * 3,
     "zektonk_queue": [*_LENT * 2, ctypes.c_uint64, *_LENT],
     "zektonk_distance": [*_LENT * 2, *_WORDS],
+    "zektonk_floor": [*_LENT, *_WORDS],
+    "zektonk_lab": _LENT,
 }  # of the calls that don't take four slices of bytes
 
 
@@ -53,9 +56,7 @@ class Library:
     """Asks the core about one book, as `Core` does. Threads may share one: a call keeps nothing."""
 
     def __init__(self, book: bytes, path: Optional[Path] = None):
-        self.path = path or find()
-        if self.path is None:
-            raise DeskError(f"the library {folder() / NAME} is not there; scripts/shared-library builds it")
+        self.path = _there(path)
         self.book = book[:BOOK_MOST]
         self.rule = rule_of(self.book)
         self._call = _loaded(self.path)
@@ -138,6 +139,29 @@ class Library:
         return room[: BLOCK * (1 + trials)]
 
 
+def floor(content: bytes, path: Optional[Path] = None) -> Floor:
+    """What the floor is shown of an answer; `readers.floor` by the core."""
+    words = (ctypes.c_uint64 * FLOOR_WORDS)()
+    if _loaded(_there(path), "zektonk_floor")(content, len(content), words, FLOOR_WORDS) == readers.NO_ANSWER:
+        raise NoAnswer
+    return Floor(tuple(words))
+
+
+def lab(content: bytes, path: Optional[Path] = None) -> bytes:
+    """What the lab is; `readers.lab` by the core."""
+    length = _loaded(_there(path), "zektonk_lab")(content, len(content))
+    if not length:
+        raise NoAnswer
+    return content[:length]
+
+
+def _there(path: Optional[Path]) -> Path:
+    found = path or find()
+    if found is None:
+        raise DeskError(f"the library {folder() / NAME} is not there; scripts/shared-library builds it")
+    return found
+
+
 def _lent(*slices: bytes) -> List[object]:
     """Each with its length."""
     return [part for lent in slices for part in (lent, len(lent))]
@@ -150,5 +174,5 @@ def _loaded(path: Path, name: str = "zektonk_answer") -> Callable[..., int]:
     except (OSError, AttributeError) as error:
         raise DeskError(f"the library {path} can't be called: {error}") from None
     call.argtypes = _ARGUMENTS.get(name, _LENT * 4)
-    call.restype = ctypes.c_uint64
+    call.restype = ctypes.c_size_t if name == "zektonk_lab" else ctypes.c_uint64
     return call

@@ -2,7 +2,7 @@
 
 from typing import Any, Dict, List
 
-from . import jsonsheet, text
+from . import explain, jsonsheet, text
 from .listsheet import ANSWERED, MARKED, REFUSED, reason
 from .queuesheet import PUT_OFF, QueueRow, QueueSheet
 from .rowreport import Lines, RowReport, csv_cell, csv_cells, row_document, settings_document, spreadsheet
@@ -18,6 +18,7 @@ UNTOLD = (
     "(at most) The program still doesn't say how many evaluations a refused flash began: all that it asked for is "
     "counted. scripts/shared-library builds the library, which has the queue's own call."
 )
+ASKS_FOR_MORE = "It then asks for more of the allowance, so that others may be put off."
 CSV_FIRST = (
     "line", "label", "status", "refusal", "reason", "warning", "asks_for", "took", "left", "one_liquid_layer", "feed"
 )
@@ -82,7 +83,10 @@ class QueueReport(RowReport):
         return f"PUT OFF: {why(row)}" if row.status == PUT_OFF else super()._remark(row)
 
     def _advice(self, row: QueueRow) -> Lines:
-        return text.wrapped(advice(self.sheet, row)) if row.status == PUT_OFF else super()._advice(row)
+        if row.status == PUT_OFF:
+            return text.wrapped(advice(self.sheet, row))
+        not_converged = row.sheet.blocks.refusal == explain.NOT_CONVERGED and not row.sheet.judgement.mark
+        return super()._advice(row) + (text.wrapped(ASKS_FOR_MORE) if not_converged else [])
 
 
 def _counts(row: QueueRow) -> List[str]:

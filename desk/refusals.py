@@ -73,7 +73,8 @@ REFUSALS: Dict[int, Refusal] = {
         "stay inside the ranges, or narrow --bracket; ./sheet show lists the ranges",
     ),
     23: Refusal(
-        "a pressure, given or found, lies outside 100 to 500,000 Pa", "the model holds for low pressures alone"
+        "a pressure, given or found, lies outside 100 to 500,000 Pa",
+        "give a pressure of 100 to 500,000 Pa: the model holds for low pressures alone",
     ),
     24: Refusal("an NRTL alpha is not positive at this temperature", "correct the pair's alpha in the yard text"),
     25: Refusal(

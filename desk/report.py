@@ -41,6 +41,8 @@ Lines = List[str]
 
 
 class Report:
+    short = False
+
     def __init__(self, sheet: Sheet, details: bool = False):
         self.sheet, self.details = sheet, details
 
@@ -167,7 +169,8 @@ class Report:
         rows = [[sheet.book.names[i]] + [self.fraction(values[i]) for _, values in columns] for i in sheet.present()]
         lines = text.table(["mole fractions"] + [name for name, _ in columns], rows)
         names, amounts = [sheet.book.names[i] for i in sheet.present()], dict(phase_amounts(sheet))
-        return lines + mass_tables(sheet.by_mass, sheet.feed, columns, amounts, sheet.present(), names, self.details)
+        places = sheet.present()
+        return lines + mass_tables(sheet.by_mass, sheet.feed, columns, amounts, places, names, self.details, self.short)
 
     def _one_layer(self) -> Lines:
         yes = self.sheet.book.one_layer_words(self.sheet.present())
@@ -284,15 +287,19 @@ def mass_tables(
     places: Sequence[int],
     names: Sequence[str],
     details: bool,
+    one: bool = False,
 ) -> Lines:
-    """Mass fractions of the columns' phases, and their kg where a phase's amount and the drum's weight are known."""
+    """Mass fractions of the columns' phases, and their kg where a phase's amount and the drum's weight are known; where
+    `one` table is wanted the kg alone."""
     if mass is None:
         return []
-    sent = "drum" if feed.by_mass else None
-    found = [(name, feed.fractions if name == sent else mass.fractions(moles)) for name, moles in columns]
-    rows = [[name] + [text.fraction(values[i], details) for _, values in found] for i, name in zip(places, names)]
-    lines = [""] + text.table(["mass fractions"] + [name for name, _ in found], rows)
     weighed = [(name, moles) for name, moles in columns if name in amounts] if feed.kilograms else []
+    lines: Lines = []
+    if not (one and weighed):
+        sent = "drum" if feed.by_mass else None
+        found = [(name, feed.fractions if name == sent else mass.fractions(moles)) for name, moles in columns]
+        rows = [[name] + [text.fraction(values[i], details) for _, values in found] for i, name in zip(places, names)]
+        lines += [""] + text.table(["mass fractions"] + [name for name, _ in found], rows)
     if weighed:
         whole = feed.called
         kilograms = [feed.kilograms if name == whole else mass.kilograms(x, amounts[name]) for name, x in weighed]

@@ -5,7 +5,7 @@
  * by a second call with drums besides, whose pool is the feed; by a third with up to 64 feeds, each answered by itself;
  * by a fourth with a pair's block that is tried in place of the book's own; by a fifth with up to 64 flash questions,
  * which are run in order as far as one allowance of work goes; by a sixth, how far a flash's pressure can rise or fall
- * until its outcome changes.
+ * until its outcome changes. Two readers show an answer to the floor and to the lab.
  * docs/FORMAT.md says what each word holds, docs/LINKING.md has the commands. Link with libzektonk.a, for x86-64 Linux.
  *
  * A block is 512 bytes: 64 little-endian words of 64 bits, a float as its bits. Word 63 is the check of words 0 to 62,
@@ -48,6 +48,8 @@ extern "C" {
 #define ZEKTONK_QUEUE_MOST 64    /* questions of one queue */
 #define ZEKTONK_DISTANCE_WORDS 4 /* that zektonk_distance gives */
 #define ZEKTONK_STEPS_MOST 1000  /* of a distance, each way */
+#define ZEKTONK_TRIALS_MOST 8    /* of an answer */
+#define ZEKTONK_FLOOR_WORDS 22   /* that zektonk_floor gives */
 #define ZEKTONK_FORMAT_VERSION 1 /* word 1 of block 0 of a book without molar masses, */
 #define ZEKTONK_FORMAT_VERSION_MASS 2 /* of a book with them, which takes feeds by mass too, */
 #define ZEKTONK_FORMAT_VERSION_RUNNING 3 /* and of one whose checks are running sums besides */
@@ -201,6 +203,18 @@ enum zektonk_distance_word {
     ZEKTONK_DISTANCE_WORD_REFUSED = 3  /* steps before it that are refused, or of all */
 };
 
+/* The words that zektonk_floor gives: words 1 to 5, 11 and 14 to 29 of an answer; of task 1 all behind PRESSURE are 0. */
+enum zektonk_floor_word {
+    ZEKTONK_FLOOR_WORD_TASK = 0,
+    ZEKTONK_FLOOR_WORD_REFUSAL = 1,
+    ZEKTONK_FLOOR_WORD_OUTCOME = 2,
+    ZEKTONK_FLOOR_WORD_TEMPERATURE = 3, /* K */
+    ZEKTONK_FLOOR_WORD_PRESSURE = 4,    /* Pa */
+    ZEKTONK_FLOOR_WORD_VAPOR_FRACTION = 5,
+    ZEKTONK_FLOOR_WORD_LIQUID = 6, /* 8 words */
+    ZEKTONK_FLOOR_WORD_VAPOR = 14  /* 8 words */
+};
+
 /* Tasks, word 1 of a question and of its answer. */
 enum zektonk_task {
     ZEKTONK_EXCESS_AT = 1,
@@ -232,11 +246,12 @@ enum zektonk_validity { ZEKTONK_UNASSESSED = 0, ZEKTONK_WITHIN = 1, ZEKTONK_EXTR
  * after 12 and, of a feed by mass, 34 after 18; the others, and 15 to 18 and 34 once more, where the calculation puts
  * them. 31 and 32 are zektonk_pooled's alone, after 12 and ahead of 36; 33 is zektonk_feeds's alone, after 9 and ahead
  * of 10. There zektonk_preview puts 1, 2, 7, 8 and 9 to the offered block too. 39 is zektonk_queue's alone, in the place
- * of 33. zektonk_distance doesn't put 10.
+ * of 33. zektonk_distance doesn't put 10, zektonk_floor gives 1 and 10 alone.
  */
 enum zektonk_refusal {
     ZEKTONK_ANSWERED = 0,
-    ZEKTONK_BOOK_LENGTH = 1,              /* no whole blocks, or none; an offered block that isn't 512 bytes */
+    ZEKTONK_BOOK_LENGTH = 1,              /* no whole blocks, or none; an offered block that isn't 512 bytes; a slice
+                                             to be read that doesn't begin with an answer's blocks */
     ZEKTONK_BOOK_CHECK = 2,               /* a block's word 63, by the version; the offered block's too */
     ZEKTONK_BOOK_HEAD = 3,                /* kind, n of 1 to 8, or the number of blocks */
     ZEKTONK_SOLVENT_BLOCK = 4,            /* kind, index, CAS number 0, or a term count not of 1 to 8 */
@@ -245,7 +260,8 @@ enum zektonk_refusal {
     ZEKTONK_PAIR_BLOCK = 7,               /* kind, i and j, or a flag not 0 or 1; offered, any i < j of the book's */
     ZEKTONK_PAIR_NUMBER = 8,              /* a float not finite */
     ZEKTONK_PAIR_ALPHAS = 9,              /* alpha_ij and alpha_ji differ; NRTL */
-    ZEKTONK_ANSWER_SHORT = 10,            /* fewer than ZEKTONK_ANSWER_ROOM bytes, for each feed or queued question */
+    ZEKTONK_ANSWER_SHORT = 10,            /* fewer than ZEKTONK_ANSWER_ROOM bytes, for each feed or queued question; of
+                                             zektonk_floor fewer than ZEKTONK_FLOOR_WORDS words */
     ZEKTONK_QUESTION_BLOCK = 11,          /* not 512 bytes, its check by the book's version, or its kind */
     ZEKTONK_TASK = 12,                    /* none of 1 to 9; of zektonk_feeds none of 1, 2, 3, 6 and 7; of
                                              zektonk_distance not 7 */
@@ -413,6 +429,38 @@ uint64_t zektonk_distance(const uint8_t *book, size_t book_len, const uint8_t *q
 static inline int64_t zektonk_signed_of(uint64_t word)
 {
     int64_t value;
+    memcpy(&value, &word, sizeof value);
+    return value;
+}
+
+/*
+ * What the floor is shown of an answer, and what the lab is: readers of what one of the calls above, or the program
+ * `still`, wrote to the front of a slice, of a feed or a queued question to the front of its own part. Operators need the
+ * outcome and not the residuals; the lab gets all of it.
+ *
+ * Both give number 1 where the slice doesn't begin with a block of kind 9 and as many whole blocks of kind 10 as its word
+ * 12 says, at most ZEKTONK_TRIALS_MOST. Checks are not tested, since the slice doesn't say its book's version, and what
+ * stands behind these blocks is not read. A refusal's block, and that of a question put off, is read as any other. What
+ * an accepted call wrote is always read, and the lab's bytes are exactly those that it wrote.
+ *
+ * zektonk_floor gives 0 and the words of enum zektonk_floor_word at the front of `words`, those behind them as they were;
+ * or 1, then 10 where `words_len`, which counts words, is below ZEKTONK_FLOOR_WORDS, and every word as it was. Two
+ * answers that are read give equal words exactly where they agree in words 1 to 5 and, outside task 1, in 11 and 14 to
+ * 29, however their trials and counts differ.
+ *
+ * zektonk_lab gives how many bytes at the front of `answer` are the answer's block and its trials; 0 says number 1.
+ *
+ * - `answer` is only read; any alignment and length will do, and NULL with length 0, as of zektonk_answer. `words` is
+ *   aligned as uint64_t is, and doesn't overlap it.
+ * - No state is kept, no memory is allocated. Both end within a microsecond.
+ */
+uint64_t zektonk_floor(const uint8_t *answer, size_t answer_len, uint64_t *words, size_t words_len);
+size_t zektonk_lab(const uint8_t *answer, size_t answer_len);
+
+/* The float whose bits a word holds, as those of zektonk_floor do. */
+static inline double zektonk_float_of(uint64_t word)
+{
+    double value;
     memcpy(&value, &word, sizeof value);
     return value;
 }

@@ -118,6 +118,18 @@ class Examples(InFolder):
         run = self.run_in_folder("sh", "-c", f'"{program}" nowhere "{QUESTION}"; echo "status $?"')
         self.assertTrue(run.stdout.endswith(b"from 90 Pa: refused: 1\nstatus 0\n"))
 
+    def test_floor_shows_the_outcome(self):
+        program = self.compiled(C / "floor.c")
+        self.assert_stored("floor.txt", self.run_in_folder(program, BOOK, QUESTION).stdout.decode("ascii"))
+        with desk.Core(BOOK.read_bytes()) as core:
+            blocks = core.ask_block(QUESTION.read_bytes())
+        due = blocks.real(desk.answer.VAPOR_FRACTION), 512 * (1 + len(blocks.trials))
+        stored = (C / "floor.txt").read_text(encoding="ascii")
+        self.assertIn(f"vapor fraction {due[0]:.5f}\n", stored)
+        self.assertTrue(stored.endswith(f"for the lab: {due[1]} bytes of 4608\n"))
+        run = self.run_in_folder("sh", "-c", f'"{program}" nowhere "{QUESTION}"; echo "status $?"')
+        self.assertEqual(run.stdout, b"refused: 1\nstatus 1\n")
+
     def test_header_alone(self):
         self.compiled(C / "ask.c")
         strict = ("-fsyntax-only", "-Wsign-conversion", *WARNINGS)

@@ -14,6 +14,7 @@ import desk.pool
 import desk.preview
 import desk.question
 import desk.queue
+import desk.readers
 import desk.refusals
 import desk.tasks
 from definitions import body, cases, every, fields, first, listed, numbers_of, spent, stated
@@ -39,6 +40,7 @@ QUESTION = short("zektonk_question_word", "ZEKTONK_QUESTION_WORD_")
 ANSWER = short("zektonk_answer_word", "ZEKTONK_ANSWER_WORD_")
 TRIAL = short("zektonk_trial_word", "ZEKTONK_TRIAL_WORD_")
 DISTANCE = short("zektonk_distance_word", "ZEKTONK_DISTANCE_WORD_")
+FLOOR = short("zektonk_floor_word", "ZEKTONK_FLOOR_WORD_")
 FEED = short("zektonk_feed", "ZEKTONK_FEED_")
 TASK = short("zektonk_task", "ZEKTONK_")
 REFUSAL = short("zektonk_refusal", "ZEKTONK_")
@@ -177,6 +179,33 @@ class Definitions(unittest.TestCase):
             " ∷ replicate 59 0)",
         )
         self.assertEqual([TRIAL[word] for word in ("COMPONENT", "DISTANCE", "ITERATIONS", "TRIVIAL")], [1, 2, 3, 4])
+
+    def test_readers(self):
+        """Words 1 to 5, 11 and 14 to 29, of task 1 the first five; 1, then 10."""
+        places, first = [*range(1, 6), ANSWER["VAPOR_FRACTION"], *range(ANSWER["LIQUID"], ANSWER["VAPOR"] + MOST)], 5
+        count, trials = (macros()[f"ZEKTONK_{name}"] for name in ("FLOOR_WORDS", "TRIALS_MOST"))
+        names = ("TASK", "REFUSAL", "OUTCOME", "TEMPERATURE", "PRESSURE", "VAPOR_FRACTION", "LIQUID", "VAPOR")
+        self.assertEqual(FLOOR, {name: places.index(ANSWER[name]) for name in names})
+        self.assertEqual(int(count), len(places))
+        rest = f"cond (eqb i {first}) {places[first]} ({places[-1] - len(places) + 1} + i)"
+        self.assertEqual(body("floor_place"), f"cond (ltb i {first}) (1 + i) ({rest})")
+        self.assertEqual(body("shown_of"), f"cond (eqb task {TASK['EXCESS_AT']}) {first} {count}")
+        shown = f"fill (λ i. word s (floor_place i)) (shown_of (word s {ANSWER['TASK']})) (replicate {count} 0)"
+        self.assertEqual(body("floor_words"), shown)
+        number, at = REFUSAL["BOOK_LENGTH"], ANSWER["TRIALS"]
+        tests = (
+            f"eqb (word s {ANY['KIND']}) {KIND['ANSWER']}",
+            f"leb (word s {at}) {trials}",
+            f"leb (part_length (word s {at})) (length s)",
+            f"trials_right s (word s {at})",
+        )
+        asked = " (".join(f"need ({test}) {number}" for test in tests)
+        self.assertTrue(body("part_of").startswith(f"{asked} (ok (part_length (word s {at}))"), body("part_of"))
+        self.assertEqual(body("part_length"), f"{BLOCK} * (1 + n)")
+        kind = f"eqb (word (block s (1 + k)) {ANY['KIND']}) {KIND['TRIAL']}"
+        self.assertEqual(body("trials_right"), f"all_to (λ k. {kind}) n")
+        room = f"need (leb {count} room) {REFUSAL['ANSWER_SHORT']} (ok ws)"
+        self.assertEqual(body("floor_to"), f"bind (floor_of s) (λ ws. {room})")
 
     def test_tasks(self):
         """`task1` to `task9` are chosen by their numbers; each has the solver that the header's name says."""
@@ -388,6 +417,8 @@ class Page(unittest.TestCase):
             names = [name for name in names if not name.endswith(("_LN_GAMMA", "_SLOPES"))]
             words = [word for name in names for word in span(page()[name])]
             self.assertEqual(words, list(range(1, last + 1)), block)
+        words = [word for name in page() if name.startswith("ZEKTONK_FLOOR_WORD_") for word in span(page()[name])]
+        self.assertEqual(words, list(range(int(macros()["ZEKTONK_FLOOR_WORDS"]))))
         self.assertEqual(list(WILSON.values()), list(range(PAIR["TAU_IJ"], PAIR["TAU_JI"])))
         words = [word for name in page() if name.startswith("ZEKTONK_DISTANCE_WORD_") for word in span(page()[name])]
         self.assertEqual(words, list(range(int(macros()["ZEKTONK_DISTANCE_WORDS"]))))
@@ -451,6 +482,14 @@ class Desk(unittest.TestCase):
         for bit, (name, _) in enumerate(there.NOTE_WORDS):
             notes = short("zektonk_note", "ZEKTONK_NOTE_")
             self.assertEqual(notes[name[len("A7-") :].replace("-", "_")], 1 << bit)
+
+    def test_floor(self):
+        called = {"TEMPERATURE": "T", "PRESSURE": "P"}
+        self.assertEqual({name: getattr(desk.readers, called.get(name, name)) for name in FLOOR}, FLOOR)
+        found = (desk.readers.FLOOR_WORDS, desk.readers.MOST_TRIALS)
+        self.assertEqual(found, tuple(int(macros()[f"ZEKTONK_{n}"]) for n in ("FLOOR_WORDS", "TRIALS_MOST")))
+        numbers = (desk.readers.NO_ANSWER, desk.readers.NO_ROOM)
+        self.assertEqual(numbers, (REFUSAL["BOOK_LENGTH"], REFUSAL["ANSWER_SHORT"]))
 
     def test_drums(self):
         found = (desk.pool.DRUM_BYTES, desk.pool.MOST_DRUMS, desk.pool.MOST_TOTAL)

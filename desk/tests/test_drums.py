@@ -40,8 +40,8 @@ CASES = {
 }
 # what is said, and the list
 BAD = {
-    "is empty; a list of drums begins with a line of the solvents' names": "\n \n",
-    "has no drums: nothing stands below its line of names": "label,ethanol\n\n,,\n",
+    "is empty; the table begins with a line of names": "\n \n",
+    "has nothing below its line of names": "label,ethanol\n\n,,\n",
     "line 1: 'etanol' is neither 'label' nor a solvent of yard/yard.txt, which has water, ethanol, methanol, acetone, "
     "2-propanol, toluene; --skip passes over a column; did you mean ethanol?": "label,etanol\na,1\n",
     "line 2: 'date' is neither 'label' nor a solvent": "\nlabel,ethanol,date\na,1,monday\n",
@@ -66,7 +66,7 @@ BAD = {
     "line 2: ethanol: unit 'l' in '40l' is not kg, g or t": "label,ethanol\na,40l\n",
     "line 2: water -1mol: no drum holds less than nothing": "label,water\na,-1mol\n",
     "line 2: a cell in quotes doesn't end, or something stands behind it": 'label,ethanol\n"a,1\nb,1\n',
-    "is not a list of drums: no text in UTF-8; save the table as CSV, in UTF-8": b"PK\3\4\0\0",
+    "is not a table: no text in UTF-8; save the table as CSV, in UTF-8": b"PK\3\4\0\0",
     "no text in UTF-8": b"label,ethanol\nS\xe4ure,1\n",
 }
 

@@ -303,6 +303,12 @@ class Sheets(InFolder):
             self.assertEqual(self.queue(*asked, "--allowance", "3000").status, status)
         # with hardly anything left no limit fits
         self.assertIn("raise the allowance to at least 2004.\n", self.queue(*asked, "--allowance", "7").out)
+        # a higher limit asks for more
+        self.file("list.csv", "label,ethanol,water,max iterations\na,0.5,0.5,2\n")
+        run = self.queue(*asked, "--allowance", "3000")
+        self.assertEqual(run.err, "sheet: 1 of 1 questions refused, number 27\n")
+        out = " ".join(run.out.split())
+        self.assertIn("It then asks for more of the allowance, so that others may be put off.", out)
 
     def test_enough_for_all(self):
         for allowance in (0, 500, 3000):

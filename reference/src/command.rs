@@ -3,7 +3,7 @@
 use crate::stage::{Stage, STAGES};
 
 pub const USAGE: &str =
-    "numbers|fractions|book|pressure|excess|rice|sheet|mass|exchanged|wilson|pooled|feeds|preview|queue|limits|distance|all [--count N] [--seed S] [--counts]";
+    "numbers|fractions|book|pressure|excess|rice|sheet|mass|exchanged|wilson|pooled|feeds|preview|queue|limits|distance|readers|all [--count N] [--seed S] [--counts]";
 
 pub struct Options {
     pub stages: Vec<Stage>,
@@ -39,6 +39,7 @@ impl Options {
             Stage::Feeds => 20_000,
             Stage::Queue => 10_000,
             Stage::Distance => 20_000,
+            Stage::Readers => 1_000_000,
             _ => 200_000,
         })
     }

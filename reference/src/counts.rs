@@ -8,6 +8,7 @@ mod kinds;
 mod limits;
 mod pairs;
 mod queues;
+mod slices;
 
 use std::collections::BTreeMap;
 
@@ -18,6 +19,7 @@ use flashes::Flashes;
 use limits::Raised;
 use pairs::Pairs;
 use queues::Queues;
+use slices::Slices;
 
 use crate::generate::cases::{Cases, Kind};
 use crate::generate::exchanged::{Exchange, PLACES};
@@ -295,6 +297,7 @@ pub struct Counts {
     queues: Queues,
     raised: Raised,
     distances: Distances,
+    slices: Slices,
     pub flashes: Flashes,
 }
 
@@ -311,6 +314,7 @@ impl Counts {
         self.pairs.add(case, found.refusal);
         self.queues.add(case, found);
         self.distances.add(case, found);
+        self.slices.add(case, found.refusal);
         self.flashes.add(case, found);
     }
 
@@ -323,6 +327,7 @@ impl Counts {
             Stage::Queue => self.queues.print(),
             Stage::Limits => self.raised.print(),
             Stage::Distance => self.distances.print(),
+            Stage::Readers => self.slices.print(),
             _ => {}
         }
         self.flashes.print();

@@ -15,6 +15,7 @@ pub mod pooled;
 pub mod previews;
 pub mod questions;
 pub mod queues;
+pub mod readers;
 pub mod rice;
 pub mod small;
 pub mod vanish;

@@ -117,6 +117,10 @@ extern "C" {
         result: *mut u64,
         result_len: usize,
     ) -> u64;
+
+    /// The readers of an answer slice; `words_len` counts words.
+    pub fn zektonk_floor(answer: *const u8, answer_len: usize, words: *mut u64, words_len: usize) -> u64;
+    pub fn zektonk_lab(answer: *const u8, answer_len: usize) -> usize;
 }
 
 /// `Some` of the call where its stage is built in.
@@ -278,4 +282,14 @@ pub fn distance(book: &[u8], question: &[u8], result: &mut [u64]) -> Option<u64>
             result.len()
         )
     )
+}
+
+/// The number, and the floor's words in `words`.
+pub fn floor(answer: &[u8], words: &mut [u64]) -> Option<u64> {
+    offered!("readers", zektonk_floor(answer.as_ptr(), answer.len(), words.as_mut_ptr(), words.len()))
+}
+
+/// Bytes of the lab's part, 0 for none.
+pub fn lab(answer: &[u8]) -> Option<usize> {
+    offered!("readers", zektonk_lab(answer.as_ptr(), answer.len()))
 }

@@ -9,6 +9,7 @@ pub mod pool;
 pub mod preview;
 pub mod question;
 pub mod queue;
+pub mod readers;
 pub mod reply;
 
 pub use book::{open_book, Book};

@@ -12,6 +12,7 @@ use crate::rattle;
 use crate::sheet::blocks::Rule;
 use crate::sheet::book::{Pairs, Solvent};
 use crate::sheet::distance::{self, Search, Way, RESULT_WORDS};
+use crate::sheet::readers;
 use crate::sheet::reply::TRIALS;
 use crate::sheet::{self, open_book, Book, ANSWER_BYTES};
 use crate::types::Temperature;
@@ -44,9 +45,11 @@ pub enum Stage {
     Limits,
     /// Distances to the next phase change.
     Distance,
+    /// Answer slices, for the floor and for the lab.
+    Readers,
 }
 
-pub const STAGES: [Stage; 16] = [
+pub const STAGES: [Stage; 17] = [
     Stage::Numbers,
     Stage::Fractions,
     Stage::Book,
@@ -63,6 +66,7 @@ pub const STAGES: [Stage; 16] = [
     Stage::Queue,
     Stage::Limits,
     Stage::Distance,
+    Stage::Readers,
 ];
 
 impl Stage {
@@ -84,6 +88,7 @@ impl Stage {
             Stage::Queue => "queue",
             Stage::Limits => "limits",
             Stage::Distance => "distance",
+            Stage::Readers => "readers",
         }
     }
 
@@ -113,11 +118,21 @@ impl Stage {
             Stage::Queue => cfg!(feature = "queue"),
             Stage::Limits => cfg!(feature = "limits"),
             Stage::Distance => cfg!(feature = "distance"),
+            Stage::Readers => cfg!(feature = "readers"),
         }
     }
 
     pub fn has_sheets(self) -> bool {
-        !matches!(self, Stage::Numbers | Stage::Fractions | Stage::Book | Stage::Pressure | Stage::Excess | Stage::Rice)
+        !matches!(
+            self,
+            Stage::Numbers
+                | Stage::Fractions
+                | Stage::Book
+                | Stage::Pressure
+                | Stage::Excess
+                | Stage::Rice
+                | Stage::Readers
+        )
     }
 }
 
@@ -196,6 +211,11 @@ pub enum Case {
         room: usize,
         way: Way,
     },
+    /// An answer slice, and room for so many words of the floor.
+    Readers {
+        slice: Vec<u8>,
+        room: usize,
+    },
 }
 
 /// One side's result: the refusal number (0 for an answer) and all words that were returned or written.
@@ -246,6 +266,12 @@ impl Case {
                     }
                     Err(number) => refused_or(number, words),
                 }
+            }
+            Case::Readers { slice, room } => {
+                let mut words = bytes_as_words(&unwritten(8 * room));
+                let number = readers::write_floor(slice, &mut words);
+                let bytes = readers::lab(slice).map_or(0, <[u8]>::len);
+                refused_or(number, with_number(bytes as u64, words))
             }
         }
     }
@@ -341,6 +367,14 @@ impl Case {
                 words.extend((black_box((&own, &asked)) != (book, question)).then_some(0));
                 Some(with_number(number, words))
             }
+            Case::Readers { slice, room } => {
+                let (own, mut words) = (slice.clone(), bytes_as_words(&unwritten(8 * room)));
+                let number = rattle::floor(&own, &mut words)?;
+                let bytes = rattle::lab(&own)? as u64;
+                // A word too many: the slice was written.
+                words.extend((black_box(&own) != slice).then_some(0));
+                Some(with_number(number, with_number(bytes, words)))
+            }
         }
     }
 
@@ -382,6 +416,10 @@ impl Case {
             Case::Raised { asked, limits } => {
                 return format!("{}, {}", asked.line(), asked.with_limits(*limits).line())
             }
+            Case::Readers { slice, room } => {
+                hex_bytes(&mut line, slice);
+                hex(&mut line, &[*room as u64]);
+            }
         }
         line
     }
@@ -395,6 +433,8 @@ impl Case {
             Case::Normalize { .. } | Case::Pressure { .. } | Case::Excess { .. } if words[0] == 0 => words.len(),
             Case::Rice { .. } if words[0] == 3 => words.len(),
             Case::Distance { room, .. } if words[0] == 0 && *room >= RESULT_WORDS => 1 + RESULT_WORDS,
+            // The number and the lab's bytes; then the floor's words.
+            Case::Readers { .. } => 2 + if words[0] == 0 { readers::FLOOR_WORDS } else { 0 },
             Case::Number { .. } | Case::Fractions { .. } | Case::Book { .. } => words.len(),
             _ => 1,
         };
@@ -426,6 +466,7 @@ impl Case {
             Case::With { with, .. } => with.name(),
             Case::Raised { asked, .. } => asked.name(),
             Case::Distance { .. } => "distance",
+            Case::Readers { .. } => "readers",
         }
     }
 }

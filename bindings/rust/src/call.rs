@@ -1,4 +1,4 @@
-//! The six calls of the core.
+//! The six calls of the core, and its two readers.
 
 use crate::{Distance, Refusal, DISTANCE_WORDS};
 
@@ -63,6 +63,10 @@ extern "C" {
         result: *mut u64,
         result_len: usize,
     ) -> u64;
+
+    fn zektonk_floor(answer: *const u8, answer_len: usize, words: *mut u64, words_len: usize) -> u64;
+
+    fn zektonk_lab(answer: *const u8, answer_len: usize) -> usize;
 }
 
 /// Answers `question` from `book`: the answer's block, and as many trial blocks as its word 12 says, at the front of
@@ -342,6 +346,33 @@ pub fn distance_bytes(book: &[u8], question: &[u8]) -> Result<Distance, Refusal>
     };
     ended(number)?;
     Ok(words.into())
+}
+
+/// The words of [`floor`](crate::floor) at the front of `words`, whose other words stay, for who keeps words; with a
+/// refusal every word stays.
+///
+/// # Errors
+///
+/// [`BookLength`](Refusal::BookLength), number 1, where `answer` doesn't begin with an answer's blocks; then
+/// [`AnswerShort`](Refusal::AnswerShort), number 10, where fewer than [`FLOOR_WORDS`](crate::FLOOR_WORDS) words are lent.
+///
+/// # Panics
+///
+/// Where the core gives a number that is no refusal, which it is proved not to.
+pub fn floor_words(answer: &[u8], words: &mut [u64]) -> Result<(), Refusal> {
+    // SAFETY: as above.
+    #[allow(unsafe_code)]
+    let number = unsafe { zektonk_floor(answer.as_ptr(), answer.len(), words.as_mut_ptr(), words.len()) };
+    ended(number)
+}
+
+/// Bytes of the lab's part; 0 for number 1.
+pub(crate) fn lab_length(answer: &[u8]) -> usize {
+    // SAFETY: as above; nothing is written.
+    #[allow(unsafe_code)]
+    unsafe {
+        zektonk_lab(answer.as_ptr(), answer.len())
+    }
 }
 
 fn ended(number: u64) -> Result<(), Refusal> {

@@ -160,6 +160,20 @@ named! {
 }
 
 named! {
+    /// Words of a [`Floor`](crate::Floor): words 1 to 5, 11 and 14 to 29 of an answer, all behind the pressure 0 in task 1.
+    floor: usize {
+        TASK = 0 "The task that was asked"
+        REFUSAL = 1 "0, or the number of a refusal"
+        OUTCOME = 2 "Which phases there are, in tasks 7 to 9"
+        TEMPERATURE = 3 "T asked or found, K"
+        PRESSURE = 4 "p asked or found, Pa"
+        VAPOR_FRACTION = 5 "Moles of vapor per mole of feed"
+        LIQUID = 6 "Eight mole fractions of the liquid"
+        VAPOR = 14 "Eight mole fractions of the vapor"
+    }
+}
+
+named! {
     /// Words of a trial.
     trial: usize {
         COMPONENT = 1 "The solvent's index"

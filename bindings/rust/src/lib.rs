@@ -25,7 +25,8 @@
 //! 64 feeds at one temperature go into one call by [`feeds`], and each has its own answer or refusal. A pair is tried
 //! before it is entered by [`preview`]: an [`Offered`] one stands in for the book's own, and the book stays as it is. A
 //! shift's flash questions go by [`queue`] under one allowance of work; what doesn't fit is put off. How far a flash's
-//! pressure can rise or fall until its outcome changes is said by [`distance`].
+//! pressure can rise or fall until its outcome changes is said by [`distance`]. Of what a call wrote [`floor`] gives the
+//! outcome alone, a [`Floor`], and [`lab`] all of it.
 //!
 //! This side tests that feed and K values have an entry for each solvent of the book, and nothing else: what a question
 //! says goes to the core as it is, and the core answers it or refuses with one of its numbers. What a changed rounding
@@ -44,6 +45,7 @@ pub mod format;
 mod preview;
 mod question;
 mod queue;
+mod readers;
 mod refusal;
 mod tasks;
 mod up_to_eight;
@@ -55,13 +57,14 @@ pub use block::{Block, Rule, Words, BLOCK};
 pub use book::{
     Book, Builder, Correlation, Incomplete, Interval, Model, Pair, Solvent, Term, WilsonPair, BOOK_LARGEST, BOOK_MOST,
 };
-pub use call::{answer_bytes, distance_bytes, feeds_bytes, pooled_bytes, preview_bytes, queue_bytes};
+pub use call::{answer_bytes, distance_bytes, feeds_bytes, floor_words, pooled_bytes, preview_bytes, queue_bytes};
 pub use distance::{distance, Distance, DISTANCE_WORDS, STEPS_MOST, STEP_PASCALS};
 pub use drum::{pooled, Drum, DRUMS_MOST, DRUM_BYTES, POOL_MOST};
 pub use feeds::{feeds, FEEDS_MOST, FEED_BYTES};
 pub use preview::{preview, Offered};
 pub use question::{Feed, Kelvin, Options, Pascal, Question, Task};
 pub use queue::{most_evaluations, queue, Queued, QUEUE_MOST};
+pub use readers::{floor, lab, Floor, FLOOR_WORDS};
 pub use refusal::Refusal;
 pub use tasks::{
     bubble_pressure, bubble_temperature, dew_pressure, dew_temperature, excess_at, liquid_stability, rachford_rice,

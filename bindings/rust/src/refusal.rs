@@ -79,7 +79,7 @@ macro_rules! refusals {
 }
 
 refusals! {
-    1 BookLength "the book is empty or not of whole blocks, or an offered block is not 512 bytes"
+    1 BookLength "the book is empty or not of whole blocks, an offered block is not 512 bytes, or a slice to be read doesn't begin with an answer"
     2 BookCheck "a check of the book or of the offered block is wrong"
     3 BookHead "the book's kind, number of solvents or number of blocks is wrong"
     4 SolventBlock "a solvent's kind, index, CAS number or term count is wrong"
@@ -88,7 +88,7 @@ refusals! {
     7 PairBlock "a pair's kind, places or flags are wrong"
     8 PairNumber "a pair's numbers are not finite"
     9 PairAlphas "the two alphas of a pair differ"
-    10 AnswerShort "the answer slice is shorter than 4,608 bytes, or than that for each feed or queued question"
+    10 AnswerShort "the answer slice is shorter than 4,608 bytes, or than that for each feed or queued question, or fewer than 22 words are lent"
     11 QuestionBlock "the question is not 512 bytes, or its check or kind is wrong"
     12 Task "the task is none of 1 to 9, with many feeds none of 1, 2, 3, 6 and 7, or of a distance not 7"
     13 Temperature "the temperature is not finite and positive"

@@ -4,7 +4,7 @@
 use zektonk::format;
 use zektonk::{
     Options, Refusal, ANSWER_ROOM, BLOCK, BOOK_LARGEST, BOOK_MOST, DISTANCE_WORDS, DRUMS_MOST, DRUM_BYTES, FEEDS_MOST,
-    FEED_BYTES, POOL_MOST, QUEUE_MOST, STEPS_MOST, STEP_PASCALS, VERSION,
+    FEED_BYTES, FLOOR_WORDS, POOL_MOST, QUEUE_MOST, STEPS_MOST, STEP_PASCALS, VERSION,
 };
 
 const HEADER: &str = include_str!("../../c/zektonk.h");
@@ -58,6 +58,7 @@ fn words() {
     same("zektonk_answer_word", "ZEKTONK_ANSWER_WORD_", format::answer::ALL);
     same("zektonk_trial_word", "ZEKTONK_TRIAL_WORD_", format::trial::ALL);
     same("zektonk_distance_word", "ZEKTONK_DISTANCE_WORD_", format::distance::ALL);
+    same("zektonk_floor_word", "ZEKTONK_FLOOR_WORD_", format::floor::ALL);
 }
 
 #[test]
@@ -73,7 +74,7 @@ fn numbers() {
 
 #[test]
 fn every_enumeration_is_held() {
-    assert_eq!(HEADER.matches("\nenum zektonk_").count(), 17);
+    assert_eq!(HEADER.matches("\nenum zektonk_").count(), 18);
 }
 
 /// What a macro stands for.
@@ -101,6 +102,8 @@ fn sizes_and_version() {
         ("FEEDS_MOST", FEEDS_MOST),
         ("QUEUE_MOST", QUEUE_MOST),
         ("DISTANCE_WORDS", DISTANCE_WORDS),
+        ("TRIALS_MOST", ANSWER_ROOM / BLOCK - 1),
+        ("FLOOR_WORDS", FLOOR_WORDS),
     ] {
         assert_eq!(defined(name), value.to_string(), "{name}");
     }

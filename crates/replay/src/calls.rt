@@ -224,6 +224,27 @@ fn next_change(stored: &mut Stored) -> Option<()> {
     Some(())
 }
 
+// An answer slice and the room for words of the floor: the floor's number, how many bytes are the lab's and, where there are any,
+// the floor's words.
+fn read_sheets(stored: &mut Stored) -> Option<()> {
+    let mut answer = [0; 32768];
+    let mut shown = [0; 64];
+    let answer = stored.take_bytes(&mut answer)?;
+    let shown = shown.get_mut(..stored.take_count()?)?;
+    let filled = readers::write_floor(answer, shown);
+    stored.give(number_in(filled));
+    stored.give(match readers::lab(answer) {
+        Ok(part) => part.len() as u64,
+        Err(_) => 0,
+    });
+    if filled.is_ok() {
+        for word in shown.iter().take(22) {
+            stored.give(*word);
+        }
+    }
+    Some(())
+}
+
 // Takes the inputs of the function with that name, and gives its results; none where there is no such function, there are too
 // few inputs or too long a slice.
 // Kept: the names stand here and in the order of the report: an enum of the functions would name each a third time, and a table
@@ -274,6 +295,7 @@ pub(crate) fn call(name: &str, stored: &mut Stored) -> Option<()> {
             stored,
         )?,
         "distance" => next_change(stored)?,
+        "readers" => read_sheets(stored)?,
         _ => return None,
     }
     Some(())

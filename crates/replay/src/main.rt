@@ -10,7 +10,7 @@ mod calls;
 mod text;
 
 // The stored files.
-const FILES: [&str; 12] = [
+const FILES: [&str; 13] = [
     "numbers.txt",
     "fractions.txt",
     "book.txt",
@@ -23,13 +23,14 @@ const FILES: [&str; 12] = [
     "preview.txt",
     "queue.txt",
     "distance.txt",
+    "readers.txt",
 ];
 
 // More than any of them has.
 const FILE_BYTES: usize = 524288;
 
 // The functions, in the order of the report.
-const NAMES: [&str; 20] = [
+const NAMES: [&str; 21] = [
     "exp",
     "ln",
     "powf",
@@ -50,6 +51,7 @@ const NAMES: [&str; 20] = [
     "preview",
     "queue",
     "distance",
+    "readers",
 ];
 
 // Of a function: how many lines were replayed, and how many of them differ.
@@ -62,7 +64,7 @@ struct Function {
 
 #[derive(Clone, Copy)]
 struct Tally {
-    functions: [Function; 20],
+    functions: [Function; 21],
     unread: u64,
 }
 
@@ -82,7 +84,7 @@ impl Tally {
 }
 
 // The place of the function that a line calls, and whether its results differ; none where it could not be read.
-fn replay(line: &str, functions: &[Function; 20]) -> Option<(usize, bool)> {
+fn replay(line: &str, functions: &[Function; 21]) -> Option<(usize, bool)> {
     let (call, results) = line.split_once(" = ")?;
     let (name, inputs) = call.split_once(' ')?;
     let k = functions.iter().position(|f| f.name == name)?;

@@ -8,6 +8,7 @@ ghost use Rattle.batch.specs.Feeds.{feeds_of};
 ghost use Rattle.queue.specs.Queue.{queue_of};
 ghost use Rattle.preview.specs.Preview.{preview_of};
 ghost use Rattle.distance.specs.Distance.{distance_of, distance_number, four_words, four_in, distance_written};
+ghost use Rattle.readers.specs.Readers.{floor_to, Fills, lab_of, lab_bytes};
 
 use distance::Distance;
 use outcome::number_in;
@@ -97,5 +98,25 @@ pub extern "C" fn zektonk_distance(book: &[u8], question: &[u8], out: &mut [u64]
             0
         }
         Err(refusal) => u64::from(refusal),
+    }
+}
+
+// What the floor is shown of an answer: 0 and its 22 words at the front of `words`; or 1 where `answer` doesn't begin with an
+// answer's blocks, then 10 where fewer words are lent, and `words` as it was.
+#[unsafe(no_mangle)]
+pub extern "C" fn zektonk_floor(answer: &[u8], words: &mut [u64]) -> u64
+    ensures { Fills (floor_to answer.now (length words.old)) result words.old words.new }
+{
+    number_in(readers::write_floor(answer, words))
+}
+
+// How many bytes at the front of `answer` the lab is shown, the answer's block and its trials; 0 where it doesn't begin with these.
+#[unsafe(no_mangle)]
+pub extern "C" fn zektonk_lab(answer: &[u8]) -> usize
+    ensures { result ≡ lab_bytes (lab_of answer.now) }
+{
+    match readers::lab(answer) {
+        Ok(part) => part.len(),
+        Err(_) => 0,
     }
 }

@@ -1,7 +1,7 @@
 //! Calls the core with book, question and answer slices, and drums, feeds, an offered pair or a queue of questions, or for a distance,
 //! that end, or begin, at a page that can't be touched, and compares every byte with the reference.
 //!
-//! guarded [--count N] [--seed S]
+//! guarded [--count N] [--seed S]     N calls, and the readers on N/2 answer slices
 //!
 //! Each slice lies in pages of its own between two pages without access. All but the answer slice can't be written during
 //! the call; of the answer's pages every byte is compared, those outside the slice too.
@@ -15,14 +15,15 @@ use reference::counts::Tally;
 use reference::generate::cases::{sheets, Cases};
 use reference::generate::Rng;
 use reference::rattle::{
-    zektonk_answer, zektonk_distance, zektonk_feeds, zektonk_pooled, zektonk_preview, zektonk_queue,
+    zektonk_answer, zektonk_distance, zektonk_feeds, zektonk_floor, zektonk_lab, zektonk_pooled, zektonk_preview,
+    zektonk_queue,
 };
 use reference::sheet::anew::word;
 use reference::sheet::blocks::{bytes_of, rule_of, seal, words_of, Rule, BLOCK};
 use reference::sheet::distance::Way;
 use reference::sheet::feeds::FEED;
 use reference::sheet::question::{MAX_ITERATIONS, MAX_TEMPERATURE_ITERATIONS};
-use reference::sheet::{self, distance, ANSWER_BYTES};
+use reference::sheet::{self, distance, readers, ANSWER_BYTES};
 use reference::stage::{Case, Stage};
 use reference::with::With;
 
@@ -203,6 +204,26 @@ impl Pages {
             area.allow(READ_AND_WRITE);
         }
         number
+    }
+
+    /// Both readers on a slice, the floor's with room for so many words: its number, and whether all is as the reference has it.
+    fn read(&mut self, rng: &mut Rng, slice: &[u8], room: usize) -> (u32, bool) {
+        let (slice_at_end, words_at_end, null) = (rng.one_in(2), rng.one_in(2), rng.one_in(4));
+        let Noisy { area, noise } = &mut self.answers[0];
+        let to = area.place(8 * room, words_at_end);
+        let mut expected = noise.clone();
+        let number = in_words(&mut expected[to..to + 8 * room], |words| readers::write_floor(slice, words));
+        area.fill(0, noise);
+        let from = self.more.place(slice.len(), slice_at_end);
+        self.more.fill(from, slice);
+        self.more.allow(READ);
+        let lent = |at: *mut u8, length: usize| if null && length == 0 { ptr::null_mut() } else { at };
+        let (s, w) = (lent(self.more.at(from), slice.len()), lent(area.at(to), room).cast());
+        // SAFETY: as in `offered`; the words lie at a multiple of eight.
+        let found = unsafe { (zektonk_floor(s, slice.len(), w, room), zektonk_lab(s, slice.len())) };
+        self.more.allow(READ_AND_WRITE);
+        let due = (number.into(), readers::lab(slice).map_or(0, <[u8]>::len));
+        (number, found == due && self.answers[0].area.bytes() == expected)
     }
 }
 
@@ -414,6 +435,19 @@ fn main() -> ExitCode {
         let (all, accepted, refused) = (tally.all(), tally.accepted(), tally.refused());
         println!("guarded, {what}: {all} calls, {accepted} accepted, refused {refused}");
     }
+    let mut tally = Tally::default();
+    for case in Cases::new(Stage::Readers, seed, false).take(count / 2) {
+        let Case::Readers { slice, room } = &case else { unreachable!("slices were asked for") };
+        let (number, same) = pages.read(&mut rng, &slice[..slice.len().min(MORE)], *room);
+        tally.add(number);
+        if !same {
+            differences += 1;
+            if differences <= SHOWN {
+                println!("difference: {} (reference {number})", case.line());
+            }
+        }
+    }
+    println!("guarded, readers: {} slices, {} read, refused {}", tally.all(), tally.accepted(), tally.refused());
     println!("guarded: {made} calls, {differences} differences");
     if differences == 0 {
         ExitCode::SUCCESS

@@ -13,6 +13,7 @@
 //! oracle full                                    flashes that begin as many evaluations as any can
 //! oracle limits-borders                          sheets with one turn too few or just enough, each as asked and with limits raised
 //! oracle distance-borders                        distances at the borders of the steps
+//! oracle readers-borders                         answer slices at the borders of 1 and 10
 
 use std::io::{BufWriter, Write};
 use std::process::ExitCode;
@@ -20,7 +21,9 @@ use std::process::ExitCode;
 use reference::command::{Options, USAGE};
 use reference::counts::{count_sheets, count_stage};
 use reference::generate::cases::Cases;
-use reference::generate::{batches, differences, distances, exchanged, limits, mass, pooled, previews, queues, wilson};
+use reference::generate::{
+    batches, differences, distances, exchanged, limits, mass, pooled, previews, queues, readers, wilson,
+};
 use reference::stage::{hex, hex_words, Case, Stage};
 
 /// Lines of a stage where no count is given.
@@ -39,6 +42,7 @@ fn main() -> ExitCode {
         ["queue-borders"] => Some(queues::borders().into_iter().map(|(case, _)| case).collect()),
         ["limits-borders"] => Some(limits::turns().into_iter().map(|(case, ..)| case).collect()),
         ["distance-borders"] => Some(distances::borders().into_iter().map(|(case, _)| case).collect()),
+        ["readers-borders"] => Some(readers::borders().into_iter().map(|(case, _)| case).collect()),
         ["full"] => Some(queues::full().iter().map(|found| found.case()).collect()),
         _ => None,
     };
@@ -46,7 +50,7 @@ fn main() -> ExitCode {
         return if write(cases.into_iter()).is_ok() { ExitCode::SUCCESS } else { ExitCode::FAILURE };
     }
     let Some(options) = Options::read(words.into_iter()) else {
-        eprintln!("usage: oracle differences|borders|exchanged-borders|wilson-borders|pooled-borders|feeds-borders|preview-borders|queue-borders|full|limits-borders|distance-borders|{USAGE}");
+        eprintln!("usage: oracle differences|borders|exchanged-borders|wilson-borders|pooled-borders|feeds-borders|preview-borders|queue-borders|full|limits-borders|distance-borders|readers-borders|{USAGE}");
         return ExitCode::from(2);
     };
     for stage in &options.stages {

@@ -3,7 +3,7 @@
 use super::exchanged::Exchange;
 use super::{
     batches, books, differences, distances, exchanged, feeds, limits, mass, numbers, pooled, previews, questions,
-    queues, rice, small, wilson, Rng,
+    queues, readers, rice, small, wilson, Rng,
 };
 use crate::sheet::open_book;
 use crate::stage::{Case, Function, Stage};
@@ -45,6 +45,8 @@ pub struct Cases {
     third: Option<Box<exchanged::Sheets>>,
     /// Where the stage is of raised limits.
     raised: Option<Box<limits::Calls>>,
+    /// Where it is of answer slices.
+    slices: Option<Box<readers::Slices>>,
     exchange: Option<Exchange>,
 }
 
@@ -65,12 +67,14 @@ impl Cases {
             Stage::Queue if !compact => queues::borders().into_iter().map(|(case, _)| case).collect(),
             Stage::Limits if !compact => limits::borders().into_iter().map(|(case, ..)| case).collect(),
             Stage::Distance if !compact => distances::borders().into_iter().map(|(case, _)| case).collect(),
+            Stage::Readers if !compact => readers::borders().into_iter().map(|(case, _)| case).collect(),
             _ => Vec::new(),
         };
         let rng = if compact { Rng::tidy(seed) } else { Rng::new(seed) };
         let third = (stage == Stage::Exchanged).then(|| Box::new(exchanged::Sheets::new(seed, compact)));
         let raised = (stage == Stage::Limits).then(|| Box::new(limits::Calls::new(seed, compact)));
-        Self { rng, stage, compact, first: first.into_iter(), third, raised, exchange: None }
+        let slices = (stage == Stage::Readers).then(|| Box::new(readers::Slices::new(seed, compact)));
+        Self { rng, stage, compact, first: first.into_iter(), third, raised, slices, exchange: None }
     }
 
     /// The random ones alone.
@@ -104,6 +108,9 @@ impl Cases {
         }
         if let Some(calls) = &mut self.raised {
             return calls.draw();
+        }
+        if let Some(slices) = &mut self.slices {
+            return (Kind::Realistic, slices.draw());
         }
         let n = self.solvents();
         match self.stage {

@@ -1,7 +1,7 @@
 //! Times of the core, of the reference and, where it is at hand, of the peer on the same inputs in one run: nanoseconds a
 //! call, median of five.
 //!
-//! bench numbers|book|excess|rice|sheet|wilson|parts|pooled|feeds|preview|queue|distance|all
+//! bench numbers|book|excess|rice|sheet|wilson|parts|pooled|feeds|preview|queue|distance|readers|all
 
 use std::hint::black_box;
 use std::process::ExitCode;
@@ -14,6 +14,7 @@ use reference::sheet::blocks::{rule_of, words_of, BLOCK};
 use reference::sheet::distance::{at_step, flashed, search, steps, Distance, Way, RESULT_WORDS};
 use reference::sheet::question::{FRACTIONS, TASK};
 use reference::sheet::queue::FLASH;
+use reference::sheet::readers::{lab, write_floor, FLOOR_WORDS};
 use reference::sheet::reply::{BUBBLE, DEW, EVALUATIONS};
 use reference::sheet::{answer, feeds, open_book, pool, ANSWER_BYTES};
 use reference::stage::padded;
@@ -32,7 +33,7 @@ const RUN: f64 = 2e7;
 
 fn main() -> ExitCode {
     let stage = std::env::args().nth(1).unwrap_or_default();
-    let stages: [(&str, fn()); 12] = [
+    let stages: [(&str, fn()); 13] = [
         ("numbers", bench_numbers),
         ("book", bench_book),
         ("excess", bench_excess),
@@ -45,11 +46,14 @@ fn main() -> ExitCode {
         ("preview", bench_preview),
         ("queue", bench_queue),
         ("distance", bench_distance),
+        ("readers", bench_readers),
     ];
     let chosen: Vec<_> = stages.iter().filter(|(name, _)| *name == stage || stage == "all").collect();
     chosen.iter().for_each(|(_, bench)| bench());
     if chosen.is_empty() {
-        eprintln!("usage: bench numbers|book|excess|rice|sheet|wilson|parts|pooled|feeds|preview|queue|distance|all");
+        eprintln!(
+            "usage: bench numbers|book|excess|rice|sheet|wilson|parts|pooled|feeds|preview|queue|distance|readers|all"
+        );
         return ExitCode::from(2);
     }
     ExitCode::SUCCESS
@@ -659,5 +663,30 @@ fn nowhere(rng: &mut Rng, n: usize, outcome: u64, book: Drafts) -> Sheet {
         if found.is_ok_and(|found| found.distance == Distance::None && found.refused.is_empty()) {
             return (book, question);
         }
+    }
+}
+
+/// Answers without trials and with eight of them.
+fn bench_readers() {
+    for (what, task) in [("a bubble point", 2), ("liquid trials", 6)] {
+        let answers = many(|rng| {
+            let (book, question) = accepted(rng, 8, task, books::realistic);
+            let mut slice = vec![0; ANSWER_BYTES];
+            answer(&book, &question, &mut slice);
+            slice
+        });
+        let (mut words, mut own) = ([0; FLOOR_WORDS], [0; FLOOR_WORDS]);
+        line(
+            &format!("floor sheet of {what}, n = 8"),
+            &answers,
+            |slice| rattle::floor(slice, &mut words).map(drop_value),
+            |slice| drop_value(write_floor(slice, &mut own)),
+        );
+        line(
+            &format!("lab sheet of {what}, n = 8"),
+            &answers,
+            |slice| rattle::lab(slice).map(drop_value),
+            |slice| drop_value(lab(slice)),
+        );
     }
 }

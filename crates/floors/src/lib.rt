@@ -1,0 +1,2 @@
+// Laws of floor and lab sheets; no code.
+#![tactic(auto)]

@@ -1,0 +1,2 @@
+-- Laws of the readers. Assumes nothing.
+pub mod Laws

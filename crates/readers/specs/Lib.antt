@@ -1,0 +1,2 @@
+-- What the contracts of readers cite. Assumes nothing.
+pub mod Readers
