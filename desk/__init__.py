@@ -15,7 +15,7 @@ docs/LINKING.md has more of this, docs/FORMAT.md what the words of an answer hol
 from pathlib import Path
 from typing import Union
 
-from . import answer, batch, distance, library, pool, queue, readers, refusals
+from . import answer, batch, distance, library, places, pool, queue, readers, refusals
 from .answer import Blocks
 from .book import Book, Correlation, Interval, Model, Pair, Solvent, WilsonPair, encode
 from .core import Core
@@ -54,5 +54,5 @@ __all__ = [
     "NoAnswer", "Options", "Pair", "Preview", "Question", "Solvent", "Task", "WilsonPair", "BUBBLE_PRESSURE",
     "BUBBLE_TEMPERATURE", "DEW_PRESSURE", "DEW_TEMPERATURE", "EXCESS", "FLASH", "RACHFORD_RICE",
     "RACHFORD_RICE_NEGATIVE", "STABILITY", "TASKS", "answer", "batch", "distance", "encode", "find", "floor", "lab",
-    "open_book", "open_core", "open_yard", "pair_block", "pool", "queue", "readers", "refusals",
+    "open_book", "open_core", "open_yard", "pair_block", "places", "pool", "queue", "readers", "refusals",
 ]  # fmt: skip

@@ -1,11 +1,13 @@
 """The answer and trial blocks (docs/FORMAT.md, "The answer")."""
 
-from dataclasses import dataclass
+from dataclasses import dataclass, field
 from typing import List, Tuple
 
+from . import refusals
 from .blocks import BLOCK, Rule, Words, check_right, float_of, packed, split
 from .book import MOST_SOLVENTS, Model
 from .errors import DeskError
+from .places import NOWHERE, Place
 from .tasks import Task
 
 KIND_ANSWER, KIND_TRIAL = 9, 10
@@ -36,10 +38,13 @@ WILSON_WORDS = {  # of notes that say something else there
 
 @dataclass(frozen=True)
 class Blocks:
-    """The words of an answer and of its trials."""
+    """The words of an answer and of its trials; of a refusal where it was said no, and the core's sentence as far as it
+    gave one."""
 
     head: Words
     trials: Tuple[Words, ...]
+    place: Place = NOWHERE
+    said: str = field(default="", compare=False)
 
     @property
     def refusal(self) -> int:
@@ -48,6 +53,11 @@ class Blocks:
     @property
     def accepted(self) -> bool:
         return self.refusal == 0
+
+    @property
+    def sentence(self) -> str:
+        """Of a refusal."""
+        return self.said or refusals.sentence(self.refusal, self.place)
 
     @property
     def put_off(self) -> bool:

@@ -11,6 +11,7 @@ from .blocks import BLOCK, Rule, bits_of, sealed
 from .book import MOST_SOLVENTS
 from .errors import CoreRefusal
 from .feed import Fractions
+from .places import NOWHERE, Place, named
 from .question import Question, eight
 from .refusals import line
 
@@ -28,9 +29,17 @@ OF_THE_BOOK = (*range(1, 10), 35, 37, 38)  # these, 33 and 10 end the whole call
 class CallRefused(CoreRefusal):
     """The whole call, with no word about any feed."""
 
-    def __init__(self, number: int):
-        super().__init__(line(number))
-        self.number = number
+    def __init__(self, number: int, place: Place = NOWHERE, said: str = "", whose: str = ""):
+        super().__init__(": ".join(filter(None, (line(number, place, said), whose))))
+        self.number, self.place, self.said, self.whose = number, place, said, whose
+
+    @classmethod
+    def by(cls, blocks: answer.Blocks) -> "CallRefused":
+        return cls(blocks.refusal, blocks.place, blocks.said)
+
+    def of(self, names: Sequence[str]) -> "CallRefused":
+        """The same with the names of a book's solvents."""
+        return CallRefused(self.number, self.place, self.said, self.whose or named(self.place, names))
 
 
 def bytes_of(feeds: Sequence[Fractions]) -> bytes:
@@ -51,9 +60,9 @@ def _part(part: bytes, rule: Rule) -> answer.Blocks:
 def ask_plainly(core: "Core", question: Question, feeds: Sequence[Fractions]) -> List[answer.Blocks]:
     """One after another. Without fractions the core is never asked to calculate: that shows what it says of the
     book."""
-    number = core.ask(replace(question, fractions=())).refusal
-    if number in OF_THE_BOOK:
-        raise CallRefused(number)
+    found = core.ask(replace(question, fractions=()))
+    if found.refusal in OF_THE_BOOK:
+        raise CallRefused.by(found)
     if not 1 <= len(feeds) <= MOST_FEEDS:
         raise CallRefused(FEEDS)
     if question.task not in TASKS:

@@ -10,12 +10,12 @@ from typing import Iterator, List, Optional, Tuple, Union
 from . import (
     answer, batch, building, core, diagram, distancereport, drumlist, explain, files, floorreport, jsonsheet
 )
-from . import layersreport, library, listreport, picture, queuereport, readers, refusals, report, strikereport, tasks
-from . import text, units, yardcheck
+from . import layersreport, library, listreport, picture, places, queuereport, readers, refusals, report, strikereport
+from . import tasks, text, units, yardcheck
 from .arguments import commands_of, options_of, parser
 from .book import VERSION, Model, encode
 from .distancesheet import distance_sheet
-from .errors import CoreRefusal, DeskError, quoted, suggestion
+from .errors import DeskError, quoted, suggestion
 from .feed import Feed
 from .judgement import Mark, judged
 from .layersheet import layers_sheet
@@ -73,7 +73,7 @@ def ask(arguments: argparse.Namespace) -> int:
 
 def ask_distance(arguments: argparse.Namespace) -> int:
     """From a drum's flash to the next phase change."""
-    with _asked(arguments, tasks.FLASH, "zektonk_distance") as (program, flash):
+    with _asked(arguments, tasks.FLASH, "zektonk_distance_placed") as (program, flash):
         sheet = distance_sheet(program, flash, arguments.both)
         if flash.tried and flash.tried.own:
             sheet = replace(sheet, own=distance_sheet(program.core, flash.tried.own))
@@ -123,19 +123,23 @@ def _asking(
     """Who is asked, and about which book: with --try about a copy that holds the pair. The library is asked where it is
     built and has the call that is wanted; else the program, and where one was named."""
     offered = offered_of(book, arguments.tried) if arguments.tried is not None else None
-    call = "zektonk_preview" if offered else call
+    call = "zektonk_preview_placed" if offered else call
     if call and arguments.program == core.PROGRAM and library.offers(call):
         opened = library.Library(book.content)
     else:
         opened = core.Core(book.content, arguments.program)
     with opened:
-        yield trying(opened, book, offered) if offered else (opened, book, None)
+        try:
+            yield trying(opened, book, offered) if offered else (opened, book, None)
+        except batch.CallRefused as refused:
+            raise refused.of(book.names) from None
 
 
 def _expect_offered(tried: Optional[Tried]) -> None:
     """Where there is no sheet that could say that the pair is refused."""
     if tried and tried.refusal:
-        raise CoreRefusal(refusals.line(tried.refusal, offered=True))
+        whose = places.named(places.OFFERED, (), tried.names)
+        raise batch.CallRefused(tried.refusal, places.OFFERED, whose=whose)
 
 
 def ask_many(arguments: argparse.Namespace) -> int:
@@ -148,7 +152,7 @@ def ask_many(arguments: argparse.Namespace) -> int:
     book = open_book(arguments.book, arguments.names)
     drums = drumlist.read(arguments.drums, book, arguments.by_mass, arguments.normalize, _skip(arguments))
     question = _question(arguments, book, Feed(()), tasks.BY_COMMAND[arguments.command])
-    with _asking(arguments, book, "zektonk_feeds") as (program, asked, tried):
+    with _asking(arguments, book, "zektonk_feeds_placed") as (program, asked, tried):
         _expect_offered(tried)
         sheet = list_sheet(program, asked, shown(arguments.drums), drums, question, _label(arguments), tried)
     return _printed(arguments, sheet, listreport)
@@ -170,7 +174,7 @@ def ask_queue(arguments: argparse.Namespace) -> int:
         questions = [question_of(drum, given, options) for drum in drums]
     except DeskError as error:
         raise DeskError(f"{path}, {error}") from None
-    with _asking(arguments, book, "zektonk_queue") as (program, _, _):
+    with _asking(arguments, book, "zektonk_queue_placed") as (program, _, _):
         sheet = queue_sheet(program, book, shown(path), drums, questions, allowance, _label(arguments))
     return _printed(arguments, sheet, queuereport)
 
@@ -230,8 +234,7 @@ def _ended(sheet: Sheet, mark: Optional[Mark]) -> int:
     number = sheet.blocks.refusal
     if number or mark:
         sys.stdout.flush()
-        line = refusals.line(number, sheet.offered_refused)
-        refused = f"{line}{explain.detail(sheet)}{explain.hint(sheet)}" if number else ""
+        refused = f"{explain.line(sheet)}{explain.hint(sheet)}" if number else ""
         print(f"sheet: {'; '.join(filter(None, (refused, mark.line if mark else '')))}", file=sys.stderr)
     return REFUSED if number else MARKED if mark else 0
 
@@ -395,8 +398,7 @@ def explain_numbers(arguments: argparse.Namespace) -> int:
         for command, advice in refusals.REFUSALS[number].by_command.items():
             print(f"    after {command}: {advice}")
         if number in refusals.OFFERED:
-            print(f"    of a pair that is tried: {refusals.matter(number, offered=True)}")
-            print(f"    what to do then: {refusals.OFFERED[number].advice}")
+            print(f"    of a pair that is tried: {refusals.OFFERED[number]}")
     return 0
 
 

@@ -1,13 +1,15 @@
 """The proved program: where it is, and one call of it."""
 
 import os
+import re
 import select
 import subprocess
 import tempfile
+from dataclasses import replace
 from pathlib import Path
 from typing import Dict, List, Sequence, Tuple
 
-from . import answer, batch, distance, pool, preview, queue
+from . import answer, batch, distance, places, pool, preview, queue
 from .blocks import rule_of, sealed
 from .distance import Distance
 from .errors import DeskError
@@ -19,7 +21,8 @@ ROOT = Path(__file__).resolve().parent.parent
 PROGRAM = ROOT / "target" / "bin" / "still"
 BOOK_NAME = "book.bin"
 SECONDS = 300  # no question within the limits takes as long
-MOST_BYTES = 1 << 16  # an answer has 4,608 bytes at most
+MOST_BYTES = 1 << 16  # an answer has 4,608 bytes at most, a sentence 160
+SENTENCE = re.compile(r"\d+: [ -~]+\.")
 
 
 class Core:
@@ -62,7 +65,8 @@ class Core:
             return found
         number = preview.refusal_of(offered, self.book)
         if number:
-            return answer.read(sealed([answer.KIND_ANSWER, 0, number], self.rule), self.rule)
+            blocks = answer.read(sealed([answer.KIND_ANSWER, 0, number], self.rule), self.rule)
+            return replace(blocks, place=places.OFFERED)
         if offered not in self._copies:
             self._copies[offered] = Core(preview.copy_of(self.book, offered), self.program)
         return self._copies[offered].ask_block(block)
@@ -82,12 +86,14 @@ class Core:
 
     def ask_block(self, block: bytes) -> answer.Blocks:
         if block not in self._answers:
-            self._answers[block] = answer.read(self._written(block), self.rule)
+            written, said = self._run(block)
+            self._answers[block] = _with(said, answer.read(written, self.rule))
         return self._answers[block]
 
-    def _written(self, block: bytes) -> bytes:
-        """What the program writes. Question and answer fit into a pipe, so neither side waits for the other."""
-        streams = {"stdin": subprocess.PIPE, "stdout": subprocess.PIPE, "stderr": subprocess.DEVNULL, "bufsize": 0}
+    def _run(self, block: bytes) -> Tuple[bytes, bytes]:
+        """What the program writes to standard output and to standard error. Question and answer fit into a pipe, so
+        neither side waits for the other."""
+        streams = {"stdin": subprocess.PIPE, "stdout": subprocess.PIPE, "stderr": subprocess.PIPE, "bufsize": 0}
         try:
             run = subprocess.Popen([self.program], cwd=self._folder.name, **streams)
         except OSError as error:
@@ -98,20 +104,34 @@ class Core:
             raise DeskError(f"the program {self.program} ended with status {run.returncode}")
         return written
 
-    def _exchanged(self, run: subprocess.Popen, block: bytes) -> bytes:
+    def _exchanged(self, run: subprocess.Popen, block: bytes) -> Tuple[bytes, bytes]:
         try:
             run.stdin.write(block)
             run.stdin.close()
         except BrokenPipeError:  # it ended without reading; its status or its answer says the rest
             pass
-        written = b""
-        while len(written) <= MOST_BYTES:
-            if not select.select([run.stdout], [], [], SECONDS)[0]:
+        written = {run.stdout: b"", run.stderr: b""}
+        still_open = list(written)
+        while sum(map(len, written.values())) <= MOST_BYTES:
+            ready = select.select(still_open, [], [], SECONDS)[0]
+            if not ready:
                 run.kill()
                 raise DeskError(f"the program {self.program} gave no answer in {SECONDS} s")
-            part = run.stdout.read(MOST_BYTES)
-            if not part:
-                return written
-            written += part
+            for stream in ready:
+                part = stream.read(MOST_BYTES)
+                written[stream] += part
+                if not part:
+                    still_open.remove(stream)
+            if not still_open:
+                return written[run.stdout], written[run.stderr]
         run.kill()
         raise DeskError(f"the program {self.program} wrote more than an answer")
+
+
+def _with(said: bytes, blocks: answer.Blocks) -> answer.Blocks:
+    """A refusal with the sentence that the program wrote, and the place in it. A program of an earlier version writes
+    none."""
+    sentence = said.decode("ascii", "replace").strip()
+    if not blocks.refusal or not SENTENCE.fullmatch(sentence) or sentence.split(":")[0] != str(blocks.refusal):
+        return blocks
+    return replace(blocks, place=places.read(sentence), said=sentence)

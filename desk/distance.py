@@ -73,12 +73,12 @@ def tried(
 
 def ask_plainly(core: Union["Core", "Preview"], question: Question) -> Distance:
     """The book's numbers, 12 for all tasks but the flash, those of the flash at P, then its steps in order."""
-    number = core.ask_block(b"").refusal
-    if number in OF_THE_BOOK:
-        raise CallRefused(number)
+    found = core.ask_block(b"")
+    if found.refusal in OF_THE_BOOK:
+        raise CallRefused.by(found)
     if question.task != FLASH:
         raise CallRefused(TASK)
     blocks = core.ask(question)
     if blocks.refusal:
-        raise CallRefused(blocks.refusal)
+        raise CallRefused.by(blocks)
     return tried(core, question, blocks.head[OUTCOME], ORDER)[0]

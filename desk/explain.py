@@ -1,9 +1,9 @@
 """A refusal in the words of this sheet: what the drum, the temperatures and the book themselves show about it."""
 
 import math
-from typing import Iterable, Iterator, List, Tuple
+from typing import Iterator, List, Tuple
 
-from . import refusals, tasks, text
+from . import places, refusals, tasks, text
 from .book import decode, model_word, version_of
 from .errors import DeskError
 from .feed import Feed, normalized
@@ -17,33 +17,41 @@ DRUMS, TOTAL = 31, 32
 
 
 def detail(sheet: Sheet) -> str:
-    """Behind the matter of the refusal, in brackets."""
+    """What there is to say of the refusal in this sheet's own names and numbers."""
     number = sheet.blocks.refusal
+    if sheet.blocks.place != places.NOWHERE:
+        return places.named(sheet.blocks.place, sheet.book.names, sheet.tried.names if sheet.tried else None)
     if number == FRACTIONS_DO_NOT_SUM and not _sums(sheet):
-        return f" (as given they sum to {math.fsum(sheet.feed.fractions):.12g})"
+        return f"as given they sum to {math.fsum(sheet.feed.fractions):.12g}"
     if number == OUT_OF_DOMAIN:
-        found = list(_violations(sheet.book, _temperatures(sheet)))
-        return f": {'; '.join(found)}" if found else ""
+        return "; ".join(_violations(sheet.book, _temperatures(sheet)))
     if number == NOT_NORMALIZABLE and sheet.feed.by_mass and sheet.by_mass is None:
-        return _listed(f"the moles of {name} at {mass:g} kg/mol" for name, mass in _too_light(sheet))
+        return ", ".join(f"the moles of {name} at {mass:g} kg/mol" for name, mass in _too_light(sheet))
     if number == NOT_NORMALIZABLE:
         split = ", or a phase of the flash" if sheet.question.task == tasks.FLASH else ""
-        return f": the dew point's liquid{split}"
+        return f"the dew point's liquid{split}"
     if number == DRUMS and sheet.feed.charge:
-        return f": {len(sheet.feed.charge.drums)} were given"
+        return f"{len(sheet.feed.charge.drums)} were given"
     if number == TOTAL and sheet.feed.charge:
-        return f": {sheet.feed.charge.total} in all"
+        return f"{sheet.feed.charge.total} in all"
     if number == MOLAR_MASS:
-        return _listed(f"{name} {mass:g} kg/mol" for name, mass in _masses(sheet.book) if not 0 < mass < math.inf)
+        return ", ".join(f"{name} {mass:g} kg/mol" for name, mass in _masses(sheet.book) if not 0 < mass < math.inf)
     if number == MODEL:
         content = sheet.book.content
-        return f": word 3 of its first block is {model_word(content)}, in version {version_of(content)}"
+        return f"word 3 of its first block is {model_word(content)}, in version {version_of(content)}"
     return ""
 
 
-def _listed(found: Iterable[str]) -> str:
-    words = ", ".join(found)
-    return f": {words}" if words else ""
+def sentences(sheet: Sheet) -> List[str]:
+    """The core's sentence behind its number's name, then this sheet's own detail and what to do."""
+    here = detail(sheet)
+    return [f"REFUSED, number {sheet.blocks.sentence}", *([f"Here: {here}."] if here else []), *advice(sheet)]
+
+
+def line(sheet: Sheet) -> str:
+    """In one line."""
+    blocks = sheet.blocks
+    return ": ".join(filter(None, (refusals.line(blocks.refusal, blocks.place, blocks.said), detail(sheet))))
 
 
 def _masses(book: NamedBook) -> List[Tuple[str, float]]:
@@ -71,7 +79,7 @@ def advice(sheet: Sheet) -> List[str]:
     """Sentences: what holds instead where the liquid splits, else what the number's entry says."""
     number = sheet.blocks.refusal
     if sheet.offered_refused:
-        return [f"What to do: {refusals.OFFERED[number].advice}."]
+        return [f"What to do: {refusals.OFFERED[number]}."]
     if sheet.judgement.mark:
         kept = [f"{refusals.KEPT}."] if number == NOT_CONVERGED else []
         return [*sheet.judgement.mark.advice, *kept]

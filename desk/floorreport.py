@@ -23,7 +23,7 @@ class FloorReport(Report):
     short = True
 
     def __init__(self, sheet: Sheet, floor: Floor):
-        super().__init__(replace(sheet, blocks=floor.blocks()))
+        super().__init__(_shown(sheet, floor))
 
     def text(self) -> str:
         sheet = self.sheet
@@ -61,13 +61,18 @@ class FloorReport(Report):
         return ["", *self._one_layer()]
 
 
+def _shown(sheet: Sheet, floor: Floor) -> Sheet:
+    """Of a refusal its place and sentence too, which aren't words of an answer."""
+    return replace(sheet, blocks=replace(floor.blocks(), place=sheet.blocks.place, said=sheet.blocks.said))
+
+
 def render(sheet: Sheet, floor: Floor) -> str:
     return FloorReport(sheet, floor).text()
 
 
 def document(sheet: Sheet, floor: Floor) -> Dict[str, Any]:
     """As JSON: the whole sheet's head, and of its answer the floor's words."""
-    whole = jsonsheet.document(replace(sheet, blocks=floor.blocks()))
+    whole = jsonsheet.document(_shown(sheet, floor))
     found = whole["answer"]
     shown = None if found is None else {name: found[name] for name in FIELDS if name in found}
     return {**{name: whole[name] for name in (*HEAD, *ABOVE) if name in whole}, "floor": shown}

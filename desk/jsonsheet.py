@@ -6,7 +6,7 @@ import json
 import math
 from typing import Any, Callable, Dict, Iterable, List, Optional, Sequence
 
-from . import answer, charge, explain, refusals, units
+from . import answer, charge, explain, places, refusals, units
 from .blocks import bits_of, float_of, floats_at
 from .feed import ByMass, Feed
 from .judgement import Mark
@@ -103,12 +103,25 @@ class Document:
         }
 
     def _refusal(self, number: int) -> Dict[str, Any]:
-        matter = refusals.matter(number, self.sheet.offered_refused)
         return {
             "number": number,
-            "matter": matter,
-            "detail": explain.detail(self.sheet).strip(" :") or None,
+            "matter": refusals.matter(number),
+            "place": self._place(),
+            "sentence": self.sheet.blocks.sentence,
+            "detail": explain.detail(self.sheet) or None,
             "advice": explain.advice(self.sheet),
+        }
+
+    def _place(self) -> Optional[Dict[str, Any]]:
+        """Where the book said no, and whose that is."""
+        place, tried = self.sheet.blocks.place, self.sheet.tried
+        if place == places.NOWHERE:
+            return None
+        return {
+            "block": place.first if place.kind == places.A_BLOCK else None,
+            "solvents": [place.first, place.second] if place.kind == places.A_PAIR else None,
+            "offered": place == places.OFFERED,
+            "names": list(places.names_in(place, self.sheet.book.names, tried.names if tried else None)),
         }
 
     def _question(self) -> Dict[str, Any]:

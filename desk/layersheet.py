@@ -11,7 +11,7 @@ from .layersreport import COMPOSITIONS, LayersSheet
 from .liquids import OUT_OF_PRESSURES, SPLITS, Fractions, Liquids, Refused
 from .question import Options, Question
 from .ranges import ranges_at
-from .refusals import matter
+from .refusals import line, matter
 from .search import NotShown
 from .sheet import NamedBook, today
 from .tried import Tried
@@ -112,7 +112,7 @@ def _expect(blocks: answer.Blocks) -> None:
 
 
 def _refused(blocks: answer.Blocks) -> str:
-    return f"the core refused, number {blocks.refusal}: {matter(blocks.refusal)}"
+    return f"the core {line(blocks.refusal, blocks.place, blocks.said)}"
 
 
 def splitting(

@@ -164,4 +164,4 @@ def own_sheet(core: Asked, book: NamedBook, drum: Listed, question: Question, bl
 def reason(row: Row) -> str:
     """Why a drum is refused."""
     number = row.sheet.blocks.refusal
-    return f"{refusals.matter(number)}{detail(row.sheet)}"
+    return ": ".join(filter(None, (refusals.matter(number), detail(row.sheet))))

@@ -99,9 +99,9 @@ def _queued(core: Union["Core", "Library"], question: Question, blocks: answer.B
 def ask_plainly(core: "Core", questions: Sequence[Question], allowance: int) -> List[answer.Blocks]:
     """In order. One that doesn't fit is asked with a limit of one iteration, to see whether it is refused ahead of its
     first evaluation."""
-    number = core.ask_block(b"").refusal
-    if number in OF_THE_BOOK:
-        raise CallRefused(number)
+    whole = core.ask_block(b"")
+    if whole.refusal in OF_THE_BOOK:
+        raise CallRefused.by(whole)
     if not 1 <= len(questions) <= MOST_QUESTIONS or any(question.task != FLASH for question in questions):
         raise CallRefused(QUEUE)
     found: List[answer.Blocks] = []

@@ -1,8 +1,10 @@
-"""The refusal numbers of docs/FORMAT.md: the matter of each, and what the desk can do about it. A new number is one
-entry."""
+"""The refusal numbers of docs/FORMAT.md: the matter of each as the core says it (crates/sentences/specs/Sentence.antt),
+and what the desk can do about it. A new number is one entry."""
 
 from dataclasses import dataclass, field
 from typing import Dict
+
+from .places import NOWHERE, Place
 
 MAKE_AGAIN = "make it again with ./sheet book"
 LOOK_AT_LIMITS = "look at --max-iterations and --max-temperature-iterations"
@@ -18,26 +20,27 @@ class Refusal:
 
 
 REFUSALS: Dict[int, Refusal] = {
-    1: Refusal("the book is empty or not made of whole blocks of 512 bytes", MAKE_AGAIN),
+    1: Refusal(
+        "there are no whole blocks of 512 bytes where a book, one offered block or an answer is due", MAKE_AGAIN
+    ),
     2: Refusal(
-        "a block of the book has a wrong check word: words were changed, or, in a book of version 3, exchanged",
+        "a check word is wrong: words were changed or, in a book of version 3, exchanged",
         f"the file was damaged; {MAKE_AGAIN}, in version 3, since versions 1 and 2 don't show two exchanged words",
     ),
     3: Refusal(
         "the head of the book is wrong: kind 1, 1 to 8 solvents, and as many blocks as these need", MAKE_AGAIN
     ),
-    4: Refusal("a solvent block is wrong: its kind, its place, a CAS number of 0, or not 1 to 8 terms", MAKE_AGAIN),
+    4: Refusal("a solvent's kind, place, CAS number or count of terms is wrong", MAKE_AGAIN),
     5: Refusal(
-        "a solvent's correlation is wrong: a number isn't finite, the range isn't 0 < low <= high < t_r, "
-        "or the reducing value isn't positive",
+        "a solvent's correlation is not finite, not 0 < low <= high < t_r, or has a reducing value not above 0",
         "correct that solvent in the yard text",
     ),
     6: Refusal("two solvents of the book have one CAS number", "correct the CAS numbers in the yard text"),
-    7: Refusal("a pair block is wrong: its kind, its two places, or a flag that is neither 0 nor 1", MAKE_AGAIN),
-    8: Refusal("a pair has a number that isn't finite", "correct that pair in the yard text"),
+    7: Refusal("a pair's kind, its two places or a flag is wrong", MAKE_AGAIN),
+    8: Refusal("a pair has a number that is not finite", "correct that pair in the yard text"),
     9: Refusal("a pair's two alphas are not equal", "correct that pair; the yard text has one alpha for both"),
     10: Refusal(
-        "the room for the answer is less than 4,608 bytes, or less than that for each feed or question of many",
+        "too little room is lent: 4,608 bytes for each answer, 22 words for the floor, 160 bytes for a sentence",
         "this can't come from the program still; its caller has to lend more",
     ),
     11: Refusal(
@@ -45,9 +48,9 @@ REFUSALS: Dict[int, Refusal] = {
         "this can't come from ./sheet; look at what wrote the question, whose check goes by the book's version",
     ),
     12: Refusal(
-        "the task is not one of those that the core answers, not one that takes many feeds, or, of a distance, not the "
-        "flash",
-        "ask one of the nine commands; many feeds go to excess, bubble-pressure, dew-pressure, stability and flash",
+        "the task is not one that this call answers",
+        "ask one of the nine commands; many feeds go to excess, bubble-pressure, dew-pressure, stability and flash, a "
+        "distance is asked of a flash",
     ),
     13: Refusal("the temperature is not finite and positive", "give a temperature above 0 K"),
     14: Refusal("the pressure is not finite and positive", "give a pressure above 0 Pa"),
@@ -62,14 +65,14 @@ REFUSALS: Dict[int, Refusal] = {
         "look at --drum or --mass, or add --normalize; inside a calculation: a trial's composition doesn't sum to 1",
     ),
     19: Refusal(
-        "an option is out of its range: tolerances above 0 up to 1e-6, a negative threshold, "
-        "a bracket in order within 273.16 to 450 K",
-        "look at --tolerance, --energy-tolerance, --threshold and --bracket",
+        "a tolerance, the trial threshold or the temperature bracket is out of its range",
+        "look at --tolerance and --energy-tolerance (above 0, up to 1e-6), --threshold (negative) and --bracket (in "
+        "order, within 273.16 to 450 K)",
     ),
     20: Refusal("an iteration limit is 0", LOOK_AT_LIMITS),
     21: Refusal("an iteration limit is above 1,000,000", LOOK_AT_LIMITS),
     22: Refusal(
-        "a temperature lies outside 273.16 to 450 K or outside the range of a solvent of the book, in the drum or not",
+        "a temperature lies outside 273.16 to 450 K or the range of a solvent of the book, in the drum or not",
         "stay inside the ranges, or narrow --bracket; ./sheet show lists the ranges",
     ),
     23: Refusal(
@@ -125,42 +128,35 @@ REFUSALS: Dict[int, Refusal] = {
         "a solvent's molar mass is not finite and positive", "correct it in the yard text, and make the book again"
     ),
     36: Refusal(
-        "the fractions are neither of moles nor of mass, or they are of mass and the book has no molar masses or drums "
-        "are pooled",
+        "the fractions are by neither moles nor mass, or by mass with no molar masses in the book or with drums pooled",
         "add 'molar mass = ... g/mol' to every solvent of the yard text and make the book again, or ask by moles",
     ),
     37: Refusal(
-        "the book's model is neither NRTL nor Wilson, or it is Wilson in a book of version 1, which has NRTL alone",
+        "the book's model is neither NRTL nor, from version 2 on, Wilson",
         f"{MAKE_AGAIN}, from a text with 'model = wilson' and the molar mass of every solvent, or from one without a "
         "model, which is NRTL",
     ),
     38: Refusal(
-        "the book's version is none of 1 to 3: it is not a book that this desk knows, or its first block is damaged",
-        f"{MAKE_AGAIN}; a newer desk makes one for this one with --book-version 3",
+        "the book's version is none of 1 to 3",
+        f"it is not a book that this desk knows, or its first block is damaged: {MAKE_AGAIN}; a newer desk makes one "
+        "for this one with --book-version 3",
     ),
     39: Refusal(
-        "there are not 1 to 64 whole questions in the queue, or one of them asks another task than the flash",
+        "there are not 1 to 64 whole questions in the queue, or one of them is not a flash",
         "this can't come from ./sheet, which queues up to 64 flashes at a time; its caller has to send the rest in "
         "another call, and other tasks by themselves",
     ),
 }
 
-OFFERED: Dict[int, Refusal] = {  # of a pair that is tried, behind all that the book itself is asked
-    1: Refusal(
-        "the pair tried is not one whole block of 512 bytes",
-        "look at what wrote the file; a pair is also tried as a text, with its section of a yard text",
+OFFERED: Dict[int, str] = {  # advice where the offered block, a pair that is tried, said no
+    1: "look at what wrote the file; a pair is also tried as a text, with its section of a yard text",
+    2: "the block was damaged, or sealed for a book of another version",
+    7: (
+        "look at words 0 to 2, 15 and 18 of the block: kind 3, two solvents of the book with i < j, and two flags of 0 "
+        "or 1"
     ),
-    2: Refusal(
-        "the check word of the pair tried is wrong, by the rule of the book's version",
-        "the block was damaged, or sealed for a book of another version",
-    ),
-    7: Refusal(
-        "the pair tried isn't of kind 3, names no two solvents of the book with i < j, or has a flag that is neither 0 "
-        "nor 1",
-        "look at words 0 to 2, 15 and 18 of the block",
-    ),
-    8: Refusal("the pair tried has a number that isn't finite", "look at what wrote the block"),
-    9: Refusal("the pair tried has two alphas that are not equal", "give one alpha for both directions"),
+    8: "look at what wrote the block",
+    9: "give one alpha for both directions",
 }
 
 UNKNOWN = Refusal("a number that this tool doesn't know", "look into docs/FORMAT.md of the core's version")
@@ -175,13 +171,8 @@ def numbers() -> str:
     return f"{', '.join(all_but_one)} and {last}" if all_but_one else last
 
 
-def matter(number: int, offered: bool = False) -> str:
-    return (OFFERED if offered else REFUSALS).get(number, UNKNOWN).matter
-
-
-def whose(offered: bool) -> str:
-    """Behind the number."""
-    return " of the pair tried" if offered else ""
+def matter(number: int) -> str:
+    return REFUSALS.get(number, UNKNOWN).matter
 
 
 def advice(number: int, command: str = "") -> str:
@@ -189,5 +180,11 @@ def advice(number: int, command: str = "") -> str:
     return refusal.by_command.get(command, refusal.advice)
 
 
-def line(number: int, offered: bool = False) -> str:
-    return f"refused, number {number}{whose(offered)}: {matter(number, offered)}"
+def sentence(number: int, place: Place = NOWHERE) -> str:
+    """As the core composes it."""
+    return f"{number}: {matter(number)}{f' ({place.words})' if place.words else ''}."
+
+
+def line(number: int, place: Place = NOWHERE, said: str = "") -> str:
+    """A sentence, the core's where it gave one, without its end mark: more can follow."""
+    return f"refused, number {(said or sentence(number, place))[:-1]}"

@@ -3,7 +3,7 @@
 import math
 from typing import Callable, Dict, List, Optional, Sequence, Tuple
 
-from . import answer, charge, explain, ranges, refusals, text, tryreport
+from . import answer, charge, explain, ranges, text, tryreport
 from .blocks import float_of, floats_at
 from .feed import ByMass, Feed, Fractions
 from .sheet import Sheet
@@ -94,9 +94,8 @@ class Report:
         return lines
 
     def _refusal(self) -> Lines:
-        number, offered = self.sheet.blocks.refusal, self.sheet.offered_refused
-        sentences = [f"{refusals.matter(number, offered)}{explain.detail(self.sheet)}.", *explain.advice(self.sheet)]
-        return [f"REFUSED, number {number}{refusals.whose(offered)}"] + text.sentences(sentences)
+        first, *others = explain.sentences(self.sheet)
+        return text.wrapped(first, first="") + text.sentences(others)
 
     def _pairs(self) -> Lines:
         found = ranges.table(self.sheet.ranges) if self.sheet.ranges else []

@@ -3,7 +3,7 @@
 import re
 import textwrap
 import unicodedata
-from typing import List, Sequence, Tuple
+from typing import List, Optional, Sequence, Tuple
 
 from . import units
 
@@ -117,11 +117,17 @@ def table(heads: Sequence[str], rows: Sequence[Sequence[str]], words: Sequence[i
     return [line(row) for row in (heads, *rows)]
 
 
-def wrapped(words: str, columns: int = WIDTH, indent: str = "  ") -> List[str]:
-    """Lines of at most that many columns, indented by two; a unit stays with its number."""
+def wrapped(words: str, columns: int = WIDTH, indent: str = "  ", first: Optional[str] = None) -> List[str]:
+    """Lines of at most that many columns, indented by two, the first otherwise where that is asked; a unit stays with
+    its number."""
     joined = _WITH_UNIT.sub("\\1\u00a0\\2", words)
     lines = textwrap.wrap(
-        joined, columns, initial_indent=indent, subsequent_indent=indent, break_long_words=False, break_on_hyphens=False
+        joined,
+        columns,
+        initial_indent=indent if first is None else first,
+        subsequent_indent=indent,
+        break_long_words=False,
+        break_on_hyphens=False,
     )
     return [line.replace("\u00a0", " ") for line in lines]
 

@@ -5,7 +5,8 @@
  * by a second call with drums besides, whose pool is the feed; by a third with up to 64 feeds, each answered by itself;
  * by a fourth with a pair's block that is tried in place of the book's own; by a fifth with up to 64 flash questions,
  * which are run in order as far as one allowance of work goes; by a sixth, how far a flash's pressure can rise or fall
- * until its outcome changes. Two readers show an answer to the floor and to the lab.
+ * until its outcome changes. Two readers show an answer to the floor and to the lab. Each call can say where the book
+ * said no, and a refusal is put in words.
  * docs/FORMAT.md says what each word holds, docs/LINKING.md has the commands. Link with libzektonk.a, for x86-64 Linux.
  *
  * A block is 512 bytes: 64 little-endian words of 64 bits, a float as its bits. Word 63 is the check of words 0 to 62,
@@ -25,9 +26,9 @@ extern "C" {
 #endif
 
 /* Of this header and of the archive beside it. */
-#define ZEKTONK_VERSION "0.2.0"
+#define ZEKTONK_VERSION "0.3.0"
 #define ZEKTONK_VERSION_MAJOR 0
-#define ZEKTONK_VERSION_MINOR 2
+#define ZEKTONK_VERSION_MINOR 3
 #define ZEKTONK_VERSION_PATCH 0
 
 /* Bytes. */
@@ -38,6 +39,7 @@ extern "C" {
 #define ZEKTONK_BOOK_MOST 19456    /* one block more than any book has: reading up to here shows one that is too long */
 #define ZEKTONK_DRUM_BYTES 64      /* a drum: eight words, each a count of micromoles */
 #define ZEKTONK_FEED_BYTES 64      /* a feed among many: eight floats, in place of the question's fractions */
+#define ZEKTONK_SENTENCE_ROOM 160  /* a refusal's sentence has no more than these */
 
 /* Counts. */
 #define ZEKTONK_WORDS 64         /* of a block */
@@ -50,6 +52,7 @@ extern "C" {
 #define ZEKTONK_STEPS_MOST 1000  /* of a distance, each way */
 #define ZEKTONK_TRIALS_MOST 8    /* of an answer */
 #define ZEKTONK_FLOOR_WORDS 22   /* that zektonk_floor gives */
+#define ZEKTONK_PLACE_WORDS 3    /* of a place, beside a call's number */
 #define ZEKTONK_FORMAT_VERSION 1 /* word 1 of block 0 of a book without molar masses, */
 #define ZEKTONK_FORMAT_VERSION_MASS 2 /* of a book with them, which takes feeds by mass too, */
 #define ZEKTONK_FORMAT_VERSION_RUNNING 3 /* and of one whose checks are running sums besides */
@@ -215,6 +218,22 @@ enum zektonk_floor_word {
     ZEKTONK_FLOOR_WORD_VAPOR = 14  /* 8 words */
 };
 
+/* The words of a place; those that its kind doesn't have are 0. */
+enum zektonk_place_word {
+    ZEKTONK_PLACE_WORD_KIND = 0,  /* an enum zektonk_place_kind */
+    ZEKTONK_PLACE_WORD_BLOCK = 1, /* which block of the book, counted from 0 */
+    ZEKTONK_PLACE_WORD_I = 1,     /* of a pair the two solvents, i < j, counted from 0 */
+    ZEKTONK_PLACE_WORD_J = 2
+};
+
+/* Kinds of a place. */
+enum zektonk_place_kind {
+    ZEKTONK_PLACE_NOWHERE = 0, /* no place: of an answer, and of a number that names none */
+    ZEKTONK_PLACE_BLOCK = 1,   /* the lowest block of the book that says no: 2, 4, 5, 7, 8 and 9 */
+    ZEKTONK_PLACE_PAIR = 2,    /* the first pair of solvents with one CAS number, in the order of the pair blocks: 6 */
+    ZEKTONK_PLACE_OFFERED = 3  /* the block that zektonk_preview_placed was offered: 1, 2, 7, 8 and 9 */
+};
+
 /* Tasks, word 1 of a question and of its answer. */
 enum zektonk_task {
     ZEKTONK_EXCESS_AT = 1,
@@ -246,53 +265,63 @@ enum zektonk_validity { ZEKTONK_UNASSESSED = 0, ZEKTONK_WITHIN = 1, ZEKTONK_EXTR
  * after 12 and, of a feed by mass, 34 after 18; the others, and 15 to 18 and 34 once more, where the calculation puts
  * them. 31 and 32 are zektonk_pooled's alone, after 12 and ahead of 36; 33 is zektonk_feeds's alone, after 9 and ahead
  * of 10. There zektonk_preview puts 1, 2, 7, 8 and 9 to the offered block too. 39 is zektonk_queue's alone, in the place
- * of 33. zektonk_distance doesn't put 10, zektonk_floor gives 1 and 10 alone.
+ * of 33. zektonk_distance doesn't put 10, zektonk_floor and zektonk_sentence give 1 and 10 alone.
+ *
+ * Beside each its matter, in the words of zektonk_sentence; docs/FORMAT.md has all that a number is put to.
  */
 enum zektonk_refusal {
     ZEKTONK_ANSWERED = 0,
-    ZEKTONK_BOOK_LENGTH = 1,              /* no whole blocks, or none; an offered block that isn't 512 bytes; a slice
-                                             to be read that doesn't begin with an answer's blocks */
-    ZEKTONK_BOOK_CHECK = 2,               /* a block's word 63, by the version; the offered block's too */
-    ZEKTONK_BOOK_HEAD = 3,                /* kind, n of 1 to 8, or the number of blocks */
-    ZEKTONK_SOLVENT_BLOCK = 4,            /* kind, index, CAS number 0, or a term count not of 1 to 8 */
-    ZEKTONK_SOLVENT_NUMBER = 5,           /* not finite, not 0 < low <= high < t_r, or a reducing value not positive */
-    ZEKTONK_SOLVENT_TWICE = 6,            /* one CAS number for two solvents */
-    ZEKTONK_PAIR_BLOCK = 7,               /* kind, i and j, or a flag not 0 or 1; offered, any i < j of the book's */
-    ZEKTONK_PAIR_NUMBER = 8,              /* a float not finite */
-    ZEKTONK_PAIR_ALPHAS = 9,              /* alpha_ij and alpha_ji differ; NRTL */
-    ZEKTONK_ANSWER_SHORT = 10,            /* fewer than ZEKTONK_ANSWER_ROOM bytes, for each feed or queued question; of
-                                             zektonk_floor fewer than ZEKTONK_FLOOR_WORDS words */
-    ZEKTONK_QUESTION_BLOCK = 11,          /* not 512 bytes, its check by the book's version, or its kind */
-    ZEKTONK_TASK = 12,                    /* none of 1 to 9; of zektonk_feeds none of 1, 2, 3, 6 and 7; of
-                                             zektonk_distance not 7 */
-    ZEKTONK_TEMPERATURE = 13,             /* not finite and positive */
-    ZEKTONK_PRESSURE = 14,                /* not finite and positive */
-    ZEKTONK_NOT_FINITE = 15,              /* a fraction or a K value */
-    ZEKTONK_FRACTION_NEGATIVE = 16,
-    ZEKTONK_K_NOT_POSITIVE = 17,
-    ZEKTONK_FRACTION_SUM = 18,            /* not within 1e-10 of 1 */
-    ZEKTONK_OPTIONS = 19,                 /* a tolerance, the trial threshold, or the temperature bracket */
-    ZEKTONK_LIMIT_ZERO = 20,
-    ZEKTONK_LIMIT_HIGH = 21,              /* above 1,000,000 iterations */
-    ZEKTONK_TEMPERATURE_OUTSIDE = 22,     /* of 273.16 to 450 K or of a solvent's ranges */
-    ZEKTONK_PRESSURE_OUTSIDE = 23,        /* of 100 to 500,000 Pa */
-    ZEKTONK_ALPHA_NOT_POSITIVE = 24,      /* NRTL */
-    ZEKTONK_RESULT_NOT_FINITE = 25,       /* or not positive where it must be */
-    ZEKTONK_NOT_BRACKETED = 26,
-    ZEKTONK_NOT_CONVERGED = 27,           /* within its limit, or the bracket collapsed */
-    ZEKTONK_K_ONE_SIDED = 28,             /* K values are not on both sides of 1 */
-    ZEKTONK_LIQUID_UNSTABLE = 29,         /* a trial of the flash's liquid found a lower tangent plane */
-    ZEKTONK_VAPOR_FRACTION_OUTSIDE = 30,  /* of (0,1) */
-    ZEKTONK_DRUMS_LENGTH = 31,            /* not 1 to 64 drums of 64 bytes */
-    ZEKTONK_DRUMS_TOTAL = 32,             /* the counts read sum to 0, or to more than 2^53 */
-    ZEKTONK_FEEDS_LENGTH = 33,            /* not 1 to 64 feeds of 64 bytes */
-    ZEKTONK_NOT_NORMALIZABLE = 34,        /* the sum of a composition's parts is not finite and positive; of a feed by
-                                             mass too */
-    ZEKTONK_MOLAR_MASS = 35,              /* not finite and positive, in a book of version 2 or 3 */
-    ZEKTONK_FEED_KIND = 36,               /* neither moles nor mass, or mass with a book of version 1 or with drums */
-    ZEKTONK_BOOK_MODEL = 37,              /* neither NRTL nor, from version 2 on, Wilson */
-    ZEKTONK_BOOK_VERSION = 38,            /* block 0 has kind 1 and a version other than 1 to 3 */
-    ZEKTONK_QUEUE_QUESTIONS = 39          /* not 1 to 64 blocks, or one that passes 11 and has another task than 7 */
+    ZEKTONK_BOOK_LENGTH = 1,             /* there are no whole blocks of 512 bytes where a book, one offered block or
+                                            an answer is due */
+    ZEKTONK_BOOK_CHECK = 2,              /* a check word is wrong: words were changed or, in a book of version 3,
+                                            exchanged */
+    ZEKTONK_BOOK_HEAD = 3,               /* the head of the book is wrong: kind 1, 1 to 8 solvents, and as many
+                                            blocks as these need */
+    ZEKTONK_SOLVENT_BLOCK = 4,           /* a solvent's kind, place, CAS number or count of terms is wrong */
+    ZEKTONK_SOLVENT_NUMBER = 5,          /* a solvent's correlation is not finite, not 0 < low <= high < t_r, or has
+                                            a reducing value not above 0 */
+    ZEKTONK_SOLVENT_TWICE = 6,           /* two solvents of the book have one CAS number */
+    ZEKTONK_PAIR_BLOCK = 7,              /* a pair's kind, its two places or a flag is wrong */
+    ZEKTONK_PAIR_NUMBER = 8,             /* a pair has a number that is not finite */
+    ZEKTONK_PAIR_ALPHAS = 9,             /* a pair's two alphas are not equal */
+    ZEKTONK_ANSWER_SHORT = 10,           /* too little room is lent: 4,608 bytes for each answer, 22 words for the
+                                            floor, 160 bytes for a sentence */
+    ZEKTONK_QUESTION_BLOCK = 11,         /* the question is not one block of 512 bytes with kind 8 and the right
+                                            check word */
+    ZEKTONK_TASK = 12,                   /* the task is not one that this call answers */
+    ZEKTONK_TEMPERATURE = 13,            /* the temperature is not finite and positive */
+    ZEKTONK_PRESSURE = 14,               /* the pressure is not finite and positive */
+    ZEKTONK_NOT_FINITE = 15,             /* a fraction or a K value is not finite */
+    ZEKTONK_FRACTION_NEGATIVE = 16,      /* a fraction is negative */
+    ZEKTONK_K_NOT_POSITIVE = 17,         /* a K value is not positive */
+    ZEKTONK_FRACTION_SUM = 18,           /* the fractions don't sum to 1 within 1e-10 */
+    ZEKTONK_OPTIONS = 19,                /* a tolerance, the trial threshold or the temperature bracket is out of its
+                                            range */
+    ZEKTONK_LIMIT_ZERO = 20,             /* an iteration limit is 0 */
+    ZEKTONK_LIMIT_HIGH = 21,             /* an iteration limit is above 1,000,000 */
+    ZEKTONK_TEMPERATURE_OUTSIDE = 22,    /* a temperature lies outside 273.16 to 450 K or the range of a solvent of
+                                            the book, in the drum or not */
+    ZEKTONK_PRESSURE_OUTSIDE = 23,       /* a pressure, given or found, lies outside 100 to 500,000 Pa */
+    ZEKTONK_ALPHA_NOT_POSITIVE = 24,     /* an NRTL alpha is not positive at this temperature */
+    ZEKTONK_RESULT_NOT_FINITE = 25,      /* a result is not finite, or not positive where it must be */
+    ZEKTONK_NOT_BRACKETED = 26,          /* the bracket holds no root: the point lies outside it */
+    ZEKTONK_NOT_CONVERGED = 27,          /* not converged within the iteration limit, or the bracket collapsed */
+    ZEKTONK_K_ONE_SIDED = 28,            /* the K values of the solvents present lie on one side of 1 */
+    ZEKTONK_LIQUID_UNSTABLE = 29,        /* the liquid didn't pass its trials: it splits in two liquids, which this
+                                            core doesn't calculate */
+    ZEKTONK_VAPOR_FRACTION_OUTSIDE = 30, /* the split's vapor fraction lies outside (0, 1) */
+    ZEKTONK_DRUMS_LENGTH = 31,           /* there are not 1 to 64 whole drums to pool */
+    ZEKTONK_DRUMS_TOTAL = 32,            /* the drums hold nothing at all, or more than 2^53 micromoles */
+    ZEKTONK_FEEDS_LENGTH = 33,           /* there are not 1 to 64 whole feeds in one call */
+    ZEKTONK_NOT_NORMALIZABLE = 34,       /* a composition inside the calculation, or a drum by mass, can't be brought
+                                            to fractions that sum to 1 */
+    ZEKTONK_MOLAR_MASS = 35,             /* a solvent's molar mass is not finite and positive */
+    ZEKTONK_FEED_KIND = 36,              /* the fractions are by neither moles nor mass, or by mass with no molar
+                                            masses in the book or with drums pooled */
+    ZEKTONK_BOOK_MODEL = 37,             /* the book's model is neither NRTL nor, from version 2 on, Wilson */
+    ZEKTONK_BOOK_VERSION = 38,           /* the book's version is none of 1 to 3 */
+    ZEKTONK_QUEUE_QUESTIONS = 39         /* there are not 1 to 64 whole questions in the queue, or one of them is not
+                                            a flash */
 };
 
 /*
@@ -306,8 +335,8 @@ enum zektonk_refusal {
  * - A slice of length 0 is never followed, and NULL with length 0 gives the same number (1, 11 or 10) as any other
  *   pointer. The toolchain's documents don't promise that to callers; who wants to lean on nothing but them passes the
  *   address of any byte. NULL with another length is not allowed.
- * - No state is kept, no memory is allocated, nothing is called but memcpy and memset. Threads may call at one time,
- *   each with its own `answer`; what is lent doesn't change until the call is back.
+ * - No state is kept, no memory is allocated, nothing is called but memcpy and memset (zektonk_sentence: memmove too).
+ *   Threads may call at one time, each with its own `answer`; what is lent doesn't change until the call is back.
  * - Floats are in the default environment of C: rounding to nearest, subnormals kept. A program that was linked with
  *   -ffast-math, or that changes the rounding or the flush-to-zero bits, puts the default back before the call. Nothing
  *   proved holds of a call made otherwise, and nothing tells it from a right one: with another rounding its floats
@@ -362,9 +391,8 @@ uint64_t zektonk_feeds(const uint8_t *book, size_t book_len, const uint8_t *ques
  *
  * The book is put its own questions first, its pair that is to be replaced too. Then the offered block is: 1 where it
  * isn't one whole block of ZEKTONK_BLOCK bytes, 2 where its check is wrong by the book's version (zektonk_seal_by), 7
- * where it isn't a pair of solvents i < j of the book with flags of 0 or 1, 8 and 9 as the book's model has them. Who
- * wants to know whether such a number is of the book or of the offered block asks zektonk_answer about the book: with a
- * question of no bytes it says 11 where the book passes.
+ * where it isn't a pair of solvents i < j of the book with flags of 0 or 1, 8 and 9 as the book's model has them. Whether
+ * such a number is of the book or of the offered block is said by zektonk_preview_placed, below.
  *
  * - All that holds of zektonk_answer holds of this call, of `offered` what holds of `book` and `question`: it is only
  *   read, any alignment and length will do, and `answer` doesn't overlap it.
@@ -456,6 +484,55 @@ static inline int64_t zektonk_signed_of(uint64_t word)
  */
 uint64_t zektonk_floor(const uint8_t *answer, size_t answer_len, uint64_t *words, size_t words_len);
 size_t zektonk_lab(const uint8_t *answer, size_t answer_len);
+
+/*
+ * The six calls with the place beside the number: all that is said of a call above holds of the one with _placed behind
+ * its name, and it gives the same number and bytes. At the end three words more are lent, `place`, whose length counts
+ * words: they get the words of enum zektonk_place_word, those behind them as they were; of an answer too, 0, 0 and 0. A
+ * slice of fewer than ZEKTONK_PLACE_WORDS stays as it was, the number being the same.
+ *
+ * - 2 has the lowest block of all that are there whose check is wrong, 4 and 5 the lowest solvent's block, 1 + i, and 7, 8
+ *   and 9 the lowest pair's; 6 has the first pair of (0, 1), (0, 2) and on with one CAS number. Others name no block, and
+ *   in zektonk_feeds_placed and zektonk_queue_placed the blocks of a refused feed or question have no place.
+ * - In zektonk_preview_placed the numbers 1, 2, 7, 8 and 9 of the block that is offered have ZEKTONK_PLACE_OFFERED: whether
+ *   the book or that block said no needs no second call. The book's own have its blocks.
+ * - Where the call answers this costs three words; where the book is refused, that question is put to its blocks again.
+ * - `place` is aligned as uint64_t is, and overlaps nothing else that is lent.
+ */
+uint64_t zektonk_answer_placed(const uint8_t *book, size_t book_len, const uint8_t *question, size_t question_len,
+                               uint8_t *answer, size_t answer_len, uint64_t *place, size_t place_len);
+uint64_t zektonk_pooled_placed(const uint8_t *book, size_t book_len, const uint8_t *question, size_t question_len,
+                               const uint8_t *drums, size_t drums_len, uint8_t *answer, size_t answer_len,
+                               uint64_t *place, size_t place_len);
+uint64_t zektonk_feeds_placed(const uint8_t *book, size_t book_len, const uint8_t *question, size_t question_len,
+                              const uint8_t *feeds, size_t feeds_len, uint8_t *answers, size_t answers_len,
+                              uint64_t *place, size_t place_len);
+uint64_t zektonk_preview_placed(const uint8_t *book, size_t book_len, const uint8_t *offered, size_t offered_len,
+                                const uint8_t *question, size_t question_len, uint8_t *answer, size_t answer_len,
+                                uint64_t *place, size_t place_len);
+uint64_t zektonk_queue_placed(const uint8_t *book, size_t book_len, const uint8_t *questions, size_t questions_len,
+                              uint64_t allowance, uint8_t *answers, size_t answers_len, uint64_t *place,
+                              size_t place_len);
+uint64_t zektonk_distance_placed(const uint8_t *book, size_t book_len, const uint8_t *question, size_t question_len,
+                                 uint64_t *result, size_t result_len, uint64_t *place, size_t place_len);
+
+/*
+ * A refusal in words, for who is rung up: "7: a pair's kind, its two places or a flag is wrong (block 5)." The number in
+ * decimal digits, its matter, in round brackets the place, and an end mark; printable ASCII, and no 0 behind it.
+ *
+ * Gives 0, the sentence at the front of `text`, the bytes behind it as they were, and in *length how many bytes it has,
+ * never more than ZEKTONK_SENTENCE_ROOM. Or gives 1 where `number` is none of 1 to 39, then 10 where `text_len` is below
+ * ZEKTONK_SENTENCE_ROOM, and `text` and *length stay as they were.
+ *
+ * - `place` is what a call gave beside its number. Fewer than ZEKTONK_PLACE_WORDS words, and another kind than 1 to 3, are
+ *   no place, so that NULL with length 0 will do. A place that the number can't have is left out.
+ * - Two refusals that differ in number or place have different sentences, and none is the beginning of another.
+ * - The refusals in the blocks of feeds, queued questions and the program `still` have sentences too, by their number.
+ * - `place` is only read, and is aligned as uint64_t is; `text` and `length` overlap neither it nor each other. No state
+ *   is kept, no memory is allocated.
+ */
+uint64_t zektonk_sentence(uint64_t number, const uint64_t *place, size_t place_len, uint8_t *text, size_t text_len,
+                          uint64_t *length);
 
 /* The float whose bits a word holds, as those of zektonk_floor do. */
 static inline double zektonk_float_of(uint64_t word)

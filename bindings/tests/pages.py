@@ -60,6 +60,14 @@ def enums() -> Dict[str, Places]:
     return found
 
 
+def commented(tag: str) -> Dict[int, str]:
+    """What stands beside each entry of an enumeration of the header, by its number."""
+    text = HEADER.read_text(encoding="utf-8")
+    (body,) = re.findall(rf"^enum {tag} \{{(.*?)^\}};", text, re.MULTILINE | re.DOTALL)
+    found = re.findall(r"= (\d+),?[ \t]*/\*(.*?)\*/", body, re.DOTALL)
+    return {int(number): " ".join(comment.split()) for number, comment in found}
+
+
 def prototypes() -> List[str]:
     """The names that the header declares and doesn't define."""
     text = re.sub(r"/\*.*?\*/", "", HEADER.read_text(encoding="utf-8"), flags=re.DOTALL)

@@ -130,6 +130,19 @@ class Examples(InFolder):
         run = self.run_in_folder("sh", "-c", f'"{program}" nowhere "{QUESTION}"; echo "status $?"')
         self.assertEqual(run.stdout, b"refused: 1\nstatus 1\n")
 
+    def test_reason_says_why_and_where(self):
+        """The first damage is none; a book that isn't there is refused with 1."""
+        program = self.compiled(C / "reason.c")
+        self.assert_stored("reason.txt", self.run_in_folder(program, BOOK, QUESTION).stdout.decode("ascii"))
+        lines = (C / "reason.txt").read_text(encoding="ascii").splitlines()
+        said = [line for line in lines if line[0].isdigit()]
+        self.assertEqual([line.partition(":")[0] for line in said], ["2", "3", "4", "5", "6", "7", "8", "7"])
+        found = [desk.refusals.sentence(int(line.partition(":")[0]), desk.places.read(line)) for line in said]
+        self.assertEqual(said, found)
+        run = self.run_in_folder("sh", "-c", f'"{program}" nowhere "{QUESTION}"; "{program}" nowhere; echo "status $?"')
+        first = f"{desk.refusals.sentence(1)}\n"
+        self.assertEqual(run.stdout.decode("ascii"), first * 9 + "status 2\n")
+
     def test_header_alone(self):
         self.compiled(C / "ask.c")
         strict = ("-fsyntax-only", "-Wsign-conversion", *WARNINGS)

@@ -10,6 +10,8 @@ import desk.batch
 import desk.blocks
 import desk.book
 import desk.distance
+import desk.library
+import desk.places
 import desk.pool
 import desk.preview
 import desk.question
@@ -18,7 +20,7 @@ import desk.readers
 import desk.refusals
 import desk.tasks
 from definitions import body, cases, every, fields, first, listed, numbers_of, spent, stated
-from pages import enums, macros, page, span
+from pages import commented, enums, macros, page, span
 from support import ANSWER_ROOM, BLOCK
 
 WORDS = 64
@@ -41,6 +43,8 @@ ANSWER = short("zektonk_answer_word", "ZEKTONK_ANSWER_WORD_")
 TRIAL = short("zektonk_trial_word", "ZEKTONK_TRIAL_WORD_")
 DISTANCE = short("zektonk_distance_word", "ZEKTONK_DISTANCE_WORD_")
 FLOOR = short("zektonk_floor_word", "ZEKTONK_FLOOR_WORD_")
+PLACE = short("zektonk_place_word", "ZEKTONK_PLACE_WORD_")
+PLACE_KIND = short("zektonk_place_kind", "ZEKTONK_PLACE_")
 FEED = short("zektonk_feed", "ZEKTONK_FEED_")
 TASK = short("zektonk_task", "ZEKTONK_")
 REFUSAL = short("zektonk_refusal", "ZEKTONK_")
@@ -206,6 +210,28 @@ class Definitions(unittest.TestCase):
         self.assertEqual(body("trials_right"), f"all_to (λ k. {kind}) n")
         room = f"need (leb {count} room) {REFUSAL['ANSWER_SHORT']} (ok ws)"
         self.assertEqual(body("floor_to"), f"bind (floor_of s) (λ ws. {room})")
+
+    def test_places(self):
+        """A kind, then the block or the two solvents; which numbers can have which."""
+        words = re.findall(r"place_words \(?(\w+)[^=]*? = (\d) ∷ (\w) ∷ (\w) ∷ \[\]", stated("place_words"))
+        cases = {name.upper(): number for name, number in PLACE_KIND.items()}
+        self.assertEqual({name.upper(): int(kind) for name, kind, _, _ in words}, cases)
+        self.assertEqual({name: rest for name, _, *rest in words}["Pair"], ["i", "j"])
+        self.assertEqual((PLACE["KIND"], PLACE["BLOCK"], PLACE["I"], PLACE["J"]), (0, 1, 1, 2))
+        self.assertIn(f"nat_le {macros()['ZEKTONK_PLACE_WORDS']} (length old)", body("place_written"))
+        names = ("BOOK_CHECK", "SOLVENT_BLOCK", "SOLVENT_NUMBER", "PAIR_BLOCK", "PAIR_NUMBER", "PAIR_ALPHAS")
+        self.assertEqual(body("put_to_blocks"), " || ".join(f"(r == {REFUSAL[name]})" for name in names))
+        names = ("BOOK_LENGTH", "BOOK_CHECK", "PAIR_BLOCK", "PAIR_NUMBER", "PAIR_ALPHAS")
+        self.assertEqual(body("put_to_offered"), " || ".join(f"(r == {REFUSAL[name]})" for name in names))
+        self.assertIn(f"can_have r (Pair i j) = r == {REFUSAL['SOLVENT_TWICE']}", stated("can_have"))
+
+    def test_sentences(self):
+        """1, then 10 below 160 bytes."""
+        first, last, room = REFUSAL["BOOK_LENGTH"], max(REFUSAL.values()), macros()["ZEKTONK_SENTENCE_ROOM"]
+        self.assertEqual(body("sentence_room"), room)
+        asked = f"need (nat_le {first} r && nat_le r {last}) {REFUSAL['BOOK_LENGTH']}"
+        asked += f" (need (nat_le sentence_room room) {REFUSAL['ANSWER_SHORT']} "
+        self.assertTrue(body("sentence_to").startswith(asked), body("sentence_to"))
 
     def test_tasks(self):
         """`task1` to `task9` are chosen by their numbers; each has the solver that the header's name says."""
@@ -420,8 +446,24 @@ class Page(unittest.TestCase):
         words = [word for name in page() if name.startswith("ZEKTONK_FLOOR_WORD_") for word in span(page()[name])]
         self.assertEqual(words, list(range(int(macros()["ZEKTONK_FLOOR_WORDS"]))))
         self.assertEqual(list(WILSON.values()), list(range(PAIR["TAU_IJ"], PAIR["TAU_JI"])))
+        words = [span(page()[f"ZEKTONK_PLACE_WORD_{name}"])[0] for name in PLACE]
+        self.assertEqual(sorted(set(words)), list(range(int(macros()["ZEKTONK_PLACE_WORDS"]))))
         words = [word for name in page() if name.startswith("ZEKTONK_DISTANCE_WORD_") for word in span(page()[name])]
         self.assertEqual(words, list(range(int(macros()["ZEKTONK_DISTANCE_WORDS"]))))
+
+
+class Phrases(unittest.TestCase):
+    """What the header says beside each refusal."""
+
+    def test_the_header_has_the_definitions_word_for_word(self):
+        matters = re.findall(r'codes "(.*?)"', body("matters"))
+        self.assertEqual(len(matters), max(REFUSAL.values()))
+        self.assertEqual(commented("zektonk_refusal"), dict(enumerate(matters, 1)))
+
+    @unittest.skipUnless(desk.library.offers("zektonk_sentence"), "the library has no zektonk_sentence")
+    def test_the_header_has_what_the_core_says(self):
+        said = {number: f"{number}: {matter}." for number, matter in commented("zektonk_refusal").items()}
+        self.assertEqual(said, {number: desk.library.sentence(number) for number in said})
 
 
 class Desk(unittest.TestCase):
@@ -490,6 +532,14 @@ class Desk(unittest.TestCase):
         self.assertEqual(found, tuple(int(macros()[f"ZEKTONK_{n}"]) for n in ("FLOOR_WORDS", "TRIALS_MOST")))
         numbers = (desk.readers.NO_ANSWER, desk.readers.NO_ROOM)
         self.assertEqual(numbers, (REFUSAL["BOOK_LENGTH"], REFUSAL["ANSWER_SHORT"]))
+
+    def test_places(self):
+        there = desk.places
+        self.assertEqual((there.KIND, there.BLOCK, there.I, there.J), tuple(PLACE.values()))
+        kinds = (there.NO_PLACE, there.A_BLOCK, there.A_PAIR, there.AN_OFFERED_BLOCK)
+        self.assertEqual(kinds, tuple(PLACE_KIND.values()))
+        found = (there.WORDS, desk.library.SENTENCE_ROOM)
+        self.assertEqual(found, tuple(int(macros()[f"ZEKTONK_{n}"]) for n in ("PLACE_WORDS", "SENTENCE_ROOM")))
 
     def test_drums(self):
         found = (desk.pool.DRUM_BYTES, desk.pool.MOST_DRUMS, desk.pool.MOST_TOTAL)

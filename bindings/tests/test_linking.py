@@ -20,7 +20,7 @@ class Page(InFolder):
         settings = {name: value for name, value in os.environ.items() if name != "ZEKTONK_LIB"}
         settings.update({"PYTHONPATH": str(self.folder), "ZEKTONK_LIB": "target/staticlib"})
         fences = FENCE.findall(LINKING.read_text(encoding="utf-8"))
-        self.assertEqual([kind for kind, _ in fences], ["sh", "text", "sh", *["python", "text"] * 8])
+        self.assertEqual([kind for kind, _ in fences], ["sh", "text", "sh", *["python", "text"] * 9])
         printed = ""
         for kind, text in fences:
             if kind == "text":

@@ -228,7 +228,7 @@ class Answers(InFolder):
         path = self.file("yard.txt", text)
         run = sheet("stability", "--book", path, "--drum", "p=0.5,w=0.5", "--temperature", "350K")
         self.assertEqual(run.status, 1)
-        self.assertIn("REFUSED, number 27\n", run.out)
+        self.assertIn("REFUSED, number 27: ", run.out)
         self.assertNotIn("layers", run.out)
 
     def test_version_2_answers_alike(self):
@@ -320,5 +320,5 @@ class Model37(InFolder):
         book = self.file("book.bin", self.book(3, 7))
         run = sheet("excess", "--book", book, "--drum", "67-63-0=0.5,7732-18-5=0.5", "--temperature", "70C")
         self.assertEqual(run.status, 1)
-        self.assertIn("REFUSED, number 37\n", run.out)
+        self.assertIn("REFUSED, number 37: ", run.out)
         self.assertIn("word 3 of its first block is 7, in version 3", " ".join(run.out.split()))

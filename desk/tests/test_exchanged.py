@@ -55,7 +55,7 @@ class Exchanged(InFolder):
             # the vapor pressure's first two coefficients
             book = self.file("book.bin", exchanged(self.by_version[version], 1, 8))
             run = sheet("bubble-pressure", "--book", book, *ASKED)
-            self.assertEqual(f"REFUSED, number {number}\n" in run.out, number != 0, run.out)
+            self.assertEqual(f"REFUSED, number {number}: " in run.out, number != 0, run.out)
         self.assertIn("or, in a book of version 3, exchanged", run.err)
 
     def test_an_unknown_version_is_said_in_words(self):
@@ -73,7 +73,7 @@ class Rules(unittest.TestCase):
 
     def written(self, content: bytes, block: bytes) -> bytes:
         with Core(content) as core:
-            return core._written(block)
+            return core._run(block)[0]
 
     def test_answers_are_those_of_version_2(self):
         drum = (0.3, 0.2, 0.5, 0.0, 0.0, 0.0)

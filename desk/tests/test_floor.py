@@ -135,7 +135,7 @@ class Words(InFolder):
         at = ("--temperature", "350K", "--pressure", "1bar", "--floor")
         run = sheet("flash", *sample, "--drum", "64-17-5=0.5,7732-18-5=0.5", *at, "--program", self.program(body))
         self.assertEqual(run.status, 1)
-        self.assertIn("REFUSED, number 27\n", run.out)
+        self.assertIn("REFUSED, number 27: ", run.out)
 
 
 # of two solvents, the words that each task's floor sheet hangs on; a phase that the outcome denies isn't shown

@@ -41,7 +41,7 @@ class RaisedLimits(unittest.TestCase):
         for command, given in spent.items():
             run = self.asked(command, *given)
             self.assertEqual(run.status, 1, command)
-            self.assertIn("REFUSED, number 27\n", run.out)
+            self.assertIn("REFUSED, number 27: ", run.out)
             self.assertIn(f"{refusals.KEPT}.", joined(run.out))
             self.assertNotEqual(self.asked(command).status, 1)
 

@@ -70,7 +70,7 @@ class RowsOfTheTable(Marked):
     def test_flash_refused_28_has_the_right_advice(self):
         run, found = self.asked("flash", "--drum", "toluene=0.44,water=0.56", "--temperature", "83.5C", *ATMOSPHERE)
         self.assert_marked(run, SPLITS + "the core refused (number 28)", status=1)
-        self.assertIn("REFUSED, number 28\n", run.out)
+        self.assertIn("REFUSED, number 28: ", run.out)
         self.assertIn("two liquid layers and no vapor", run.out)
         self.assertNotIn("rachford-rice", run.out)
         self.assertIn("./sheet layers --drum water=0.56,toluene=0.44 --temperature 356.65K", found["refusal"]["advice"])

@@ -441,7 +441,8 @@ class Numbers(InFolder):
         book = self.file("book.bin", self.of(0.046, -1.0))
         run = sheet("flash", "--book", book, "--names", str(SAMPLE), "--drum", "water=1", *FLASH)
         self.assertEqual(run.status, 1)
-        self.assertIn("a solvent's molar mass is not finite and positive: water -1 kg/mol", " ".join(run.out.split()))
+        said = "a solvent's molar mass is not finite and positive. Here: water -1 kg/mol."
+        self.assertIn(said, " ".join(run.out.split()))
         self.assertIn("number 35: a solvent's molar mass is not finite and positive: water -1 kg/mol\n", run.err)
         book = self.file("book.bin", self.of(TINY, 0.018))
         run = sheet("flash", "--book", book, "--names", str(SAMPLE), "--mass", "ethanol=1", *FLASH, "--json")
@@ -536,7 +537,7 @@ class Sheets(InFolder):
         self.assertEqual(run.status, 1)
         self.assertNotIn("mole fractions", run.out)
         (pasted,) = re.findall(r"    (--mass \S+)", run.out)
-        self.assertIn(f"(as given they sum to 0.9); add --normalize, or paste {pasted}\n", run.err)
+        self.assertIn(f": as given they sum to 0.9; add --normalize, or paste {pasted}\n", run.err)
         self.assertEqual(sheet("excess", *pasted.split(), "--temperature", "70C").status, 0)
         for more in (("--temperature", "25C"), ("--pressure", "1bar")):
             run = sheet("layers", "--mass", "ethanol=0.7,water=0.2", *more)

@@ -227,7 +227,7 @@ class Sheets(InFolder):
         self.assertEqual((weighed.status, weighed.out), (1, ""))
         self.assertIn("refused, number 35", weighed.err)
         run = sheet("excess", "--book", path, *drums("64-17-5=1mol", "7732-18-5=0mol"), "--temperature", "70C")
-        self.assertIn("REFUSED, number 35\n", run.out)
+        self.assertIn("REFUSED, number 35: ", run.out)
 
 
 class Refused(InFolder):
@@ -242,7 +242,7 @@ class Refused(InFolder):
     def test_too_many(self):
         run = sheet("excess", *drums(*["water=1mol"] * 65), "--temperature", "70C")
         self.assertEqual(run.status, 1)
-        self.assertIn("REFUSED, number 31\n", run.out)
+        self.assertIn("REFUSED, number 31: ", run.out)
         self.assertIn("refused, number 31: there are not 1 to 64 whole drums to pool: 65 were given\n", run.err)
         self.assertEqual(sheet("excess", *drums(*["water=1mol"] * 64), "--temperature", "70C").status, 0)
 

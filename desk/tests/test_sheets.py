@@ -160,7 +160,7 @@ class Refusals(InFolder):
             with self.subTest(number):
                 run = sheet(*arguments)
                 self.assertEqual(run.status, 1)
-                self.assertIn(f"REFUSED, number {number}\n", run.out)
+                self.assertIn(f"REFUSED, number {number}: ", run.out)
                 self.assertTrue(
                     run.err.startswith(f"sheet: refused, number {number}: {refusals.matter(number)}"), run.err
                 )

@@ -270,14 +270,18 @@ class Refused(InFolder):
         for number in OFFERED:
             path = self.file("pair.bin", damaged(number))
             run = sheet("flash", *DRUM, *TP, "--try", path)
-            words = refusals.matter(number, offered=True)
-            self.assertNotEqual(words, refusals.matter(number))
-            line = f"sheet: refused, number {number} of the pair tried: {words}\n"
+            said = f"{number}: {refusals.matter(number)} (the offered block)."
+            named = ["water", "ethanol"] if number in (2, 8, 9) else None
+            whose = ": the offered block is that of water and ethanol" if named else ""
+            line = f"sheet: refused, number {said[:-1]}{whose}\n"
             self.assertEqual((run.status, run.err), (1, line))
-            self.assertIn(f"REFUSED, number {number} of the pair tried\n", run.out)
+            self.assertIn(f"REFUSED, number {said}", " ".join(run.out.split()))
+            self.assertEqual("Here: the offered block is that of water and ethanol." in run.out, bool(named))
             self.assertNotIn("side by side", run.out)
             found = json.loads(sheet("flash", *DRUM, *TP, "--try", path, "--json").out)
-            self.assertEqual((found["refusal"]["number"], found["refusal"]["matter"]), (number, words))
+            self.assertEqual((found["refusal"]["number"], found["refusal"]["sentence"]), (number, said))
+            place = {"block": None, "solvents": None, "offered": True, "names": named or []}
+            self.assertEqual(found["refusal"]["place"], place)
             self.assertEqual((found["preview"]["refused"], found["preview"]["words"]), (number, None))
             self.assertIsNone(found["answer"])
             for command in (
@@ -296,8 +300,9 @@ class Refused(InFolder):
             path = self.file("pair.bin", damaged(number))
             asked = ("--book", book, "--drum", "64-17-5=1", *TP, "--try", path)
             run = sheet("flash", *asked)
-            self.assertIn("REFUSED, number 2\n", run.out)
-            self.assertEqual(run.err, f"sheet: refused, number 2: {refusals.matter(2)}\n")
+            self.assertIn("REFUSED, number 2: ", run.out)
+            whose = "block 1 is that of 7732-18-5"
+            self.assertEqual(run.err, f"sheet: refused, number 2: {refusals.matter(2)} (block 1): {whose}\n")
             found = json.loads(sheet("flash", *asked, "--json").out)
             self.assertEqual((found["preview"]["refused"], found["preview"]["by_the_book"]), (None, None))
 
@@ -305,7 +310,7 @@ class Refused(InFolder):
         """A pair that passes, and that the calculation refuses: 24 is no number of the offered block."""
         given = "pair ethanol water: tau ethanol water = t0 1; tau water ethanol = t0 1; alpha = -1"
         run = sheet("flash", *DRUM, *TP, "--try", given)
-        self.assertIn("REFUSED, number 24\n", run.out)
+        self.assertIn("REFUSED, number 24: ", run.out)
         self.assertRegex(run.out, r"(?m)^  refused +- +number 24$")
         self.assertTrue(run.err.startswith("sheet: refused, number 24: "), run.err)
 

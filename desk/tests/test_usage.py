@@ -242,7 +242,7 @@ class DamagedBooks(InFolder):
                 run = sheet(
                     "excess", "--book", self.file("book.bin", content), "--drum", "64-17-5=1", "--temperature", "70C"
                 )
-                self.assertIn(f"REFUSED, number {number}\n", run.out)
+                self.assertIn(f"REFUSED, number {number}: ", run.out)
                 self.assertEqual(run.status, 1)
 
     def damaged_alpha(self, value: float) -> bytes:

@@ -8,7 +8,6 @@ import unittest
 from dataclasses import replace
 
 from desk import book as books
-from desk import refusals
 from desk.answer import NOTE_WORDS, Blocks
 from desk.blocks import Rule, bits_of, check_right, joined, rule_of, split
 from desk.book import Interval, Model, Pair, WilsonPair
@@ -288,7 +287,7 @@ class Commands(InFolder):
 
     def test_37_is_explained(self):
         out = sheet("refusals", "37").out
-        self.assertIn("neither NRTL nor Wilson, or it is Wilson in a book of version 1", out)
+        self.assertIn("the book's model is neither NRTL nor, from version 2 on, Wilson", out)
         self.assertIn("'model = wilson' and the molar mass of every solvent", out)
 
 
@@ -338,7 +337,7 @@ class Named(InFolder):
             run, found = self.asked(self.file("book.bin", joined([head] + blocks[1:])), 37)
             self.assertEqual(run.status, 1)
             self.assertRegex(run.out, rf"2 solvents, model {model}, SHA-256\s")
-            self.assertIn("REFUSED, number 37\n", run.out)
+            self.assertIn("REFUSED, number 37: ", run.out)
             detail = f"word 3 of its first block is {model}, in version {version}"
             self.assertIn(detail, " ".join(run.out.split()))
             self.assertEqual((found["book"]["model"], found["refusal"]["detail"]), (None, detail))
@@ -357,9 +356,6 @@ class Named(InFolder):
         asked = ("excess", "--book", self.file("yard.txt", SMALL), "--mass", "p=0.5,w=0.5", "--temperature", "70C")
         self.assertNotIn("By moles", sheet(*asked, "--program", self.answering(37)).out)
         self.assertIn("By moles", sheet(*asked, "--program", self.answering(25)).out)
-
-    def test_matter_of_37(self):
-        self.assertIn("NRTL alone", refusals.matter(37))
 
     def test_words_of_a_model(self):
         for text, words in ((NRTL, "NRTL"), (SMALL, "Wilson")):

@@ -160,7 +160,7 @@ class Fractions(InFolder):
         run = sheet("excess", "--drum", "ethanol=0.333,water=0.333,acetone=0.333", "--temperature", "60C")
         self.assertEqual(run.status, 1)
         (pasted,) = re.findall(r"--drum (\S+)", run.out)
-        self.assertIn(f"(as given they sum to 0.999); add --normalize, or paste --drum {pasted}\n", run.err)
+        self.assertIn(f": as given they sum to 0.999; add --normalize, or paste --drum {pasted}\n", run.err)
         self.assertEqual(pasted, "water=0.333333333333,ethanol=0.333333333333,acetone=0.333333333333")
         self.assertEqual(sheet("excess", "--drum", pasted, "--temperature", "60C").status, 0)
 
@@ -198,7 +198,7 @@ class Fractions(InFolder):
     def test_what_can_t_be_normalized(self):
         for drum, number in (("ethanol=0,water=0", 18), ("ethanol=-1,water=3", 16)):
             run = sheet("excess", "--drum", drum, "--temperature", "60C", "--normalize")
-            self.assertIn(f"REFUSED, number {number}\n", run.out)
+            self.assertIn(f"REFUSED, number {number}: ", run.out)
 
 
 class Vanishing(InFolder):
@@ -215,7 +215,7 @@ class Vanishing(InFolder):
         ):
             run = sheet(*command, *drum)
             self.assertEqual(run.status, 1)
-            self.assertIn("REFUSED, number 34\n", run.out)
+            self.assertIn("REFUSED, number 34: ", run.out)
             self.assertIn(f"can't be brought to fractions that sum to 1: {steps}\n", run.err)
             self.assertIn("What to do: the drum is not to blame", run.out)
 

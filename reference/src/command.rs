@@ -3,7 +3,7 @@
 use crate::stage::{Stage, STAGES};
 
 pub const USAGE: &str =
-    "numbers|fractions|book|pressure|excess|rice|sheet|mass|exchanged|wilson|pooled|feeds|preview|queue|limits|distance|readers|all [--count N] [--seed S] [--counts]";
+    "numbers|fractions|book|pressure|excess|rice|sheet|mass|exchanged|wilson|pooled|feeds|preview|queue|limits|distance|readers|place|sentence|all [--count N] [--seed S] [--counts]";
 
 pub struct Options {
     pub stages: Vec<Stage>,
@@ -39,7 +39,9 @@ impl Options {
             Stage::Feeds => 20_000,
             Stage::Queue => 10_000,
             Stage::Distance => 20_000,
-            Stage::Readers => 1_000_000,
+            Stage::Readers | Stage::Sentence => 1_000_000,
+            // Of them more than 500,000 have a book that is refused.
+            Stage::Place => 640_000,
             _ => 200_000,
         })
     }

@@ -7,7 +7,9 @@ mod flashes;
 mod kinds;
 mod limits;
 mod pairs;
+mod places;
 mod queues;
+mod sentences;
 mod slices;
 
 use std::collections::BTreeMap;
@@ -18,7 +20,9 @@ use feeds::Feeds;
 use flashes::Flashes;
 use limits::Raised;
 use pairs::Pairs;
+use places::Places;
 use queues::Queues;
+use sentences::Sentences;
 use slices::Slices;
 
 use crate::generate::cases::{Cases, Kind};
@@ -298,6 +302,8 @@ pub struct Counts {
     raised: Raised,
     distances: Distances,
     slices: Slices,
+    places: Places,
+    sentences: Sentences,
     pub flashes: Flashes,
 }
 
@@ -305,6 +311,10 @@ impl Counts {
     pub fn add(&mut self, kind: Kind, case: &Case, found: &Found) {
         if let Case::Raised { asked, .. } = case {
             self.raised.add(case, found);
+            return self.add(kind, asked, found);
+        }
+        if let Case::Placed { asked, .. } = case {
+            self.places.add(case, found);
             return self.add(kind, asked, found);
         }
         self.all.add(found.refusal);
@@ -315,6 +325,7 @@ impl Counts {
         self.queues.add(case, found);
         self.distances.add(case, found);
         self.slices.add(case, found.refusal);
+        self.sentences.add(case, found);
         self.flashes.add(case, found);
     }
 
@@ -328,6 +339,8 @@ impl Counts {
             Stage::Limits => self.raised.print(),
             Stage::Distance => self.distances.print(),
             Stage::Readers => self.slices.print(),
+            Stage::Place => self.places.print(),
+            Stage::Sentence => self.sentences.print(),
             _ => {}
         }
         self.flashes.print();

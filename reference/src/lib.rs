@@ -9,6 +9,7 @@ pub mod generate;
 pub mod helpers;
 pub mod limits;
 pub mod named;
+pub mod placed;
 pub mod rattle;
 pub mod sheet;
 pub mod stage;

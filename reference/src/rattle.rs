@@ -121,6 +121,85 @@ extern "C" {
     /// The readers of an answer slice; `words_len` counts words.
     pub fn zektonk_floor(answer: *const u8, answer_len: usize, words: *mut u64, words_len: usize) -> u64;
     pub fn zektonk_lab(answer: *const u8, answer_len: usize) -> usize;
+
+    /// The calls above with the place beside the number; `place_len` counts words.
+    pub fn zektonk_answer_placed(
+        book: *const u8,
+        book_len: usize,
+        question: *const u8,
+        question_len: usize,
+        answer: *mut u8,
+        answer_len: usize,
+        place: *mut u64,
+        place_len: usize,
+    ) -> u64;
+    pub fn zektonk_pooled_placed(
+        book: *const u8,
+        book_len: usize,
+        question: *const u8,
+        question_len: usize,
+        drums: *const u8,
+        drums_len: usize,
+        answer: *mut u8,
+        answer_len: usize,
+        place: *mut u64,
+        place_len: usize,
+    ) -> u64;
+    pub fn zektonk_feeds_placed(
+        book: *const u8,
+        book_len: usize,
+        question: *const u8,
+        question_len: usize,
+        feeds: *const u8,
+        feeds_len: usize,
+        answer: *mut u8,
+        answer_len: usize,
+        place: *mut u64,
+        place_len: usize,
+    ) -> u64;
+    pub fn zektonk_preview_placed(
+        book: *const u8,
+        book_len: usize,
+        offered: *const u8,
+        offered_len: usize,
+        question: *const u8,
+        question_len: usize,
+        answer: *mut u8,
+        answer_len: usize,
+        place: *mut u64,
+        place_len: usize,
+    ) -> u64;
+    pub fn zektonk_queue_placed(
+        book: *const u8,
+        book_len: usize,
+        questions: *const u8,
+        questions_len: usize,
+        allowance: u64,
+        answers: *mut u8,
+        answers_len: usize,
+        place: *mut u64,
+        place_len: usize,
+    ) -> u64;
+    pub fn zektonk_distance_placed(
+        book: *const u8,
+        book_len: usize,
+        question: *const u8,
+        question_len: usize,
+        result: *mut u64,
+        result_len: usize,
+        place: *mut u64,
+        place_len: usize,
+    ) -> u64;
+
+    /// A refusal in words; `length` is one word.
+    pub fn zektonk_sentence(
+        number: u64,
+        place: *const u64,
+        place_len: usize,
+        text: *mut u8,
+        text_len: usize,
+        length: *mut u64,
+    ) -> u64;
 }
 
 /// `Some` of the call where its stage is built in.
@@ -292,4 +371,114 @@ pub fn floor(answer: &[u8], words: &mut [u64]) -> Option<u64> {
 /// Bytes of the lab's part, 0 for none.
 pub fn lab(answer: &[u8]) -> Option<usize> {
     offered!("readers", zektonk_lab(answer.as_ptr(), answer.len()))
+}
+
+/// The number, and the place in `place`.
+pub fn answer_placed(book: &[u8], question: &[u8], answer: &mut [u8], place: &mut [u64]) -> Option<u64> {
+    offered!(
+        "place",
+        zektonk_answer_placed(
+            book.as_ptr(),
+            book.len(),
+            question.as_ptr(),
+            question.len(),
+            answer.as_mut_ptr(),
+            answer.len(),
+            place.as_mut_ptr(),
+            place.len()
+        )
+    )
+}
+
+/// As `with_one_more`, and the place.
+macro_rules! placed_with_one_more {
+    ($symbol:ident($first:ident, $second:ident, $third:ident, $answer:ident, $place:ident)) => {
+        offered!(
+            "place",
+            $symbol(
+                $first.as_ptr(),
+                $first.len(),
+                $second.as_ptr(),
+                $second.len(),
+                $third.as_ptr(),
+                $third.len(),
+                $answer.as_mut_ptr(),
+                $answer.len(),
+                $place.as_mut_ptr(),
+                $place.len()
+            )
+        )
+    };
+}
+
+pub fn pooled_placed(book: &[u8], question: &[u8], drums: &[u8], answer: &mut [u8], place: &mut [u64]) -> Option<u64> {
+    placed_with_one_more!(zektonk_pooled_placed(book, question, drums, answer, place))
+}
+
+pub fn feeds_placed(book: &[u8], question: &[u8], feeds: &[u8], answers: &mut [u8], place: &mut [u64]) -> Option<u64> {
+    placed_with_one_more!(zektonk_feeds_placed(book, question, feeds, answers, place))
+}
+
+pub fn preview_placed(
+    book: &[u8],
+    offered: &[u8],
+    question: &[u8],
+    answer: &mut [u8],
+    place: &mut [u64],
+) -> Option<u64> {
+    placed_with_one_more!(zektonk_preview_placed(book, offered, question, answer, place))
+}
+
+pub fn queue_placed(
+    book: &[u8],
+    questions: &[u8],
+    allowance: u64,
+    answers: &mut [u8],
+    place: &mut [u64],
+) -> Option<u64> {
+    offered!(
+        "place",
+        zektonk_queue_placed(
+            book.as_ptr(),
+            book.len(),
+            questions.as_ptr(),
+            questions.len(),
+            allowance,
+            answers.as_mut_ptr(),
+            answers.len(),
+            place.as_mut_ptr(),
+            place.len()
+        )
+    )
+}
+
+pub fn distance_placed(book: &[u8], question: &[u8], result: &mut [u64], place: &mut [u64]) -> Option<u64> {
+    offered!(
+        "place",
+        zektonk_distance_placed(
+            book.as_ptr(),
+            book.len(),
+            question.as_ptr(),
+            question.len(),
+            result.as_mut_ptr(),
+            result.len(),
+            place.as_mut_ptr(),
+            place.len()
+        )
+    )
+}
+
+/// The number; the sentence at the front of `text` and how many bytes it has in `length`.
+pub fn sentence(number: u64, place: &[u64], text: &mut [u8], length: &mut u64) -> Option<u64> {
+    offered!(
+        "sentence",
+        zektonk_sentence(
+            number,
+            place.as_ptr(),
+            place.len(),
+            text.as_mut_ptr(),
+            text.len(),
+            std::ptr::from_mut(length)
+        )
+    )
 }

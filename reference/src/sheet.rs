@@ -5,12 +5,14 @@ pub mod blocks;
 pub mod book;
 pub mod distance;
 pub mod feeds;
+pub mod place;
 pub mod pool;
 pub mod preview;
 pub mod question;
 pub mod queue;
 pub mod readers;
 pub mod reply;
+pub mod sentence;
 
 pub use book::{open_book, Book};
 

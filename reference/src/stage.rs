@@ -8,13 +8,15 @@ use crate::helpers::{self, bits_of};
 use crate::limits::{self, Limits};
 use crate::named::liquid::Correlation;
 use crate::named::rachford_rice::{rachford_rice, rachford_rice_negative, RachfordRiceOutcome, RachfordRiceSolution};
+use crate::placed;
 use crate::rattle;
 use crate::sheet::blocks::Rule;
 use crate::sheet::book::{Pairs, Solvent};
 use crate::sheet::distance::{self, Search, Way, RESULT_WORDS};
+use crate::sheet::place::PLACE_WORDS;
 use crate::sheet::readers;
 use crate::sheet::reply::TRIALS;
-use crate::sheet::{self, open_book, Book, ANSWER_BYTES};
+use crate::sheet::{self, open_book, sentence, Book, ANSWER_BYTES};
 use crate::types::Temperature;
 use crate::with::With;
 
@@ -47,9 +49,13 @@ pub enum Stage {
     Distance,
     /// Answer slices, for the floor and for the lab.
     Readers,
+    /// Calls with the place beside the number.
+    Place,
+    /// Refusals in words.
+    Sentence,
 }
 
-pub const STAGES: [Stage; 17] = [
+pub const STAGES: [Stage; 19] = [
     Stage::Numbers,
     Stage::Fractions,
     Stage::Book,
@@ -67,6 +73,8 @@ pub const STAGES: [Stage; 17] = [
     Stage::Limits,
     Stage::Distance,
     Stage::Readers,
+    Stage::Place,
+    Stage::Sentence,
 ];
 
 impl Stage {
@@ -89,6 +97,8 @@ impl Stage {
             Stage::Limits => "limits",
             Stage::Distance => "distance",
             Stage::Readers => "readers",
+            Stage::Place => "place",
+            Stage::Sentence => "sentence",
         }
     }
 
@@ -119,6 +129,8 @@ impl Stage {
             Stage::Limits => cfg!(feature = "limits"),
             Stage::Distance => cfg!(feature = "distance"),
             Stage::Readers => cfg!(feature = "readers"),
+            Stage::Place => cfg!(feature = "place"),
+            Stage::Sentence => cfg!(feature = "sentence"),
         }
     }
 
@@ -132,6 +144,7 @@ impl Stage {
                 | Stage::Excess
                 | Stage::Rice
                 | Stage::Readers
+                | Stage::Sentence
         )
     }
 }
@@ -216,6 +229,17 @@ pub enum Case {
         slice: Vec<u8>,
         room: usize,
     },
+    /// One of the six calls, and room for so many words of the place.
+    Placed {
+        asked: Box<Case>,
+        room: usize,
+    },
+    /// A number, the words of a place, and bytes for the text.
+    Sentence {
+        number: u64,
+        place: Vec<u64>,
+        room: usize,
+    },
 }
 
 /// One side's result: the refusal number (0 for an answer) and all words that were returned or written.
@@ -231,6 +255,7 @@ pub struct Found {
 
 /// What stands in an output before the call.
 const UNTOUCHED: f64 = -1.2345e67;
+const NO_LENGTH: u64 = 0x7777_0000_7777;
 
 impl Case {
     /// The reference's result.
@@ -273,6 +298,18 @@ impl Case {
                 let bytes = readers::lab(slice).map_or(0, <[u8]>::len);
                 refused_or(number, with_number(bytes as u64, words))
             }
+            Case::Placed { asked, room } => {
+                let mut found = asked.expected();
+                let mut place = bytes_as_words(&unwritten(8 * room));
+                placed::place_of(asked, found.refusal).write(&mut place);
+                found.words.append(&mut place);
+                found
+            }
+            Case::Sentence { number, place, room } => {
+                let (mut text, mut length) = (unwritten(*room), NO_LENGTH);
+                let refusal = sentence::write(*number, place, &mut text, &mut length);
+                refused_or(refusal, with_number(length, bytes_as_words(&text)))
+            }
         }
     }
 
@@ -282,7 +319,7 @@ impl Case {
             Case::Sheet { book, question, .. }
             | Case::With { book, question, .. }
             | Case::Distance { book, question, .. } => Some((book, question)),
-            Case::Raised { asked, .. } => asked.sheet(),
+            Case::Raised { asked, .. } | Case::Placed { asked, .. } => asked.sheet(),
             _ => None,
         }
     }
@@ -375,7 +412,46 @@ impl Case {
                 words.extend((black_box(&own) != slice).then_some(0));
                 Some(with_number(number, with_number(bytes, words)))
             }
+            Case::Placed { asked, room } => asked.offered_placed(*room),
+            Case::Sentence { number, place, room } => {
+                let (own, mut text, mut length) = (place.clone(), unwritten(*room), NO_LENGTH);
+                let refusal = rattle::sentence(*number, &own, &mut text, &mut length)?;
+                let mut words = with_number(refusal, with_number(length, bytes_as_words(&text)));
+                // A word too many: the place was written.
+                words.extend((black_box(&own) != place).then_some(0));
+                Some(words)
+            }
         }
+    }
+
+    /// The core's words of one of the six calls and, behind them, of the place.
+    fn offered_placed(&self, room: usize) -> Option<Vec<u64>> {
+        let mut place = bytes_as_words(&unwritten(8 * room));
+        let (with, book, question, lent) = match self {
+            Case::With { with, book, question, lent, .. } => (Some(*with), book, question, &lent[..]),
+            Case::Sheet { book, question, .. } | Case::Distance { book, question, .. } => {
+                (None, book, question, &[][..])
+            }
+            _ => unreachable!("one of the six calls"),
+        };
+        let own = [&book[..], question, lent].map(<[u8]>::to_vec);
+        let read = own.each_ref().map(Vec::as_slice);
+        let (number, written) = match self {
+            Case::Distance { room, .. } => {
+                let mut words = bytes_as_words(&unwritten(8 * room));
+                (rattle::distance_placed(read[0], read[1], &mut words, &mut place)?, words)
+            }
+            Case::Sheet { room, .. } | Case::With { room, .. } => {
+                let mut answer = unwritten(*room);
+                (placed::core(with, read, &mut answer, &mut place)?, bytes_as_words(&answer))
+            }
+            _ => unreachable!("one of the six calls"),
+        };
+        let mut words = with_number(number, written);
+        words.extend(place);
+        // A word too many: what is only read was written.
+        words.extend((black_box(read) != [&book[..], question, lent]).then_some(0));
+        Some(words)
     }
 
     /// Name and inputs as hex words.
@@ -420,6 +496,31 @@ impl Case {
                 hex_bytes(&mut line, slice);
                 hex(&mut line, &[*room as u64]);
             }
+            Case::Placed { asked, room } => {
+                hex(&mut line, &[placed::call_of(asked) as u64]);
+                line.push_str(&asked.line()[asked.name().len()..]);
+                hex(&mut line, &[*room as u64]);
+            }
+            Case::Sentence { number, place, room } => {
+                hex(&mut line, &[*number]);
+                hex(&mut line, place);
+                hex(&mut line, &[*room as u64]);
+            }
+        }
+        line
+    }
+
+    /// The reference's results as they are stored.
+    pub fn results(&self) -> String {
+        let mut line = String::new();
+        let words = self.stored();
+        hex(&mut line, &words[..1]);
+        match (self, &words[1..]) {
+            (Case::Sentence { .. }, [length, text @ ..]) => {
+                write!(line, " b{length}").expect("a string takes it");
+                hex_words(&mut line, text);
+            }
+            (_, words) => hex_words(&mut line, words),
         }
         line
     }
@@ -433,6 +534,12 @@ impl Case {
             Case::Normalize { .. } | Case::Pressure { .. } | Case::Excess { .. } if words[0] == 0 => words.len(),
             Case::Rice { .. } if words[0] == 3 => words.len(),
             Case::Distance { room, .. } if words[0] == 0 && *room >= RESULT_WORDS => 1 + RESULT_WORDS,
+            // The number and the place, without what the call wrote besides.
+            Case::Placed { room, .. } => {
+                words.drain(1..words.len() - room);
+                1 + if *room >= PLACE_WORDS { PLACE_WORDS } else { 0 }
+            }
+            Case::Sentence { .. } if words[0] == 0 => return stored_text(&words),
             // The number and the lab's bytes; then the floor's words.
             Case::Readers { .. } => 2 + if words[0] == 0 { readers::FLOOR_WORDS } else { 0 },
             Case::Number { .. } | Case::Fractions { .. } | Case::Book { .. } => words.len(),
@@ -467,8 +574,16 @@ impl Case {
             Case::Raised { asked, .. } => asked.name(),
             Case::Distance { .. } => "distance",
             Case::Readers { .. } => "readers",
+            Case::Placed { .. } => "place",
+            Case::Sentence { .. } => "sentence",
         }
     }
+}
+
+/// Number, length and text, 0 past the length.
+fn stored_text(words: &[u64]) -> Vec<u64> {
+    let bytes: Vec<u8> = words[2..].iter().flat_map(|word| word.to_le_bytes()).collect();
+    [&words[..2], &bytes_as_words(&bytes[..words[1] as usize])].concat()
 }
 
 /// Of an answer block, whose word 12 is the number of trials, and those.

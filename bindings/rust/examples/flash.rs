@@ -11,7 +11,7 @@ fn main() -> Result<(), Box<dyn std::error::Error>> {
         print!("{} K, {pressure} Pa: ", temperature.0);
         match tp_flash(&book, [0.5, 0.5], temperature, Pascal(pressure), Options::default()) {
             Ok(flash) => println!("{}", describe(&flash)),
-            Err(refusal) => println!("{refusal}"),
+            Err(refusal) => println!("refused with {refusal}"),
         }
     }
     Ok(())

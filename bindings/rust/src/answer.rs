@@ -8,7 +8,7 @@ use crate::format::answer::{
     REFUSAL, RESIDUAL, SLOPES, STABLE, TASK, TEMPERATURE, TRIALS, VALIDITY, VAPOR, VAPOR_FRACTION,
 };
 use crate::format::{any, kind, note, outcome, task, trial, validity};
-use crate::{Kelvin, Pascal, Refusal, UpToEight};
+use crate::{Kelvin, Pascal, Reason, Refusal, UpToEight};
 
 /// What a task gives.
 #[derive(Debug, Clone, PartialEq)]
@@ -285,7 +285,7 @@ impl Answer {
         if head.word(REFUSAL) == 0 {
             return reader.answer(head).map(Ok);
         }
-        Refusal::from_number(head.word(REFUSAL)).map(Err).ok_or(Malformed::Word(0, REFUSAL))
+        Reason::from_number(head.word(REFUSAL)).map(|reason| Err(reason.into())).ok_or(Malformed::Word(0, REFUSAL))
     }
 
     /// The task that was asked, 1 to 9.
@@ -459,7 +459,7 @@ mod tests {
 
     #[test]
     fn refusal_block_of_the_program() {
-        assert_eq!(Answer::decode(&head(7).word(REFUSAL, 27).seal(), 2), Ok(Err(Refusal::NotConverged)));
+        assert_eq!(Answer::decode(&head(7).word(REFUSAL, 27).seal(), 2), Ok(Err(Reason::NotConverged.into())));
         assert_eq!(Answer::decode(&head(0).word(REFUSAL, 40).seal(), 2), Err(Malformed::Word(0, REFUSAL)));
     }
 

@@ -1,18 +1,20 @@
-//! The six calls of the core, and its two readers.
+//! The six calls of the core, its two readers, and a refusal in words.
 
-use crate::{Distance, Refusal, DISTANCE_WORDS};
+use crate::{Distance, Place, Reason, Refusal, DISTANCE_WORDS, PLACE_WORDS};
 
 extern "C" {
-    fn zektonk_answer(
+    fn zektonk_answer_placed(
         book: *const u8,
         book_len: usize,
         question: *const u8,
         question_len: usize,
         answer: *mut u8,
         answer_len: usize,
+        place: *mut u64,
+        place_len: usize,
     ) -> u64;
 
-    fn zektonk_pooled(
+    fn zektonk_pooled_placed(
         book: *const u8,
         book_len: usize,
         question: *const u8,
@@ -21,9 +23,11 @@ extern "C" {
         drums_len: usize,
         answer: *mut u8,
         answer_len: usize,
+        place: *mut u64,
+        place_len: usize,
     ) -> u64;
 
-    fn zektonk_feeds(
+    fn zektonk_feeds_placed(
         book: *const u8,
         book_len: usize,
         question: *const u8,
@@ -32,9 +36,11 @@ extern "C" {
         feeds_len: usize,
         answers: *mut u8,
         answers_len: usize,
+        place: *mut u64,
+        place_len: usize,
     ) -> u64;
 
-    fn zektonk_preview(
+    fn zektonk_preview_placed(
         book: *const u8,
         book_len: usize,
         offered: *const u8,
@@ -43,9 +49,11 @@ extern "C" {
         question_len: usize,
         answer: *mut u8,
         answer_len: usize,
+        place: *mut u64,
+        place_len: usize,
     ) -> u64;
 
-    fn zektonk_queue(
+    fn zektonk_queue_placed(
         book: *const u8,
         book_len: usize,
         questions: *const u8,
@@ -53,20 +61,33 @@ extern "C" {
         allowance: u64,
         answers: *mut u8,
         answers_len: usize,
+        place: *mut u64,
+        place_len: usize,
     ) -> u64;
 
-    fn zektonk_distance(
+    fn zektonk_distance_placed(
         book: *const u8,
         book_len: usize,
         question: *const u8,
         question_len: usize,
         result: *mut u64,
         result_len: usize,
+        place: *mut u64,
+        place_len: usize,
     ) -> u64;
 
     fn zektonk_floor(answer: *const u8, answer_len: usize, words: *mut u64, words_len: usize) -> u64;
 
     fn zektonk_lab(answer: *const u8, answer_len: usize) -> usize;
+
+    fn zektonk_sentence(
+        number: u64,
+        place: *const u64,
+        place_len: usize,
+        text: *mut u8,
+        text_len: usize,
+        length: *mut u64,
+    ) -> u64;
 }
 
 /// Answers `question` from `book`: the answer's block, and as many trial blocks as its word 12 says, at the front of
@@ -77,7 +98,7 @@ extern "C" {
 ///
 /// # Errors
 ///
-/// The core's number, as a [`Refusal`].
+/// The core's number and the place where the book said no, as a [`Refusal`].
 ///
 /// # Rounding
 ///
@@ -92,7 +113,7 @@ extern "C" {
 /// Where the core gives a number that is no refusal, which it is proved not to.
 ///
 /// ```
-/// use zektonk::{answer_bytes, Refusal, ANSWER_ROOM};
+/// use zektonk::{answer_bytes, Reason, Refusal, ANSWER_ROOM};
 ///
 /// let book = include_bytes!("../../../crates/still/data/book.bin");
 /// let question = include_bytes!("../../../crates/still/stdin");
@@ -101,17 +122,27 @@ extern "C" {
 /// answer_bytes(book, question, &mut room)?;
 /// assert_eq!(&room[..expected.len()], expected);
 /// assert!(room[expected.len()..].iter().all(|byte| *byte == 0xaa));
-/// assert_eq!(answer_bytes(book, question, &mut room[1..]), Err(Refusal::AnswerShort));
+/// assert_eq!(answer_bytes(book, question, &mut room[1..]), Err(Reason::AnswerShort.into()));
 /// # Ok::<(), Refusal>(())
 /// ```
 pub fn answer_bytes(book: &[u8], question: &[u8], answer: &mut [u8]) -> Result<(), Refusal> {
-    // SAFETY: each pointer and length are those of a slice that lives through the call, `answer` is borrowed alone, and
-    // the core reads and writes inside the slices only.
+    let mut place = [0; PLACE_WORDS];
+    // SAFETY: each pointer and length are those of a slice that lives through the call, `answer` and `place` are
+    // borrowed alone, and the core reads and writes inside the slices only.
     #[allow(unsafe_code)]
     let number = unsafe {
-        zektonk_answer(book.as_ptr(), book.len(), question.as_ptr(), question.len(), answer.as_mut_ptr(), answer.len())
+        zektonk_answer_placed(
+            book.as_ptr(),
+            book.len(),
+            question.as_ptr(),
+            question.len(),
+            answer.as_mut_ptr(),
+            answer.len(),
+            place.as_mut_ptr(),
+            place.len(),
+        )
     };
-    ended(number)
+    ended(number, place)
 }
 
 /// The same with the pool of drums as the feed. Each is 64 bytes, eight little-endian counts of micromoles, of which as
@@ -131,7 +162,7 @@ pub fn answer_bytes(book: &[u8], question: &[u8], answer: &mut [u8]) -> Result<(
 /// Where the core gives a number that is no refusal, which it is proved not to.
 ///
 /// ```
-/// use zektonk::{pooled_bytes, Refusal, ANSWER_ROOM};
+/// use zektonk::{pooled_bytes, Reason, Refusal, ANSWER_ROOM};
 ///
 /// let book = include_bytes!("../../../crates/still/data/book.bin");
 /// let question = include_bytes!("../../../crates/still/stdin");
@@ -144,14 +175,15 @@ pub fn answer_bytes(book: &[u8], question: &[u8], answer: &mut [u8]) -> Result<(
 /// let mut room = [0; ANSWER_ROOM];
 /// pooled_bytes(book, question, &drums, &mut room)?;
 /// assert_eq!(&room[..expected.len()], expected);
-/// assert_eq!(pooled_bytes(book, question, &drums[1..], &mut room), Err(Refusal::DrumsLength));
+/// assert_eq!(pooled_bytes(book, question, &drums[1..], &mut room), Err(Reason::DrumsLength.into()));
 /// # Ok::<(), Refusal>(())
 /// ```
 pub fn pooled_bytes(book: &[u8], question: &[u8], drums: &[u8], answer: &mut [u8]) -> Result<(), Refusal> {
+    let mut place = [0; PLACE_WORDS];
     // SAFETY: as above.
     #[allow(unsafe_code)]
     let number = unsafe {
-        zektonk_pooled(
+        zektonk_pooled_placed(
             book.as_ptr(),
             book.len(),
             question.as_ptr(),
@@ -160,9 +192,11 @@ pub fn pooled_bytes(book: &[u8], question: &[u8], drums: &[u8], answer: &mut [u8
             drums.len(),
             answer.as_mut_ptr(),
             answer.len(),
+            place.as_mut_ptr(),
+            place.len(),
         )
     };
-    ended(number)
+    ended(number, place)
 }
 
 /// One question put to each of 1 to 64 feeds, for tasks 1, 2, 3, 6 and 7. Each is 64 bytes, eight little-endian floats
@@ -184,7 +218,7 @@ pub fn pooled_bytes(book: &[u8], question: &[u8], drums: &[u8], answer: &mut [u8
 /// Where the core gives a number that is no refusal, which it is proved not to.
 ///
 /// ```
-/// use zektonk::{feeds_bytes, Answer, Refusal, ANSWER_ROOM};
+/// use zektonk::{feeds_bytes, Answer, Reason, Refusal, ANSWER_ROOM};
 ///
 /// let book = include_bytes!("../../../crates/still/data/book.bin");
 /// let question = include_bytes!("../../../crates/still/stdin");
@@ -196,16 +230,17 @@ pub fn pooled_bytes(book: &[u8], question: &[u8], drums: &[u8], answer: &mut [u8
 /// let mut room = [0; 2 * ANSWER_ROOM];
 /// feeds_bytes(book, question, &feeds, &mut room)?;
 /// assert_eq!(&room[..expected.len()], expected);
-/// assert_eq!(Answer::decode(&room[ANSWER_ROOM..], 2), Ok(Err(Refusal::FractionSum)));
-/// assert_eq!(feeds_bytes(book, question, &feeds[1..], &mut room), Err(Refusal::FeedsLength));
-/// assert_eq!(feeds_bytes(book, question, &feeds, &mut room[1..]), Err(Refusal::AnswerShort));
+/// assert_eq!(Answer::decode(&room[ANSWER_ROOM..], 2), Ok(Err(Reason::FractionSum.into())));
+/// assert_eq!(feeds_bytes(book, question, &feeds[1..], &mut room), Err(Reason::FeedsLength.into()));
+/// assert_eq!(feeds_bytes(book, question, &feeds, &mut room[1..]), Err(Reason::AnswerShort.into()));
 /// # Ok::<(), Refusal>(())
 /// ```
 pub fn feeds_bytes(book: &[u8], question: &[u8], feeds: &[u8], answers: &mut [u8]) -> Result<(), Refusal> {
+    let mut place = [0; PLACE_WORDS];
     // SAFETY: as above.
     #[allow(unsafe_code)]
     let number = unsafe {
-        zektonk_feeds(
+        zektonk_feeds_placed(
             book.as_ptr(),
             book.len(),
             question.as_ptr(),
@@ -214,9 +249,11 @@ pub fn feeds_bytes(book: &[u8], question: &[u8], feeds: &[u8], answers: &mut [u8
             feeds.len(),
             answers.as_mut_ptr(),
             answers.len(),
+            place.as_mut_ptr(),
+            place.len(),
         )
     };
-    ended(number)
+    ended(number, place)
 }
 
 /// What [`answer_bytes`] would say of a copy of `book` that holds the block `offered` in place of the pair with the same
@@ -225,14 +262,15 @@ pub fn feeds_bytes(book: &[u8], question: &[u8], feeds: &[u8], answers: &mut [u8
 /// # Errors
 ///
 /// The core's number, as a [`Refusal`]. Behind the book's own questions 1, 2, 7, 8 and 9 are put to the offered block:
-/// 512 bytes, its check by the book's version, a pair of solvents i < j of the book, finite numbers, equal alphas.
+/// 512 bytes, its check by the book's version, a pair of solvents i < j of the book, finite numbers, equal alphas. Its
+/// place says so.
 ///
 /// # Panics
 ///
 /// Where the core gives a number that is no refusal, which it is proved not to.
 ///
 /// ```
-/// use zektonk::{answer_bytes, preview_bytes, Refusal, ANSWER_ROOM};
+/// use zektonk::{answer_bytes, preview_bytes, Place, Reason, Refusal, ANSWER_ROOM};
 ///
 /// let book = include_bytes!("../../../crates/still/data/book.bin");
 /// let question = include_bytes!("../../../crates/still/stdin");
@@ -242,15 +280,16 @@ pub fn feeds_bytes(book: &[u8], question: &[u8], feeds: &[u8], answers: &mut [u8
 /// let mut room = [0; ANSWER_ROOM];
 /// preview_bytes(book, pair, question, &mut room)?;
 /// assert_eq!(&room[..expected.len()], expected);
-/// assert_eq!(preview_bytes(book, &pair[1..], question, &mut room), Err(Refusal::BookLength));
-/// assert_eq!(preview_bytes(book, &book[..512], question, &mut room), Err(Refusal::PairBlock));
+/// assert_eq!(preview_bytes(book, &pair[1..], question, &mut room), Err(Reason::BookLength.at(Place::Offered)));
+/// assert_eq!(preview_bytes(book, &book[..512], question, &mut room), Err(Reason::PairBlock.at(Place::Offered)));
 /// # Ok::<(), Refusal>(())
 /// ```
 pub fn preview_bytes(book: &[u8], offered: &[u8], question: &[u8], answer: &mut [u8]) -> Result<(), Refusal> {
+    let mut place = [0; PLACE_WORDS];
     // SAFETY: as above.
     #[allow(unsafe_code)]
     let number = unsafe {
-        zektonk_preview(
+        zektonk_preview_placed(
             book.as_ptr(),
             book.len(),
             offered.as_ptr(),
@@ -259,9 +298,11 @@ pub fn preview_bytes(book: &[u8], offered: &[u8], question: &[u8], answer: &mut 
             question.len(),
             answer.as_mut_ptr(),
             answer.len(),
+            place.as_mut_ptr(),
+            place.len(),
         )
     };
-    ended(number)
+    ended(number, place)
 }
 
 /// 1 to 64 flash questions, 512 bytes each, in order under one allowance of activity evaluations. One whose
@@ -284,7 +325,7 @@ pub fn preview_bytes(book: &[u8], offered: &[u8], question: &[u8], answer: &mut 
 /// Where the core gives a number that is no refusal, which it is proved not to.
 ///
 /// ```
-/// use zektonk::{queue_bytes, Queued, Refusal, ANSWER_ROOM};
+/// use zektonk::{queue_bytes, Queued, Reason, Refusal, ANSWER_ROOM};
 ///
 /// let book = include_bytes!("../../../crates/still/data/book.bin");
 /// let question = include_bytes!("../../../crates/still/stdin");
@@ -295,15 +336,16 @@ pub fn preview_bytes(book: &[u8], offered: &[u8], question: &[u8], answer: &mut 
 /// queue_bytes(book, &both, 2004, &mut room)?;
 /// assert_eq!(&room[..expected.len()], expected);
 /// assert_eq!(Queued::decode(&room[ANSWER_ROOM..], 2), Ok(Queued::PutOff));
-/// assert_eq!(queue_bytes(book, &both[1..], 2004, &mut room), Err(Refusal::QueueQuestions));
-/// assert_eq!(queue_bytes(book, &both, 2004, &mut room[1..]), Err(Refusal::AnswerShort));
+/// assert_eq!(queue_bytes(book, &both[1..], 2004, &mut room), Err(Reason::QueueQuestions.into()));
+/// assert_eq!(queue_bytes(book, &both, 2004, &mut room[1..]), Err(Reason::AnswerShort.into()));
 /// # Ok::<(), Refusal>(())
 /// ```
 pub fn queue_bytes(book: &[u8], questions: &[u8], allowance: u64, answers: &mut [u8]) -> Result<(), Refusal> {
+    let mut place = [0; PLACE_WORDS];
     // SAFETY: as above.
     #[allow(unsafe_code)]
     let number = unsafe {
-        zektonk_queue(
+        zektonk_queue_placed(
             book.as_ptr(),
             book.len(),
             questions.as_ptr(),
@@ -311,9 +353,11 @@ pub fn queue_bytes(book: &[u8], questions: &[u8], allowance: u64, answers: &mut 
             allowance,
             answers.as_mut_ptr(),
             answers.len(),
+            place.as_mut_ptr(),
+            place.len(),
         )
     };
-    ended(number)
+    ended(number, place)
 }
 
 /// The [`Distance`] from the pressure of a flash question, task 7, to the first step of 100 Pa with another outcome, by
@@ -329,22 +373,32 @@ pub fn queue_bytes(book: &[u8], questions: &[u8], allowance: u64, answers: &mut 
 /// Where the core gives a number that is no refusal, which it is proved not to.
 ///
 /// ```
-/// use zektonk::{distance_bytes, Distance, Refusal};
+/// use zektonk::{distance_bytes, Distance, Reason, Refusal};
 ///
 /// let book = include_bytes!("../../../crates/still/data/book.bin");
 /// let question = include_bytes!("../../../crates/still/stdin");
 /// assert_eq!(distance_bytes(book, question)?, Distance::Step { steps: 64, outcome: 1, refused: 0 });
-/// assert_eq!(distance_bytes(book, &question[1..]), Err(Refusal::QuestionBlock));
+/// assert_eq!(distance_bytes(book, &question[1..]), Err(Reason::QuestionBlock.into()));
 /// # Ok::<(), Refusal>(())
 /// ```
 pub fn distance_bytes(book: &[u8], question: &[u8]) -> Result<Distance, Refusal> {
     let mut words = [0; DISTANCE_WORDS];
+    let mut place = [0; PLACE_WORDS];
     // SAFETY: as above.
     #[allow(unsafe_code)]
     let number = unsafe {
-        zektonk_distance(book.as_ptr(), book.len(), question.as_ptr(), question.len(), words.as_mut_ptr(), words.len())
+        zektonk_distance_placed(
+            book.as_ptr(),
+            book.len(),
+            question.as_ptr(),
+            question.len(),
+            words.as_mut_ptr(),
+            words.len(),
+            place.as_mut_ptr(),
+            place.len(),
+        )
     };
-    ended(number)?;
+    ended(number, place)?;
     Ok(words.into())
 }
 
@@ -353,8 +407,8 @@ pub fn distance_bytes(book: &[u8], question: &[u8]) -> Result<Distance, Refusal>
 ///
 /// # Errors
 ///
-/// [`BookLength`](Refusal::BookLength), number 1, where `answer` doesn't begin with an answer's blocks; then
-/// [`AnswerShort`](Refusal::AnswerShort), number 10, where fewer than [`FLOOR_WORDS`](crate::FLOOR_WORDS) words are lent.
+/// [`BookLength`](Reason::BookLength), number 1, where `answer` doesn't begin with an answer's blocks; then
+/// [`AnswerShort`](Reason::AnswerShort), number 10, where fewer than [`FLOOR_WORDS`](crate::FLOOR_WORDS) words are lent.
 ///
 /// # Panics
 ///
@@ -363,7 +417,7 @@ pub fn floor_words(answer: &[u8], words: &mut [u64]) -> Result<(), Refusal> {
     // SAFETY: as above.
     #[allow(unsafe_code)]
     let number = unsafe { zektonk_floor(answer.as_ptr(), answer.len(), words.as_mut_ptr(), words.len()) };
-    ended(number)
+    ended(number, [0; PLACE_WORDS])
 }
 
 /// Bytes of the lab's part; 0 for number 1.
@@ -375,9 +429,43 @@ pub(crate) fn lab_length(answer: &[u8]) -> usize {
     }
 }
 
-fn ended(number: u64) -> Result<(), Refusal> {
+/// The sentence of a number of the core, as a [`Refusal`] is printed, at the front of `text`: how many bytes it has. The
+/// bytes behind it stay. A place that the number can't have is left out. For who prints without allocating, and for
+/// numbers that were stored.
+///
+/// # Errors
+///
+/// [`BookLength`](Reason::BookLength), number 1, where `number` is none of 1 to 39; then
+/// [`AnswerShort`](Reason::AnswerShort), number 10, where `text` has fewer than [`SENTENCE_ROOM`](crate::SENTENCE_ROOM)
+/// bytes. Every byte stays then.
+///
+/// # Panics
+///
+/// Where the core gives a number that is no refusal, which it is proved not to.
+///
+/// ```
+/// use zektonk::{sentence_bytes, Place, Reason, SENTENCE_ROOM};
+///
+/// let mut text = [b'-'; SENTENCE_ROOM];
+/// let length = sentence_bytes(9, Place::Block(5), &mut text)?;
+/// assert_eq!(&text[..length + 2], b"9: a pair's two alphas are not equal (block 5).--");
+/// assert_eq!(sentence_bytes(40, Place::Nowhere, &mut text), Err(Reason::BookLength.into()));
+/// assert_eq!(sentence_bytes(9, Place::Nowhere, &mut text[1..]), Err(Reason::AnswerShort.into()));
+/// # Ok::<(), zektonk::Refusal>(())
+/// ```
+pub fn sentence_bytes(number: u64, place: Place, text: &mut [u8]) -> Result<usize, Refusal> {
+    let (words, mut length) = (<[u64; PLACE_WORDS]>::from(place), 0);
+    // SAFETY: as above; `length` is borrowed alone.
+    #[allow(unsafe_code)]
+    let number =
+        unsafe { zektonk_sentence(number, words.as_ptr(), words.len(), text.as_mut_ptr(), text.len(), &mut length) };
+    ended(number, [0; PLACE_WORDS])?;
+    Ok(length as usize)
+}
+
+fn ended(number: u64, place: [u64; PLACE_WORDS]) -> Result<(), Refusal> {
     match number {
         0 => Ok(()),
-        _ => Err(Refusal::from_number(number).expect("the core refuses with 1 to 39")),
+        _ => Err(Reason::from_number(number).expect("the core refuses with 1 to 39").at(place.into())),
     }
 }

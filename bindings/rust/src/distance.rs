@@ -62,12 +62,12 @@ impl From<[u64; DISTANCE_WORDS]> for Distance {
 ///
 /// # Errors
 ///
-/// A refusal of the book; [`Task`](Refusal::Task), where the question's task isn't
+/// A refusal of the book; [`Task`](crate::Reason::Task), where the question's task isn't
 /// [`Task::TpFlash`](crate::Task::TpFlash); what refuses the flash at P; or, before the core is asked, that the feed hasn't
 /// an entry for each solvent of the book.
 ///
 /// ```
-/// use zektonk::{distance, Book, Distance, Kelvin, Options, Pascal, Question, Refusal, Task};
+/// use zektonk::{distance, Book, Distance, Kelvin, Options, Pascal, Question, Reason, Task};
 ///
 /// let book = Book::from(&include_bytes!("../../../crates/still/data/book.bin")[..]);
 /// let flash = |pressure| {
@@ -77,7 +77,7 @@ impl From<[u64; DISTANCE_WORDS]> for Distance {
 /// // Both phases at 90,000 Pa; all liquid from 96,400 on.
 /// assert_eq!(distance(&book, &flash(90e3)), Ok(Distance::Step { steps: 64, outcome: 1, refused: 0 }));
 /// assert_eq!(distance(&book, &flash(400e3)), Ok(Distance::None { refused: 0 }));
-/// assert_eq!(distance(&book, &flash(90.0)), Err(Refusal::PressureOutside));
+/// assert_eq!(distance(&book, &flash(90.0)), Err(Reason::PressureOutside.into()));
 /// ```
 ///
 /// # Panics

@@ -45,18 +45,18 @@ impl Drum {
 ///
 /// # Errors
 ///
-/// The core's refusal, among them [`DrumsLength`](Refusal::DrumsLength) and [`DrumsTotal`](Refusal::DrumsTotal); or,
+/// The core's refusal, among them [`DrumsLength`](crate::Reason::DrumsLength) and [`DrumsTotal`](crate::Reason::DrumsTotal); or,
 /// before the core is asked, that there isn't a K value for each solvent of the book.
 ///
 /// ```
-/// use zektonk::{pooled, rachford_rice, Answer, Book, Drum, Refusal, Task};
+/// use zektonk::{pooled, rachford_rice, Answer, Book, Drum, Reason, Refusal, Task};
 ///
 /// let book = Book::from(&include_bytes!("../../../crates/still/data/book.bin")[..]);
 /// let task = Task::RachfordRice { k: [2.0, 0.5].into(), max_iterations: 200 };
 /// let found = pooled(&book, &task, &[Drum::new([3, 1]), Drum::new([1, 3])])?;
 /// assert_eq!(found, Answer::RachfordRice(rachford_rice(&book, [0.5, 0.5], [2.0, 0.5], 200)?));
-/// assert_eq!(pooled(&book, &task, &[]), Err(Refusal::DrumsLength));
-/// assert_eq!(pooled(&book, &task, &[Drum::default()]), Err(Refusal::DrumsTotal));
+/// assert_eq!(pooled(&book, &task, &[]), Err(Reason::DrumsLength.into()));
+/// assert_eq!(pooled(&book, &task, &[Drum::default()]), Err(Reason::DrumsTotal.into()));
 /// # Ok::<(), Refusal>(())
 /// ```
 ///

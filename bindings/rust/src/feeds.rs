@@ -1,6 +1,6 @@
 //! Many feeds at one temperature, in one call.
 
-use crate::{decoded, feeds_bytes, Answer, Book, Feed, Question, Refusal, Task, ANSWER_ROOM};
+use crate::{decoded, feeds_bytes, Answer, Book, Feed, Question, Reason, Refusal, Task, ANSWER_ROOM};
 
 /// Bytes of a feed among many: eight floats.
 pub const FEED_BYTES: usize = 64;
@@ -14,22 +14,22 @@ pub const FEEDS_MOST: usize = 64;
 ///
 /// # Errors
 ///
-/// What ends the whole call: a refusal of the book, or [`FeedsLength`](Refusal::FeedsLength); or, before the core is
+/// What ends the whole call: a refusal of the book, or [`FeedsLength`](Reason::FeedsLength); or, before the core is
 /// asked, that a feed hasn't an entry for each solvent of the book, or that some are of moles and some of mass. A refused
 /// feed has its own error in its own place and doesn't stop the others; with another task each has
-/// [`Task`](Refusal::Task).
+/// [`Task`](Reason::Task).
 ///
 /// ```
-/// use zektonk::{answer, feeds, Book, Feed, Kelvin, Question, Refusal, Task};
+/// use zektonk::{answer, feeds, Book, Feed, Kelvin, Question, Reason, Refusal, Task};
 ///
 /// let book = Book::from(&include_bytes!("../../../crates/still/data/book.bin")[..]);
 /// let task = Task::BubblePressure { temperature: Kelvin(351.44) };
 /// let week: [Feed; 3] = [[0.5, 0.5].into(), [0.5, 0.4].into(), [0.2, 0.8].into()];
 /// let found = feeds(&book, &task, &week)?;
 /// assert_eq!(found[0], answer(&book, &Question::new(task, week[0])));
-/// assert_eq!(found[1], Err(Refusal::FractionSum));
+/// assert_eq!(found[1], Err(Reason::FractionSum.into()));
 /// assert!(found[2].is_ok());
-/// assert_eq!(feeds(&book, &task, &[]), Err(Refusal::FeedsLength));
+/// assert_eq!(feeds(&book, &task, &[]), Err(Reason::FeedsLength.into()));
 /// # Ok::<(), Refusal>(())
 /// ```
 ///
@@ -39,7 +39,7 @@ pub const FEEDS_MOST: usize = 64;
 pub fn feeds(book: &Book<'_>, task: &Task, feeds: &[Feed]) -> Result<Vec<Result<Answer, Refusal>>, Refusal> {
     let first = feeds.first().copied().unwrap_or(Feed::Moles(Default::default()));
     if feeds.iter().any(|feed| feed.kind() != first.kind()) {
-        return Err(Refusal::FeedsMixed);
+        return Err(Reason::FeedsMixed.into());
     }
     if let Some(solvents) = book.solvents() {
         for feed in feeds {

@@ -195,6 +195,26 @@ named! {
 }
 
 named! {
+    /// Words of a [`Place`](crate::Place).
+    place: usize {
+        KIND = 0 "What it is"
+        BLOCK = 1 "Which block of the book, from 0 on"
+        I = 1 "The first solvent of two, from 0 on"
+        J = 2 "The second solvent"
+    }
+}
+
+named! {
+    /// Kinds of a [`Place`](crate::Place).
+    place_kind: u64 {
+        NOWHERE = 0 "No place"
+        BLOCK = 1 "A block of the book"
+        PAIR = 2 "Two solvents"
+        OFFERED = 3 "The block that a preview was offered"
+    }
+}
+
+named! {
     /// Kinds of blocks.
     kind: u64 {
         BOOK = 1 "Block 0 of a book"

@@ -28,6 +28,9 @@
 //! pressure can rise or fall until its outcome changes is said by [`distance`]. Of what a call wrote [`floor`] gives the
 //! outcome alone, a [`Floor`], and [`lab`] all of it.
 //!
+//! A [`Refusal`] has its [`Reason`], a [`Place`] where a block of the book said no, and is printed as the core's
+//! sentence: "7: a pair's kind, its two places or a flag is wrong (block 5)."
+//!
 //! This side tests that feed and K values have an entry for each solvent of the book, and nothing else: what a question
 //! says goes to the core as it is, and the core answers it or refuses with one of its numbers. What a changed rounding
 //! mode does is said at [`answer_bytes`]. [`format`](mod@format) names the words of the blocks.
@@ -42,6 +45,7 @@ mod distance;
 mod drum;
 mod feeds;
 pub mod format;
+mod place;
 mod preview;
 mod question;
 mod queue;
@@ -57,15 +61,18 @@ pub use block::{Block, Rule, Words, BLOCK};
 pub use book::{
     Book, Builder, Correlation, Incomplete, Interval, Model, Pair, Solvent, Term, WilsonPair, BOOK_LARGEST, BOOK_MOST,
 };
-pub use call::{answer_bytes, distance_bytes, feeds_bytes, floor_words, pooled_bytes, preview_bytes, queue_bytes};
+pub use call::{
+    answer_bytes, distance_bytes, feeds_bytes, floor_words, pooled_bytes, preview_bytes, queue_bytes, sentence_bytes,
+};
 pub use distance::{distance, Distance, DISTANCE_WORDS, STEPS_MOST, STEP_PASCALS};
 pub use drum::{pooled, Drum, DRUMS_MOST, DRUM_BYTES, POOL_MOST};
 pub use feeds::{feeds, FEEDS_MOST, FEED_BYTES};
+pub use place::{Place, PLACE_WORDS};
 pub use preview::{preview, Offered};
 pub use question::{Feed, Kelvin, Options, Pascal, Question, Task};
 pub use queue::{most_evaluations, queue, Queued, QUEUE_MOST};
 pub use readers::{floor, lab, Floor, FLOOR_WORDS};
-pub use refusal::Refusal;
+pub use refusal::{Reason, Refusal, SENTENCE_ROOM};
 pub use tasks::{
     bubble_pressure, bubble_temperature, dew_pressure, dew_temperature, excess_at, liquid_stability, rachford_rice,
     rachford_rice_negative, tp_flash,
@@ -91,14 +98,14 @@ struct Readme;
 /// book.
 ///
 /// ```
-/// use zektonk::{answer, Book, Kelvin, Question, Refusal, Task};
+/// use zektonk::{answer, Book, Kelvin, Question, Reason, Task};
 ///
 /// let empty = Book::from(&[][..]);
 /// let question = Question::new(Task::BubblePressure { temperature: Kelvin(350.0) }, [1.0]);
-/// assert_eq!(answer(&empty, &question), Err(Refusal::BookLength));
+/// assert_eq!(answer(&empty, &question), Err(Reason::BookLength.into()));
 ///
 /// let two = Book::from(&include_bytes!("../../../crates/still/data/book.bin")[..]);
-/// assert_eq!(answer(&two, &question), Err(Refusal::FeedLength { entries: 1, solvents: 2 }));
+/// assert_eq!(answer(&two, &question), Err(Reason::FeedLength { entries: 1, solvents: 2 }.into()));
 /// ```
 ///
 /// # Panics

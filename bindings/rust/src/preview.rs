@@ -40,12 +40,11 @@ impl From<[u8; BLOCK]> for Offered {
 /// # Errors
 ///
 /// The core's refusal; or, before the core is asked, that feed or K values haven't an entry for each solvent of the
-/// book. Behind the book's own numbers [`BookCheck`](Refusal::BookCheck), [`PairBlock`](Refusal::PairBlock),
-/// [`PairNumber`](Refusal::PairNumber) and [`PairAlphas`](Refusal::PairAlphas) are the offered pair's: that is so where
-/// [`answer`](crate::answer) doesn't refuse the book with the same number.
+/// book. Behind the book's own questions the offered pair is put some of the same: a refusal of it is said of
+/// [`Place::Offered`](crate::Place::Offered).
 ///
 /// ```
-/// use zektonk::{answer, preview, Book, Kelvin, Offered, Pair, Question, Refusal, Task};
+/// use zektonk::{answer, preview, Book, Kelvin, Offered, Pair, Place, Question, Reason, Refusal, Task};
 ///
 /// let book = Book::from(&include_bytes!("../../../crates/still/data/book.bin")[..]);
 /// let fitted = Pair {
@@ -60,7 +59,7 @@ impl From<[u8; BLOCK]> for Offered {
 ///
 /// // No pair of the book.
 /// let other = Offered::pair(book.rule(), 0, 2, &fitted);
-/// assert_eq!(preview(&book, &other, &question), Err(Refusal::PairBlock));
+/// assert_eq!(preview(&book, &other, &question), Err(Reason::PairBlock.at(Place::Offered)));
 /// # Ok::<(), Refusal>(())
 /// ```
 ///

@@ -6,7 +6,7 @@ use crate::format::question::{
     TEMPERATURE, TM_THRESHOLD, TOLERANCE,
 };
 use crate::format::{feed, kind, task};
-use crate::{Refusal, UpToEight};
+use crate::{Reason, Refusal, UpToEight};
 
 /// A temperature in kelvin; any float, tested by the core.
 #[derive(Debug, Clone, Copy, PartialEq, PartialOrd, Default)]
@@ -135,7 +135,7 @@ impl Task {
     pub(crate) fn fits(&self, solvents: usize) -> Result<(), Refusal> {
         match self {
             Self::RachfordRice { k, .. } | Self::RachfordRiceNegative { k, .. } if k.len() != solvents => {
-                Err(Refusal::KLength { entries: k.len(), solvents })
+                Err(Reason::KLength { entries: k.len(), solvents }.into())
             }
             _ => Ok(()),
         }
@@ -207,7 +207,7 @@ impl Question {
     pub(crate) fn fits(&self, solvents: usize) -> Result<(), Refusal> {
         let entries = self.feed.fractions().len();
         if entries != solvents {
-            return Err(Refusal::FeedLength { entries, solvents });
+            return Err(Reason::FeedLength { entries, solvents }.into());
         }
         self.task.fits(solvents)
     }

@@ -84,13 +84,13 @@ pub fn most_evaluations(present: usize, max_iterations: u64) -> u64 {
 ///
 /// # Errors
 ///
-/// What ends the whole call: a refusal of the book, or [`QueueQuestions`](Refusal::QueueQuestions), where there are not
+/// What ends the whole call: a refusal of the book, or [`QueueQuestions`](crate::Reason::QueueQuestions), where there are not
 /// 1 to 64 or one has another task than [`Task::TpFlash`](crate::Task::TpFlash); or, before the core is asked, that a
 /// feed hasn't an entry for each solvent of the book. A refused question has its refusal in its own place and doesn't
 /// stop the others.
 ///
 /// ```
-/// use zektonk::{queue, Book, Kelvin, Options, Pascal, Queued, Question, Refusal, Task};
+/// use zektonk::{queue, Book, Kelvin, Options, Pascal, Queued, Question, Reason, Refusal, Task};
 ///
 /// let book = Book::from(&include_bytes!("../../../crates/still/data/book.bin")[..]);
 /// let flash = |pressure| {
@@ -100,9 +100,9 @@ pub fn most_evaluations(present: usize, max_iterations: u64) -> u64 {
 /// // Each asks for 404.
 /// let found = queue(&book, &[flash(90e3), flash(90e6), flash(120e3)], 500)?;
 /// assert_eq!(found[0].flash().map(|flash| flash.evaluations), Some(243));
-/// assert_eq!(found[1], Queued::Refused(Refusal::PressureOutside));
+/// assert_eq!(found[1], Queued::Refused(Reason::PressureOutside.into()));
 /// assert_eq!(found[2], Queued::PutOff);
-/// assert_eq!(queue(&book, &[], 500), Err(Refusal::QueueQuestions));
+/// assert_eq!(queue(&book, &[], 500), Err(Reason::QueueQuestions.into()));
 /// # Ok::<(), Refusal>(())
 /// ```
 ///
@@ -127,7 +127,7 @@ pub fn queue(book: &Book<'_>, questions: &[Question], allowance: u64) -> Result<
 #[cfg(test)]
 mod tests {
     use super::*;
-    use crate::Words;
+    use crate::{Reason, Words};
 
     fn put_off() -> Words {
         Words::new(9).word(1, 7).word(3, 4)
@@ -139,7 +139,7 @@ mod tests {
         assert_eq!(Queued::decode_by(Rule::Running, &put_off().seal_by(Rule::Running), 2), Ok(Queued::PutOff));
         assert_eq!(Queued::decode_by(Rule::Running, &put_off().seal(), 2), Err(Malformed::Check(0)));
         let refused = put_off().word(2, 27).seal();
-        assert_eq!(Queued::decode(&refused, 2), Ok(Queued::Refused(Refusal::NotConverged)));
+        assert_eq!(Queued::decode(&refused, 2), Ok(Queued::Refused(Reason::NotConverged.into())));
         for at in 4..63 {
             assert!(Queued::decode(&put_off().word(at, 1).seal(), 2).is_err(), "word {at}");
         }

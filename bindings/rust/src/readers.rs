@@ -2,7 +2,7 @@
 
 use crate::call::{floor_words, lab_length};
 use crate::format::floor::{LIQUID, OUTCOME, PRESSURE, REFUSAL, TASK, TEMPERATURE, VAPOR, VAPOR_FRACTION};
-use crate::{Kelvin, Pascal, Refusal};
+use crate::{Kelvin, Pascal, Reason, Refusal};
 
 /// Words of a floor sheet.
 pub const FLOOR_WORDS: usize = 22;
@@ -77,19 +77,19 @@ impl Eq for Floor {}
 ///
 /// # Errors
 ///
-/// [`BookLength`](Refusal::BookLength), number 1, where the slice doesn't begin with a block of kind 9 and as many of
+/// [`BookLength`](Reason::BookLength), number 1, where the slice doesn't begin with a block of kind 9 and as many of
 /// kind 10, at most eight, as its word 12 says. Checks are not tested, what stands behind these blocks is not read, and a
 /// refusal's block, or that of a question put off, is read as any other.
 ///
 /// ```
-/// use zektonk::{floor, lab, Kelvin, Refusal};
+/// use zektonk::{floor, lab, Kelvin, Reason, Refusal};
 ///
 /// let answer = include_bytes!("../../../crates/still/stdout");
 /// let shown = floor(answer)?;
 /// assert_eq!((shown.task, shown.outcome, shown.temperature), (7, 3, Kelvin(351.44)));
 /// assert!((shown.vapor_fraction - 0.6986).abs() < 1e-4);
 /// assert_eq!(floor(lab(answer)?), Ok(shown));
-/// assert_eq!(floor(&answer[1..]), Err(Refusal::BookLength));
+/// assert_eq!(floor(&answer[1..]), Err(Reason::BookLength.into()));
 /// # Ok::<(), Refusal>(())
 /// ```
 pub fn floor(answer: &[u8]) -> Result<Floor, Refusal> {
@@ -106,7 +106,7 @@ pub fn floor(answer: &[u8]) -> Result<Floor, Refusal> {
 /// As [`floor`].
 pub fn lab(answer: &[u8]) -> Result<&[u8], Refusal> {
     match lab_length(answer) {
-        0 => Err(Refusal::BookLength),
+        0 => Err(Reason::BookLength.into()),
         length => Ok(&answer[..length]),
     }
 }

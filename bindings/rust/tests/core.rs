@@ -9,8 +9,8 @@ use zektonk::{
     liquid_stability, rachford_rice, rachford_rice_negative, tp_flash,
 };
 use zektonk::{
-    Answer, Block, Book, Builder, Correlation, Feed, Kelvin, Model, Options, Pair, Pascal, Phases, Question, Refusal,
-    Rule, Solvent, Split, Task, UpToEight, Validity, WilsonPair, Words, ANSWER_ROOM, BLOCK,
+    Answer, Block, Book, Builder, Correlation, Feed, Kelvin, Model, Options, Pair, Pascal, Phases, Place, Question,
+    Reason, Refusal, Rule, Solvent, Split, Task, UpToEight, Validity, WilsonPair, Words, ANSWER_ROOM, BLOCK,
 };
 
 const STORED_BOOK: &[u8] = include_bytes!("../../../crates/still/data/book.bin");
@@ -131,9 +131,9 @@ fn splits_of_the_samples() {
     assert_eq!(split([0.5, 0.5], [0.5, 0.5], 200), Ok(Answer::RachfordRice(Split::LiquidOnly)));
     assert_eq!(split([0.5, 0.5], [1.0, 1.0], 200), Ok(Answer::RachfordRice(Split::LiquidOnly)));
     assert_eq!(split([0.5, 0.5], [2.0, 2.0], 200), Ok(Answer::RachfordRice(Split::VaporOnly)));
-    assert_eq!(split([0.5, 0.5000000002], [2.0, 0.5], 200), Err(Refusal::FractionSum));
+    assert_eq!(split([0.5, 0.5000000002], [2.0, 0.5], 200), Err(Reason::FractionSum.into()));
     let negative = |k: [f64; 2]| ask(Task::RachfordRiceNegative { k: k.into(), max_iterations: 200 }, [0.5, 0.5]);
-    assert_eq!(negative([2.0, 2.0]), Err(Refusal::KOneSided));
+    assert_eq!(negative([2.0, 2.0]), Err(Reason::KOneSided.into()));
     let Ok(Answer::RachfordRiceNegative(found)) = negative([1.2, 0.1]) else { panic!("task 9") };
     assert!(found.vapor_fraction < 0.0);
 }
@@ -187,7 +187,7 @@ fn refusals_of_wilson_books() {
     let ideal = excess_at(&wilson_with(zeros), [0.5, 0.5], Kelvin(300.0)).unwrap();
     assert_eq!(ideal.ln_gamma, [0.0, 0.0].into());
     for pair in [WilsonPair { ij: [f64::NAN, 0.0], ..zeros }, WilsonPair { ji: [0.0, f64::INFINITY], ..zeros }] {
-        assert_eq!(refused(&wilson_with(pair)), Some(Refusal::PairNumber));
+        assert_eq!(refused(&wilson_with(pair)), Some(Reason::PairNumber.at(Place::Block(3))));
     }
     // Words 7 to 14 are not read: a τ and two alphas that NRTL would refuse.
     let sealed = |words: Words| words.seal_by(Rule::Running);
@@ -197,20 +197,21 @@ fn refusals_of_wilson_books() {
     assert_eq!(refused(&Book::from([&wilson.bytes()[..3 * BLOCK], &odd].concat())), None);
     for model in [2, u64::MAX] {
         let book = Book::from([&sealed(head(3, model))[..], &wilson.bytes()[BLOCK..]].concat());
-        assert_eq!((book.model(), refused(&book)), (None, Some(Refusal::BookModel)));
+        assert_eq!((book.model(), refused(&book)), (None, Some(Reason::BookModel.into())));
     }
     let first = Book::from([&head(1, 1).seal()[..], &STORED_BOOK[BLOCK..]].concat());
-    assert_eq!((first.model(), refused(&first)), (None, Some(Refusal::BookModel)));
+    assert_eq!((first.model(), refused(&first)), (None, Some(Reason::BookModel.into())));
 }
 
 #[test]
 fn refusals_of_books() {
     let refused = |book: &Book<'_>| answer(book, &Question::new(flash_at(T, P), [0.5, 0.5])).unwrap_err();
-    assert_eq!(refused(&Book::from(&STORED_BOOK[1..])), Refusal::BookLength);
+    let [ethanol, water, pair_of_both] = [1, 2, 3].map(Place::Block);
+    assert_eq!(refused(&Book::from(&STORED_BOOK[1..])), Reason::BookLength.into());
     let mut bytes = STORED_BOOK.to_vec();
     bytes[600] ^= 1;
-    assert_eq!(refused(&Book::from(bytes)), Refusal::BookCheck);
-    assert_eq!(refused(&Book::from(&STORED_BOOK[..3 * BLOCK])), Refusal::BookHead);
+    assert_eq!(refused(&Book::from(bytes)), Reason::BookCheck.at(ethanol));
+    assert_eq!(refused(&Book::from(&STORED_BOOK[..3 * BLOCK])), Reason::BookHead.into());
     let zeros = Pair { tau_ij: [0.0; 4], tau_ji: [0.0; 4], alpha: [0.3, 0.0], interval: None };
     let of = |first: Solvent, second: Solvent| {
         refused(&Book::builder().solvent(first).solvent(second).pair(0, 1, zeros).build().unwrap())
@@ -218,55 +219,58 @@ fn refusals_of_books() {
     let record =
         Correlation { t_r: 647.0, reducing_value: 2.2e7, range: [273.16, 640.0], terms: [(-7.5, 1.0).into()].into() };
     let right = Solvent { cas: 1, vapor_pressure: record, density: record };
-    assert_eq!(of(right, Solvent { cas: 0, ..right }), Refusal::SolventBlock);
+    assert_eq!(of(right, Solvent { cas: 0, ..right }), Reason::SolventBlock.at(water));
     let turned = Correlation { range: [640.0, 273.16], ..record };
-    assert_eq!(of(right, Solvent { cas: 2, density: turned, ..right }), Refusal::SolventNumber);
-    assert_eq!(of(right, right), Refusal::SolventTwice);
-    assert_eq!(refused(&book_with(Pair { tau_ji: [f64::NAN; 4], ..zeros })), Refusal::PairNumber);
-    assert_eq!(refused(&book_with(Pair { alpha: [-0.3, 0.0], ..zeros })), Refusal::AlphaNotPositive);
+    assert_eq!(of(right, Solvent { cas: 2, density: turned, ..right }), Reason::SolventNumber.at(water));
+    assert_eq!(of(right, right), Reason::SolventTwice.at(Place::Pair(0, 1)));
+    assert_eq!(refused(&book_with(Pair { tau_ji: [f64::NAN; 4], ..zeros })), Reason::PairNumber.at(pair_of_both));
+    assert_eq!(refused(&book_with(Pair { alpha: [-0.3, 0.0], ..zeros })), Reason::AlphaNotPositive.into());
     // What the builder doesn't write: another j, and two alphas.
     let pair = |words: Words| [&STORED_BOOK[..3 * BLOCK], &words.seal()].concat();
     let words = Words::new(3).word(1, 0).word(2, 1);
-    assert_eq!(refused(&Book::from(pair(words.clone().word(2, 2)))), Refusal::PairBlock);
-    assert_eq!(refused(&Book::from(pair(words.float(11, 0.3)))), Refusal::PairAlphas);
+    assert_eq!(refused(&Book::from(pair(words.clone().word(2, 2)))), Reason::PairBlock.at(pair_of_both));
+    assert_eq!(refused(&Book::from(pair(words.float(11, 0.3)))), Reason::PairAlphas.at(pair_of_both));
 }
 
 #[test]
 fn refusals_of_questions() {
     let excess = |t| ask(Task::ExcessAt { temperature: Kelvin(t) }, [0.5, 0.5]).unwrap_err();
-    assert_eq!([excess(0.0), excess(f64::NAN)], [Refusal::Temperature; 2]);
-    assert_eq!(ask(flash_at(T, Pascal(-1.0)), [0.5, 0.5]), Err(Refusal::Pressure));
+    assert_eq!([excess(0.0), excess(f64::NAN)], [Reason::Temperature.into(); 2]);
+    assert_eq!(ask(flash_at(T, Pascal(-1.0)), [0.5, 0.5]), Err(Reason::Pressure.into()));
     let feed = |z: [f64; 2]| ask(flash_at(T, P), z).unwrap_err();
-    assert_eq!(feed([f64::INFINITY, 0.0]), Refusal::NotFinite);
-    assert_eq!(feed([1.5, -0.5]), Refusal::FractionNegative);
-    assert_eq!(feed([0.5, 0.4]), Refusal::FractionSum);
-    assert_eq!(split([0.5, 0.5], [0.0, 2.0], 200), Err(Refusal::KNotPositive));
-    assert_eq!(split([0.5, 0.5], [0.5, 2.0], 1_000_001), Err(Refusal::LimitHigh));
+    assert_eq!(feed([f64::INFINITY, 0.0]), Reason::NotFinite.into());
+    assert_eq!(feed([1.5, -0.5]), Reason::FractionNegative.into());
+    assert_eq!(feed([0.5, 0.4]), Reason::FractionSum.into());
+    assert_eq!(split([0.5, 0.5], [0.0, 2.0], 200), Err(Reason::KNotPositive.into()));
+    assert_eq!(split([0.5, 0.5], [0.5, 2.0], 1_000_001), Err(Reason::LimitHigh.into()));
     let with = |options: Options| ask(Task::TpFlash { temperature: T, pressure: P, options }, [0.5, 0.5]).unwrap_err();
-    assert_eq!(with(Options { tolerance: 1e-5, ..options() }), Refusal::Options);
-    assert_eq!(with(Options { max_iterations: 0, ..options() }), Refusal::LimitZero);
-    assert_eq!(with(Options { max_iterations: 2, ..options() }), Refusal::NotConverged);
-    assert_eq!(ask(flash_at(Kelvin(273.15), P), [0.5, 0.5]), Err(Refusal::TemperatureOutside));
-    assert_eq!(ask(flash_at(T, Pascal(99.0)), [0.5, 0.5]), Err(Refusal::PressureOutside));
+    assert_eq!(with(Options { tolerance: 1e-5, ..options() }), Reason::Options.into());
+    assert_eq!(with(Options { max_iterations: 0, ..options() }), Reason::LimitZero.into());
+    assert_eq!(with(Options { max_iterations: 2, ..options() }), Reason::NotConverged.into());
+    assert_eq!(ask(flash_at(Kelvin(273.15), P), [0.5, 0.5]), Err(Reason::TemperatureOutside.into()));
+    assert_eq!(ask(flash_at(T, Pascal(99.0)), [0.5, 0.5]), Err(Reason::PressureOutside.into()));
     let bracket = Options { bracket: [Kelvin(400.0), Kelvin(450.0)], ..options() };
-    assert_eq!(ask(Task::BubbleTemperature { pressure: P, options: bracket }, [0.5, 0.5]), Err(Refusal::NotBracketed));
+    assert_eq!(
+        ask(Task::BubbleTemperature { pressure: P, options: bracket }, [0.5, 0.5]),
+        Err(Reason::NotBracketed.into())
+    );
     let apart = Question::new(flash_at(T, Pascal(400_000.0)), [0.5, 0.5]);
-    assert_eq!(answer(&immiscible(), &apart), Err(Refusal::LiquidUnstable));
-    assert_eq!(ask(Task::ExcessAt { temperature: Kelvin(1e-300) }, [0.5, 0.5]), Err(Refusal::ResultNotFinite));
+    assert_eq!(answer(&immiscible(), &apart), Err(Reason::LiquidUnstable.into()));
+    assert_eq!(ask(Task::ExcessAt { temperature: Kelvin(1e-300) }, [0.5, 0.5]), Err(Reason::ResultNotFinite.into()));
 }
 
 #[test]
 fn a_feed_of_another_length_is_not_asked() {
     let book = ethanol_water().unwrap();
-    let refused = |entries| Some(Refusal::FeedLength { entries, solvents: 2 });
+    let refused = |entries| Some(Reason::FeedLength { entries, solvents: 2 }.into());
     assert_eq!(tp_flash(&book, [0.5, 0.5, 0.7], T, P, options()).err(), refused(3));
     assert_eq!(excess_at(&book, [1.0], T).err(), refused(1));
     assert_eq!(bubble_pressure(&book, UpToEight::default(), T).err(), refused(0));
     assert_eq!(ask(Task::BubblePressure { temperature: T }, [0.5, 0.5, 0.0]).err(), refused(3));
-    let k_refused = Refusal::KLength { entries: 3, solvents: 2 };
+    let k_refused = Reason::KLength { entries: 3, solvents: 2 }.into();
     assert_eq!(rachford_rice(&book, [0.5, 0.5], [2.0, 0.5, 9.0], 200), Err(k_refused));
     // A book that has no count of solvents is the core's to refuse.
-    assert_eq!(excess_at(&Book::from(&STORED_BOOK[..511]), [1.0], T), Err(Refusal::BookLength));
+    assert_eq!(excess_at(&Book::from(&STORED_BOOK[..511]), [1.0], T), Err(Reason::BookLength.into()));
 }
 
 /// Mass fractions and molar masses (kg/mol) give what the mole fractions give that the core makes of them.
@@ -312,7 +316,7 @@ fn running_sums() {
         for book in [&second, &third] {
             let other = if book.rule() == Rule::Plain { Rule::Running } else { Rule::Plain };
             let refused = answer_bytes(book.bytes(), &question.encode_by(other), &mut room);
-            assert_eq!(refused, Err(Refusal::QuestionBlock));
+            assert_eq!(refused, Err(Reason::QuestionBlock.into()));
             assert_eq!(answer_bytes(book.bytes(), &question.encode_by(book.rule()), &mut room), Ok(()));
             assert!(Block::of(&room, 0).unwrap().check_is_right_by(book.rule()));
             assert!(Answer::decode_by(book.rule(), &room, 2).is_ok_and(|answered| answered.is_ok()));
@@ -324,8 +328,9 @@ fn running_sums() {
         bytes[at..at + 16].rotate_left(8);
         bubble_pressure(&Book::from(bytes), [0.5, 0.5], T).err()
     };
-    assert_ne!(exchanged(&second), Some(Refusal::BookCheck));
-    assert_eq!(exchanged(&third), Some(Refusal::BookCheck));
+    let refused = Some(Reason::BookCheck.at(Place::Block(1)));
+    assert_ne!(exchanged(&second), refused);
+    assert_eq!(exchanged(&third), refused);
 }
 
 /// 38 ahead of 2 and 3, whatever the sums.
@@ -336,12 +341,12 @@ fn versions_that_are_none() {
             let head = Words::new(1).word(1, version).word(2, 2).seal_by(rule);
             let book = Book::from([&head[..], &STORED_BOOK[BLOCK..]].concat());
             assert_eq!((book.version(), book.rule()), (None, Rule::Plain));
-            assert_eq!(excess_at(&book, [0.5, 0.5], T), Err(Refusal::BookVersion));
+            assert_eq!(excess_at(&book, [0.5, 0.5], T), Err(Reason::BookVersion.into()));
         }
     }
     let other = Words::new(2).word(1, 3).word(2, 2).seal();
     let book = Book::from([&other[..], &STORED_BOOK[BLOCK..]].concat());
-    assert_eq!(excess_at(&book, [0.5, 0.5], T), Err(Refusal::BookHead));
+    assert_eq!(excess_at(&book, [0.5, 0.5], T), Err(Reason::BookHead.into()));
 }
 
 /// Ethanol and water with these molar masses.
@@ -353,16 +358,16 @@ fn weighed(masses: [f64; 2]) -> Book<'static> {
 fn refusals_of_feeds_by_mass() {
     let asked = |book: &Book<'_>, w: [f64; 2]| tp_flash(book, Feed::mass(w), T, P, options()).unwrap_err();
     let good = weighed([0.046, 0.018]);
-    assert_eq!(asked(&ethanol_water().unwrap(), [0.5, 0.5]), Refusal::FeedKind);
-    assert_eq!(asked(&good, [0.5, 0.4]), Refusal::FractionSum);
-    assert_eq!(asked(&good, [1.5, -0.5]), Refusal::FractionNegative);
-    assert_eq!(asked(&good, [f64::NAN, 1.0]), Refusal::NotFinite);
-    assert_eq!(asked(&weighed([5e-324, 0.018]), [1.0, 0.0]), Refusal::NotNormalizable);
+    assert_eq!(asked(&ethanol_water().unwrap(), [0.5, 0.5]), Reason::FeedKind.into());
+    assert_eq!(asked(&good, [0.5, 0.4]), Reason::FractionSum.into());
+    assert_eq!(asked(&good, [1.5, -0.5]), Reason::FractionNegative.into());
+    assert_eq!(asked(&good, [f64::NAN, 1.0]), Reason::NotFinite.into());
+    assert_eq!(asked(&weighed([5e-324, 0.018]), [1.0, 0.0]), Reason::NotNormalizable.into());
     for mass in [0.0, -0.018, f64::INFINITY, f64::NAN] {
-        assert_eq!(asked(&weighed([0.046, mass]), [0.5, 0.5]), Refusal::MolarMass);
-        assert_eq!(excess_at(&weighed([mass, 0.018]), [0.5, 0.5], T), Err(Refusal::MolarMass));
+        assert_eq!(asked(&weighed([0.046, mass]), [0.5, 0.5]), Reason::MolarMass.into());
+        assert_eq!(excess_at(&weighed([mass, 0.018]), [0.5, 0.5], T), Err(Reason::MolarMass.into()));
     }
-    let lengths = Some(Refusal::FeedLength { entries: 3, solvents: 2 });
+    let lengths = Some(Reason::FeedLength { entries: 3, solvents: 2 }.into());
     assert_eq!(excess_at(&good, Feed::mass([0.5, 0.5, 0.0]), T).err(), lengths);
 }
 
@@ -404,22 +409,22 @@ fn a_call_for_each_task() {
         rachford_rice_negative(&book, z, k, 200).map(Answer::RachfordRiceNegative),
         asked(Task::RachfordRiceNegative { k, max_iterations: 200 })
     );
-    assert_eq!(tp_flash(&book, z, Kelvin(100.0), P, options), Err(Refusal::TemperatureOutside));
+    assert_eq!(tp_flash(&book, z, Kelvin(100.0), P, options), Err(Reason::TemperatureOutside.into()));
 }
 
 #[test]
 fn bytes_of_a_refused_call_stay() {
     let mut room: Vec<u8> = (0..ANSWER_ROOM + 9).map(|k| (7 * k + 3) as u8).collect();
     let before = room.clone();
-    let mut put = |question: &[u8], length: usize, number| {
-        assert_eq!(answer_bytes(STORED_BOOK, question, &mut room[..length]), Err(number));
+    let mut put = |question: &[u8], length: usize, reason: Reason| {
+        assert_eq!(answer_bytes(STORED_BOOK, question, &mut room[..length]), Err(reason.into()));
         assert_eq!(room, before);
     };
-    put(STORED_QUESTION, ANSWER_ROOM - 1, Refusal::AnswerShort);
-    put(STORED_QUESTION, 0, Refusal::AnswerShort);
-    put(&[], ANSWER_ROOM, Refusal::QuestionBlock);
-    put(&STORED_QUESTION[1..], ANSWER_ROOM + 9, Refusal::QuestionBlock);
-    put(&Words::new(8).word(1, 10).seal(), ANSWER_ROOM, Refusal::Task);
+    put(STORED_QUESTION, ANSWER_ROOM - 1, Reason::AnswerShort);
+    put(STORED_QUESTION, 0, Reason::AnswerShort);
+    put(&[], ANSWER_ROOM, Reason::QuestionBlock);
+    put(&STORED_QUESTION[1..], ANSWER_ROOM + 9, Reason::QuestionBlock);
+    put(&Words::new(8).word(1, 10).seal(), ANSWER_ROOM, Reason::Task);
 }
 
 #[test]

@@ -6,7 +6,7 @@ mod ethanol_water;
 use ethanol_water::{ethanol_water, in_the_making};
 use zektonk::{answer, distance, distance_bytes, tp_flash};
 use zektonk::{
-    Book, Distance, Feed, Kelvin, Options, Pascal, Phases, Question, Refusal, Task, STEPS_MOST, STEP_PASCALS,
+    Book, Distance, Feed, Kelvin, Options, Pascal, Phases, Question, Reason, Refusal, Task, STEPS_MOST, STEP_PASCALS,
 };
 
 const STORED_BOOK: &[u8] = include_bytes!("../../../crates/still/data/book.bin");
@@ -75,23 +75,23 @@ fn refusals() {
         Task::RachfordRice { k: [2.0, 0.5].into(), max_iterations: 9 },
     ] {
         // 12 stands ahead of what the question says.
-        assert_eq!(of(other, [0.5, 0.4]), Err(Refusal::Task), "{other:?}");
+        assert_eq!(of(other, [0.5, 0.4]), Err(Reason::Task.into()), "{other:?}");
     }
-    assert_eq!(of(task(351.44, 90e3), [0.5, 0.4]), Err(Refusal::FractionSum));
-    assert_eq!(of(task(260.0, 90e3), [0.5, 0.5]), Err(Refusal::TemperatureOutside));
-    assert_eq!(of(task(351.44, -1.0), [0.5, 0.5]), Err(Refusal::Pressure));
-    assert_eq!(of(task(351.44, 99.0), [0.5, 0.5]), Err(Refusal::PressureOutside));
+    assert_eq!(of(task(351.44, 90e3), [0.5, 0.4]), Err(Reason::FractionSum.into()));
+    assert_eq!(of(task(260.0, 90e3), [0.5, 0.5]), Err(Reason::TemperatureOutside.into()));
+    assert_eq!(of(task(351.44, -1.0), [0.5, 0.5]), Err(Reason::Pressure.into()));
+    assert_eq!(of(task(351.44, 99.0), [0.5, 0.5]), Err(Reason::PressureOutside.into()));
     let one = Question::new(task(351.44, 90e3), [1.0]);
-    assert_eq!(distance(&book, &one), Err(Refusal::FeedLength { entries: 1, solvents: 2 }));
-    assert_eq!(distance(&Book::from(&[][..]), &one), Err(Refusal::BookLength));
-    assert_eq!(answer(&book, &Question::new(task(351.44, 99.0), [0.5, 0.5])), Err(Refusal::PressureOutside));
+    assert_eq!(distance(&book, &one), Err(Reason::FeedLength { entries: 1, solvents: 2 }.into()));
+    assert_eq!(distance(&Book::from(&[][..]), &one), Err(Reason::BookLength.into()));
+    assert_eq!(answer(&book, &Question::new(task(351.44, 99.0), [0.5, 0.5])), Err(Reason::PressureOutside.into()));
 }
 
 #[test]
 fn bytes() {
     assert_eq!(distance_bytes(STORED_BOOK, STORED_QUESTION), Ok(Distance::Step { steps: 64, outcome: 1, refused: 0 }));
-    assert_eq!(distance_bytes(STORED_BOOK, &STORED_QUESTION[1..]), Err(Refusal::QuestionBlock));
-    assert_eq!(distance_bytes(&STORED_BOOK[1..], STORED_QUESTION), Err(Refusal::BookLength));
-    assert_eq!(distance_bytes(&[], &[]), Err(Refusal::BookLength));
+    assert_eq!(distance_bytes(STORED_BOOK, &STORED_QUESTION[1..]), Err(Reason::QuestionBlock.into()));
+    assert_eq!(distance_bytes(&STORED_BOOK[1..], STORED_QUESTION), Err(Reason::BookLength.into()));
+    assert_eq!(distance_bytes(&[], &[]), Err(Reason::BookLength.into()));
     assert_eq!((STEPS_MOST, STEP_PASCALS), (1000, 100));
 }

@@ -6,7 +6,7 @@ mod ethanol_water;
 use ethanol_water::{ethanol_water, in_the_making};
 use zektonk::{answer, answer_bytes, feeds, feeds_bytes};
 use zektonk::{
-    Answer, Block, Book, Feed, Kelvin, Options, Pascal, Question, Refusal, Task, Words, ANSWER_ROOM, FEEDS_MOST,
+    Answer, Block, Book, Feed, Kelvin, Options, Pascal, Question, Reason, Task, Words, ANSWER_ROOM, FEEDS_MOST,
     FEED_BYTES,
 };
 
@@ -55,11 +55,11 @@ fn each_feed_is_answered_as_by_a_call_on_its_own() {
 fn how_many() {
     let book = ethanol_water().unwrap();
     let asked = |count: usize| feeds(&book, &tasks()[1], &vec![[0.5, 0.5].into(); count]);
-    assert_eq!(asked(0), Err(Refusal::FeedsLength));
+    assert_eq!(asked(0), Err(Reason::FeedsLength.into()));
     assert_eq!(asked(1).unwrap().len(), 1);
     let most = asked(FEEDS_MOST).unwrap();
     assert!(most.len() == FEEDS_MOST && most.iter().all(|entry| *entry == most[0]) && most[0].is_ok());
-    assert_eq!(asked(FEEDS_MOST + 1), Err(Refusal::FeedsLength));
+    assert_eq!(asked(FEEDS_MOST + 1), Err(Reason::FeedsLength.into()));
 }
 
 #[test]
@@ -73,7 +73,7 @@ fn other_tasks_are_refused_feed_by_feed() {
         Task::RachfordRiceNegative { k, max_iterations: 200 },
     ] {
         let found = feeds(&book, &task, &[[0.5, 0.5].into(), [2.0, 2.0].into()]);
-        assert_eq!(found, Ok(vec![Err(Refusal::Task), Err(Refusal::Task)]));
+        assert_eq!(found, Ok(vec![Err(Reason::Task.into()), Err(Reason::Task.into())]));
     }
 }
 
@@ -81,9 +81,9 @@ fn other_tasks_are_refused_feed_by_feed() {
 fn what_the_crate_refuses() {
     let book = ethanol_water().unwrap();
     let asked = |rows: &[Feed]| feeds(&book, &tasks()[0], rows);
-    assert_eq!(asked(&[[0.5, 0.5].into(), Feed::mass([0.5, 0.5])]), Err(Refusal::FeedsMixed));
-    assert_eq!(asked(&[[0.5, 0.5].into(), [1.0].into()]), Err(Refusal::FeedLength { entries: 1, solvents: 2 }));
-    assert_eq!(feeds(&Book::from(&[][..]), &tasks()[0], &[]), Err(Refusal::BookLength));
+    assert_eq!(asked(&[[0.5, 0.5].into(), Feed::mass([0.5, 0.5])]), Err(Reason::FeedsMixed.into()));
+    assert_eq!(asked(&[[0.5, 0.5].into(), [1.0].into()]), Err(Reason::FeedLength { entries: 1, solvents: 2 }.into()));
+    assert_eq!(feeds(&Book::from(&[][..]), &tasks()[0], &[]), Err(Reason::BookLength.into()));
 }
 
 /// The first two of each row, and what stands behind them.
@@ -107,7 +107,7 @@ fn every_byte_of_the_slice() {
             Err(refusal) => {
                 let block = Words::new(9).word(1, 7).word(2, refusal.number().unwrap()).seal();
                 assert_eq!((part[..512] == block, &part[512..]), (true, &old[512..]));
-                assert_eq!((k, refusal), (1, Refusal::FractionSum));
+                assert_eq!((k, refusal), (1, Reason::FractionSum.into()));
                 assert_eq!(Answer::decode(part, 2), Ok(Err(refusal)));
             }
         }
@@ -127,21 +127,21 @@ fn bytes_of_a_refused_call_stay() {
     let before: Vec<u8> = (0..65 * ANSWER_ROOM).map(|k| (7 * k + 3) as u8).collect();
     let mut room = before.clone();
     let all = bytes(&[[0.5, 0.5]; 65], 0.0);
-    let mut put = |book: &[u8], question: &[u8], feeds: usize, length: usize, number| {
-        assert_eq!(feeds_bytes(book, question, &all[..feeds], &mut room[..length]), Err(number));
+    let mut put = |book: &[u8], question: &[u8], feeds: usize, length: usize, reason: Reason| {
+        assert_eq!(feeds_bytes(book, question, &all[..feeds], &mut room[..length]), Err(reason.into()));
         assert!(room == before);
     };
     for length in [0, 1, FEED_BYTES - 1, FEED_BYTES + 1, 64 * FEED_BYTES - 1, 64 * FEED_BYTES + 1, 65 * FEED_BYTES] {
         // 33 ahead of 10 and 11.
-        put(STORED_BOOK, STORED_QUESTION, length, 65 * ANSWER_ROOM, Refusal::FeedsLength);
-        put(STORED_BOOK, &[], length, 0, Refusal::FeedsLength);
+        put(STORED_BOOK, STORED_QUESTION, length, 65 * ANSWER_ROOM, Reason::FeedsLength);
+        put(STORED_BOOK, &[], length, 0, Reason::FeedsLength);
         // The book ahead of both.
-        put(&STORED_BOOK[1..], &[], length, 0, Refusal::BookLength);
+        put(&STORED_BOOK[1..], &[], length, 0, Reason::BookLength);
     }
     for count in [1, 2, 64] {
-        put(STORED_BOOK, STORED_QUESTION, count * FEED_BYTES, count * ANSWER_ROOM - 1, Refusal::AnswerShort);
+        put(STORED_BOOK, STORED_QUESTION, count * FEED_BYTES, count * ANSWER_ROOM - 1, Reason::AnswerShort);
         // 10 ahead of 11.
-        put(STORED_BOOK, &[], count * FEED_BYTES, (count - 1) * ANSWER_ROOM, Refusal::AnswerShort);
+        put(STORED_BOOK, &[], count * FEED_BYTES, (count - 1) * ANSWER_ROOM, Reason::AnswerShort);
     }
 }
 

@@ -3,8 +3,8 @@
 
 use zektonk::format;
 use zektonk::{
-    Options, Refusal, ANSWER_ROOM, BLOCK, BOOK_LARGEST, BOOK_MOST, DISTANCE_WORDS, DRUMS_MOST, DRUM_BYTES, FEEDS_MOST,
-    FEED_BYTES, FLOOR_WORDS, POOL_MOST, QUEUE_MOST, STEPS_MOST, STEP_PASCALS, VERSION,
+    Options, Reason, ANSWER_ROOM, BLOCK, BOOK_LARGEST, BOOK_MOST, DISTANCE_WORDS, DRUMS_MOST, DRUM_BYTES, FEEDS_MOST,
+    FEED_BYTES, FLOOR_WORDS, PLACE_WORDS, POOL_MOST, QUEUE_MOST, SENTENCE_ROOM, STEPS_MOST, STEP_PASCALS, VERSION,
 };
 
 const HEADER: &str = include_str!("../../c/zektonk.h");
@@ -43,8 +43,8 @@ fn same<T: Copy + TryInto<u64>>(tag: &str, prefix: &str, ours: &[(&str, T)]) {
 fn refusals() {
     let found = entries("zektonk_refusal");
     assert_eq!(found[0], ("ZEKTONK_ANSWERED".into(), 0));
-    let named = |refusal: Refusal| (format!("ZEKTONK_{}", in_c(&format!("{refusal:?}"))), refusal.number().unwrap());
-    assert_eq!(found[1..], Refusal::ALL.map(named));
+    let named = |reason: Reason| (format!("ZEKTONK_{}", in_c(&format!("{reason:?}"))), reason.number().unwrap());
+    assert_eq!(found[1..], Reason::ALL.map(named));
 }
 
 #[test]
@@ -59,11 +59,13 @@ fn words() {
     same("zektonk_trial_word", "ZEKTONK_TRIAL_WORD_", format::trial::ALL);
     same("zektonk_distance_word", "ZEKTONK_DISTANCE_WORD_", format::distance::ALL);
     same("zektonk_floor_word", "ZEKTONK_FLOOR_WORD_", format::floor::ALL);
+    same("zektonk_place_word", "ZEKTONK_PLACE_WORD_", format::place::ALL);
 }
 
 #[test]
 fn numbers() {
     same("zektonk_kind", "ZEKTONK_KIND_", format::kind::ALL);
+    same("zektonk_place_kind", "ZEKTONK_PLACE_", format::place_kind::ALL);
     same("zektonk_model", "ZEKTONK_MODEL_", format::model::ALL);
     same("zektonk_feed", "ZEKTONK_FEED_", format::feed::ALL);
     same("zektonk_task", "ZEKTONK_", format::task::ALL);
@@ -74,7 +76,7 @@ fn numbers() {
 
 #[test]
 fn every_enumeration_is_held() {
-    assert_eq!(HEADER.matches("\nenum zektonk_").count(), 18);
+    assert_eq!(HEADER.matches("\nenum zektonk_").count(), 20);
 }
 
 /// What a macro stands for.
@@ -104,6 +106,8 @@ fn sizes_and_version() {
         ("DISTANCE_WORDS", DISTANCE_WORDS),
         ("TRIALS_MOST", ANSWER_ROOM / BLOCK - 1),
         ("FLOOR_WORDS", FLOOR_WORDS),
+        ("PLACE_WORDS", PLACE_WORDS),
+        ("SENTENCE_ROOM", SENTENCE_ROOM),
     ] {
         assert_eq!(defined(name), value.to_string(), "{name}");
     }

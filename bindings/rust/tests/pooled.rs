@@ -6,7 +6,7 @@ mod ethanol_water;
 use ethanol_water::{ethanol_water, in_the_making};
 use zektonk::{answer, pooled, pooled_bytes, rachford_rice};
 use zektonk::{
-    Answer, Book, Drum, Kelvin, Options, Pascal, Question, Refusal, Task, Words, ANSWER_ROOM, DRUMS_MOST, DRUM_BYTES,
+    Answer, Book, Drum, Kelvin, Options, Pascal, Question, Reason, Task, Words, ANSWER_ROOM, DRUMS_MOST, DRUM_BYTES,
     POOL_MOST,
 };
 
@@ -62,9 +62,9 @@ fn samples() {
     let asked = |drums: &[Drum]| pooled(&book, &split(), drums);
     let d = rachford_rice(&book, [0.5, 0.5], SPLIT, 200).map(Answer::RachfordRice);
     assert_eq!(asked(&[Drum::new([3, 1, 7]), Drum::new([1, 3])]), d);
-    assert_eq!(asked(&[Drum::default()]), Err(Refusal::DrumsTotal));
-    assert_eq!(asked(&[Drum::new([u64::MAX]), Drum::new([2])]), Err(Refusal::DrumsTotal));
-    assert_eq!(asked(&[]), Err(Refusal::DrumsLength));
+    assert_eq!(asked(&[Drum::default()]), Err(Reason::DrumsTotal.into()));
+    assert_eq!(asked(&[Drum::new([u64::MAX]), Drum::new([2])]), Err(Reason::DrumsTotal.into()));
+    assert_eq!(asked(&[]), Err(Reason::DrumsLength.into()));
 }
 
 #[test]
@@ -72,25 +72,25 @@ fn totals_and_how_many() {
     let book = ethanol_water().unwrap();
     let asked = |drums: &[Drum]| pooled(&book, &split(), drums).err();
     assert_eq!(asked(&[Drum::new([POOL_MOST - 1, 1])]), None);
-    assert_eq!(asked(&[Drum::new([POOL_MOST, 1])]), Some(Refusal::DrumsTotal));
-    assert_eq!(asked(&[Drum::new([POOL_MOST]), Drum::new([0, 1])]), Some(Refusal::DrumsTotal));
+    assert_eq!(asked(&[Drum::new([POOL_MOST, 1])]), Some(Reason::DrumsTotal.into()));
+    assert_eq!(asked(&[Drum::new([POOL_MOST]), Drum::new([0, 1])]), Some(Reason::DrumsTotal.into()));
     // What stands behind the book's two solvents isn't read.
     assert_eq!(asked(&[Drum([1, 1, u64::MAX, u64::MAX, 0, 0, 0, u64::MAX])]), None);
-    assert_eq!(asked(&[Drum([0, 0, 1, 1, 1, 1, 1, 1])]), Some(Refusal::DrumsTotal));
+    assert_eq!(asked(&[Drum([0, 0, 1, 1, 1, 1, 1, 1])]), Some(Reason::DrumsTotal.into()));
     assert_eq!(asked(&[Drum::new([1, 1]); DRUMS_MOST]), None);
     // 31 ahead of 32.
-    assert_eq!(asked(&[Drum::default(); DRUMS_MOST + 1]), Some(Refusal::DrumsLength));
+    assert_eq!(asked(&[Drum::default(); DRUMS_MOST + 1]), Some(Reason::DrumsLength.into()));
 }
 
 #[test]
 fn the_order_of_numbers() {
     let book = ethanol_water().unwrap();
     let hot = Task::BubblePressure { temperature: Kelvin(-1.0) };
-    assert_eq!(pooled(&Book::from(&[][..]), &hot, &[]), Err(Refusal::BookLength));
-    assert_eq!(pooled(&book, &hot, &[]), Err(Refusal::DrumsLength));
-    assert_eq!(pooled(&book, &hot, &[Drum::new([1])]), Err(Refusal::Temperature));
+    assert_eq!(pooled(&Book::from(&[][..]), &hot, &[]), Err(Reason::BookLength.into()));
+    assert_eq!(pooled(&book, &hot, &[]), Err(Reason::DrumsLength.into()));
+    assert_eq!(pooled(&book, &hot, &[Drum::new([1])]), Err(Reason::Temperature.into()));
     let one = Task::RachfordRice { k: [2.0].into(), max_iterations: 200 };
-    assert_eq!(pooled(&book, &one, &[]), Err(Refusal::KLength { entries: 1, solvents: 2 }));
+    assert_eq!(pooled(&book, &one, &[]), Err(Reason::KLength { entries: 1, solvents: 2 }.into()));
 }
 
 #[test]
@@ -99,15 +99,15 @@ fn bytes_of_a_refused_call_stay() {
     let before = room.clone();
     let drum = Drum::new([1, 1]).bytes();
     let by_mass = Words::new(8).word(1, 1).float(2, 300.0).word(27, 1).seal();
-    let mut put = |question: &[u8], drums: &[u8], length: usize, number| {
-        assert_eq!(pooled_bytes(STORED_BOOK, question, drums, &mut room[..length]), Err(number));
+    let mut put = |question: &[u8], drums: &[u8], length: usize, reason: Reason| {
+        assert_eq!(pooled_bytes(STORED_BOOK, question, drums, &mut room[..length]), Err(reason.into()));
         assert_eq!(room, before);
     };
-    put(STORED_QUESTION, &drum, ANSWER_ROOM - 1, Refusal::AnswerShort);
-    put(&STORED_QUESTION[1..], &drum, ANSWER_ROOM, Refusal::QuestionBlock);
-    put(&Words::new(8).word(1, 10).seal(), &[], ANSWER_ROOM, Refusal::Task);
-    put(STORED_QUESTION, &drum[..DRUM_BYTES - 1], ANSWER_ROOM + 9, Refusal::DrumsLength);
-    put(STORED_QUESTION, &[1; 65 * DRUM_BYTES], ANSWER_ROOM, Refusal::DrumsLength);
-    put(&by_mass, &[0; DRUM_BYTES], ANSWER_ROOM, Refusal::DrumsTotal);
-    put(&by_mass, &drum, ANSWER_ROOM, Refusal::FeedKind);
+    put(STORED_QUESTION, &drum, ANSWER_ROOM - 1, Reason::AnswerShort);
+    put(&STORED_QUESTION[1..], &drum, ANSWER_ROOM, Reason::QuestionBlock);
+    put(&Words::new(8).word(1, 10).seal(), &[], ANSWER_ROOM, Reason::Task);
+    put(STORED_QUESTION, &drum[..DRUM_BYTES - 1], ANSWER_ROOM + 9, Reason::DrumsLength);
+    put(STORED_QUESTION, &[1; 65 * DRUM_BYTES], ANSWER_ROOM, Reason::DrumsLength);
+    put(&by_mass, &[0; DRUM_BYTES], ANSWER_ROOM, Reason::DrumsTotal);
+    put(&by_mass, &drum, ANSWER_ROOM, Reason::FeedKind);
 }

@@ -6,8 +6,8 @@ mod ethanol_water;
 use ethanol_water::{ethanol_water, in_the_making};
 use zektonk::{answer, answer_bytes, preview, preview_bytes};
 use zektonk::{
-    Book, Correlation, Feed, Interval, Kelvin, Model, Offered, Options, Pair, Pascal, Question, Refusal, Rule, Solvent,
-    Task, WilsonPair, Words, ANSWER_ROOM, BLOCK,
+    Book, Correlation, Feed, Interval, Kelvin, Model, Offered, Options, Pair, Pascal, Place, Question, Reason, Refusal,
+    Rule, Solvent, Task, WilsonPair, Words, ANSWER_ROOM, BLOCK,
 };
 
 const STORED_BOOK: &[u8] = include_bytes!("../../../crates/still/data/book.bin");
@@ -101,6 +101,12 @@ fn each_pair_stands_in_its_own_place() {
     }
 }
 
+/// The reason, of a refusal whose place is the offered block.
+fn of_the_offered(refusal: Refusal) -> Reason {
+    assert_eq!(refusal.place, Place::Offered, "{refusal}");
+    refusal.reason
+}
+
 /// Each with one thing wrong, by the rule of the book.
 #[test]
 fn numbers_of_the_offered_block() {
@@ -108,29 +114,29 @@ fn numbers_of_the_offered_block() {
         let rule = book.rule();
         let other = if rule == Rule::Plain { Rule::Running } else { Rule::Plain };
         let question = Question::new(tasks()[6], [0.5, 0.5]);
-        let refused = |offered: Offered| preview(&book, &offered, &question).err();
+        let refused = |offered: Offered| preview(&book, &offered, &question).err().map(of_the_offered);
         let words = |kind, i, j| Words::new(kind).word(1, i).word(2, j).floats(11, &[0.3, 0.0, 0.3, 0.0]);
         let sealed = |words: Words| Offered::from(words.seal_by(rule));
         assert_eq!(refused(sealed(words(3, 0, 1))), None);
-        assert_eq!(refused(Offered::from(words(3, 0, 1).seal_by(other))), Some(Refusal::BookCheck));
+        assert_eq!(refused(Offered::from(words(3, 0, 1).seal_by(other))), Some(Reason::BookCheck));
         for (kind, i, j) in [(2, 0, 1), (3, 1, 0), (3, 0, 0), (3, 1, 1), (3, 0, 2), (3, 1, 2), (3, 0, u64::MAX)] {
-            assert_eq!(refused(sealed(words(kind, i, j))), Some(Refusal::PairBlock), "{kind} {i} {j}");
+            assert_eq!(refused(sealed(words(kind, i, j))), Some(Reason::PairBlock), "{kind} {i} {j}");
         }
         for flag in [15, 18] {
             assert_eq!(refused(sealed(words(3, 0, 1).word(flag, 1))), None);
-            assert_eq!(refused(sealed(words(3, 0, 1).word(flag, 2))), Some(Refusal::PairBlock));
+            assert_eq!(refused(sealed(words(3, 0, 1).word(flag, 2))), Some(Reason::PairBlock));
         }
         for at in 3..=14 {
-            assert_eq!(refused(sealed(words(3, 0, 1).float(at, f64::NAN))), Some(Refusal::PairNumber), "{at}");
+            assert_eq!(refused(sealed(words(3, 0, 1).float(at, f64::NAN))), Some(Reason::PairNumber), "{at}");
         }
         for at in [16, 17] {
             // A bound counts where there is an interval.
             assert_eq!(refused(sealed(words(3, 0, 1).float(at, f64::INFINITY))), None);
             let flagged = words(3, 0, 1).word(15, 1).float(at, f64::INFINITY);
-            assert_eq!(refused(sealed(flagged)), Some(Refusal::PairNumber));
+            assert_eq!(refused(sealed(flagged)), Some(Reason::PairNumber));
         }
         for at in 11..=14 {
-            assert_eq!(refused(sealed(words(3, 0, 1).float(at, 0.4))), Some(Refusal::PairAlphas), "{at}");
+            assert_eq!(refused(sealed(words(3, 0, 1).float(at, 0.4))), Some(Reason::PairAlphas), "{at}");
         }
         // -0 and +0 are equal as floats.
         assert_eq!(refused(sealed(words(3, 0, 1).float(12, -0.0))), None);
@@ -146,7 +152,7 @@ fn a_wilson_book_reads_no_alphas() {
         Offered::from(words.float(at, f64::NAN).seal_by(book.rule()))
     };
     for at in 3..=6 {
-        assert_eq!(preview(&book, &offered(at), &question), Err(Refusal::PairNumber));
+        assert_eq!(preview(&book, &offered(at), &question), Err(Reason::PairNumber.at(Place::Offered)));
     }
     for at in 7..=14 {
         assert_eq!(preview(&book, &offered(at), &question), answer(&book, &question));
@@ -162,7 +168,7 @@ fn a_book_of_one_solvent_has_no_pair() {
     assert!(answer(&book, &question).is_ok());
     for (i, j) in [(0, 0), (0, 1), (1, 2)] {
         let offered = Offered::pair(book.rule(), i, j, &FITTED);
-        assert_eq!(preview(&book, &offered, &question), Err(Refusal::PairBlock));
+        assert_eq!(preview(&book, &offered, &question), Err(Reason::PairBlock.at(Place::Offered)));
     }
 }
 
@@ -170,8 +176,8 @@ fn a_book_of_one_solvent_has_no_pair() {
 fn the_order_of_numbers_and_bytes_that_stay() {
     let mut room: Vec<u8> = (0..ANSWER_ROOM + 9).map(|k| (7 * k + 3) as u8).collect();
     let before = room.clone();
-    let mut put = |book: &[u8], offered: &[u8], question: &[u8], length: usize, number| {
-        assert_eq!(preview_bytes(book, offered, question, &mut room[..length]), Err(number));
+    let mut put = |book: &[u8], offered: &[u8], question: &[u8], length: usize, refusal: Refusal| {
+        assert_eq!(preview_bytes(book, offered, question, &mut room[..length]), Err(refusal));
         assert!(room == before);
     };
     let good = &STORED_BOOK[3 * BLOCK..];
@@ -180,21 +186,21 @@ fn the_order_of_numbers_and_bytes_that_stay() {
     let mut damaged = STORED_BOOK.to_vec();
     damaged[3 * BLOCK + 8 * 15] = 2;
     damaged[4 * BLOCK - 8] = damaged[4 * BLOCK - 8].wrapping_add(1);
-    put(&damaged, good, STORED_QUESTION, ANSWER_ROOM, Refusal::PairBlock);
-    put(&STORED_BOOK[1..], &[], &[], 0, Refusal::BookLength);
+    put(&damaged, good, STORED_QUESTION, ANSWER_ROOM, Reason::PairBlock.at(Place::Block(3)));
+    put(&STORED_BOOK[1..], &[], &[], 0, Reason::BookLength.into());
     for length in [0, 1, BLOCK - 1] {
-        put(STORED_BOOK, &good[..length], &[], 0, Refusal::BookLength);
+        put(STORED_BOOK, &good[..length], &[], 0, Reason::BookLength.at(Place::Offered));
     }
-    put(STORED_BOOK, &[good, &[0]].concat(), &[], 0, Refusal::BookLength);
-    put(STORED_BOOK, &[good, good].concat(), &[], 0, Refusal::BookLength);
-    put(STORED_BOOK, &unsealed, &[], 0, Refusal::BookCheck);
-    put(STORED_BOOK, &Words::new(3).float(3, f64::NAN).seal(), &[], 0, Refusal::PairBlock);
+    put(STORED_BOOK, &[good, &[0]].concat(), &[], 0, Reason::BookLength.at(Place::Offered));
+    put(STORED_BOOK, &[good, good].concat(), &[], 0, Reason::BookLength.at(Place::Offered));
+    put(STORED_BOOK, &unsealed, &[], 0, Reason::BookCheck.at(Place::Offered));
+    put(STORED_BOOK, &Words::new(3).float(3, f64::NAN).seal(), &[], 0, Reason::PairBlock.at(Place::Offered));
     let uneven = Words::new(3).word(2, 1).float(11, 1.0);
-    put(STORED_BOOK, &uneven.clone().float(3, f64::NAN).seal(), &[], 0, Refusal::PairNumber);
-    put(STORED_BOOK, &uneven.seal(), &[], 0, Refusal::PairAlphas);
-    put(STORED_BOOK, good, &[], ANSWER_ROOM - 1, Refusal::AnswerShort);
-    put(STORED_BOOK, good, &STORED_QUESTION[1..], ANSWER_ROOM, Refusal::QuestionBlock);
-    put(STORED_BOOK, good, &Words::new(8).word(1, 10).seal(), ANSWER_ROOM + 9, Refusal::Task);
+    put(STORED_BOOK, &uneven.clone().float(3, f64::NAN).seal(), &[], 0, Reason::PairNumber.at(Place::Offered));
+    put(STORED_BOOK, &uneven.seal(), &[], 0, Reason::PairAlphas.at(Place::Offered));
+    put(STORED_BOOK, good, &[], ANSWER_ROOM - 1, Reason::AnswerShort.into());
+    put(STORED_BOOK, good, &STORED_QUESTION[1..], ANSWER_ROOM, Reason::QuestionBlock.into());
+    put(STORED_BOOK, good, &Words::new(8).word(1, 10).seal(), ANSWER_ROOM + 9, Reason::Task.into());
     let mut alone = before.clone();
     answer_bytes(STORED_BOOK, STORED_QUESTION, &mut alone).unwrap();
     preview_bytes(STORED_BOOK, good, STORED_QUESTION, &mut room).unwrap();
@@ -206,6 +212,6 @@ fn what_the_crate_refuses() {
     let book = ethanol_water().unwrap();
     let offered = Offered::pair(book.rule(), 0, 1, &FITTED);
     let question = Question::new(tasks()[0], [1.0]);
-    assert_eq!(preview(&book, &offered, &question), Err(Refusal::FeedLength { entries: 1, solvents: 2 }));
-    assert_eq!(preview(&Book::from(&[][..]), &offered, &question), Err(Refusal::BookLength));
+    assert_eq!(preview(&book, &offered, &question), Err(Reason::FeedLength { entries: 1, solvents: 2 }.into()));
+    assert_eq!(preview(&Book::from(&[][..]), &offered, &question), Err(Reason::BookLength.into()));
 }

@@ -7,7 +7,7 @@ mod ethanol_water;
 use ethanol_water::{ethanol_water, in_the_making};
 use zektonk::{answer, answer_bytes, most_evaluations, queue, queue_bytes, tp_flash};
 use zektonk::{
-    Answer, Block, Book, Feed, Kelvin, Options, Pascal, Question, Queued, Refusal, Task, Words, ANSWER_ROOM, QUEUE_MOST,
+    Answer, Block, Book, Feed, Kelvin, Options, Pascal, Question, Queued, Reason, Task, Words, ANSWER_ROOM, QUEUE_MOST,
 };
 
 const STORED_BOOK: &[u8] = include_bytes!("../../../crates/still/data/book.bin");
@@ -80,9 +80,9 @@ fn real_counts_are_taken_off() {
         let large = flash(90e3, 1_000_000);
         assert_eq!(queue(book, &[large, last], most).unwrap(), [Queued::PutOff, alone(book, &last)]);
         // Refused ahead of its first evaluation, with nothing left; refused later it takes 2, where 8 are asked for.
-        assert_eq!(queue(book, &[flash(1.0, 500)], 0).unwrap(), [Queued::Refused(Refusal::PressureOutside)]);
+        assert_eq!(queue(book, &[flash(1.0, 500)], 0).unwrap(), [Queued::Refused(Reason::PressureOutside.into())]);
         let short = flash(90e3, 1);
-        let refused = Queued::Refused(Refusal::NotConverged);
+        let refused = Queued::Refused(Reason::NotConverged.into());
         assert_eq!(queue(book, &[short, short], 9).unwrap(), [refused.clone(), Queued::PutOff]);
         assert_eq!(queue(book, &[short, short], 10).unwrap(), [refused.clone(), refused]);
     }
@@ -92,11 +92,11 @@ fn real_counts_are_taken_off() {
 fn how_many() {
     let book = ethanol_water().unwrap();
     let asked = |count: usize| queue(&book, &vec![flash(70e3, 500); count], u64::MAX);
-    assert_eq!(asked(0), Err(Refusal::QueueQuestions));
+    assert_eq!(asked(0), Err(Reason::QueueQuestions.into()));
     assert_eq!(asked(1).unwrap().len(), 1);
     let most = asked(QUEUE_MOST).unwrap();
     assert!(most.len() == QUEUE_MOST && most.iter().all(|entry| *entry == most[0]) && most[0].flash().is_some());
-    assert_eq!(asked(QUEUE_MOST + 1), Err(Refusal::QueueQuestions));
+    assert_eq!(asked(QUEUE_MOST + 1), Err(Reason::QueueQuestions.into()));
 }
 
 #[test]
@@ -112,7 +112,7 @@ fn other_tasks_end_the_call() {
     ] {
         let other = Question::new(task, [0.5, 0.5]);
         for questions in [vec![other], vec![flash(90e3, 500), other], vec![other, flash(90e3, 500)]] {
-            assert_eq!(queue(&book, &questions, u64::MAX), Err(Refusal::QueueQuestions));
+            assert_eq!(queue(&book, &questions, u64::MAX), Err(Reason::QueueQuestions.into()));
         }
     }
 }
@@ -121,8 +121,8 @@ fn other_tasks_end_the_call() {
 fn what_the_crate_refuses() {
     let book = ethanol_water().unwrap();
     let short = Question::new(flash(90e3, 500).task, [1.0]);
-    assert_eq!(queue(&book, &[flash(90e3, 500), short], 0), Err(Refusal::FeedLength { entries: 1, solvents: 2 }));
-    assert_eq!(queue(&Book::from(&[][..]), &[], 0), Err(Refusal::BookLength));
+    assert_eq!(queue(&book, &[flash(90e3, 500), short], 0), Err(Reason::FeedLength { entries: 1, solvents: 2 }.into()));
+    assert_eq!(queue(&Book::from(&[][..]), &[], 0), Err(Reason::BookLength.into()));
 }
 
 /// The stored one with another word.
@@ -150,10 +150,10 @@ fn every_byte_of_the_slice() {
     answer_bytes(STORED_BOOK, &questions[1], &mut due[ANSWER_ROOM..][..ANSWER_ROOM]).unwrap();
     assert!(room == due);
     let read = |k: usize| Queued::decode(&room[ANSWER_ROOM * k..][..ANSWER_ROOM], 2).unwrap();
-    assert_eq!(read(0), Queued::Refused(Refusal::Temperature));
+    assert_eq!(read(0), Queued::Refused(Reason::Temperature.into()));
     assert_eq!(read(1).flash().map(|flash| flash.evaluations), Some(243));
-    assert_eq!(read(2), Queued::Refused(Refusal::QuestionBlock));
-    assert_eq!((read(3), read(4)), (Queued::PutOff, Queued::Refused(Refusal::NotConverged)));
+    assert_eq!(read(2), Queued::Refused(Reason::QuestionBlock.into()));
+    assert_eq!((read(3), read(4)), (Queued::PutOff, Queued::Refused(Reason::NotConverged.into())));
 }
 
 #[test]
@@ -161,22 +161,22 @@ fn bytes_of_a_refused_call_stay() {
     let before: Vec<u8> = (0..65 * ANSWER_ROOM).map(|k| (7 * k + 3) as u8).collect();
     let mut room = before.clone();
     let all = STORED_QUESTION.repeat(65);
-    let mut put = |book: &[u8], questions: &[u8], length: usize, number| {
-        assert_eq!(queue_bytes(book, questions, u64::MAX, &mut room[..length]), Err(number));
+    let mut put = |book: &[u8], questions: &[u8], length: usize, reason: Reason| {
+        assert_eq!(queue_bytes(book, questions, u64::MAX, &mut room[..length]), Err(reason.into()));
         assert!(room == before);
     };
     for length in [0, 1, 511, 513, 1023, 64 * 512 - 1, 64 * 512 + 1, 65 * 512] {
         // 39 ahead of 10.
-        put(STORED_BOOK, &all[..length], 65 * ANSWER_ROOM, Refusal::QueueQuestions);
-        put(STORED_BOOK, &all[..length], 0, Refusal::QueueQuestions);
+        put(STORED_BOOK, &all[..length], 65 * ANSWER_ROOM, Reason::QueueQuestions);
+        put(STORED_BOOK, &all[..length], 0, Reason::QueueQuestions);
         // The book ahead of both.
-        put(&STORED_BOOK[1..], &all[..length], 0, Refusal::BookLength);
+        put(&STORED_BOOK[1..], &all[..length], 0, Reason::BookLength);
     }
     let other = [STORED_QUESTION, &question(1, 6)].concat();
-    put(STORED_BOOK, &other, 2 * ANSWER_ROOM, Refusal::QueueQuestions);
-    put(STORED_BOOK, &other, 0, Refusal::QueueQuestions);
+    put(STORED_BOOK, &other, 2 * ANSWER_ROOM, Reason::QueueQuestions);
+    put(STORED_BOOK, &other, 0, Reason::QueueQuestions);
     for count in [1, 2, 64] {
-        put(STORED_BOOK, &all[..512 * count], count * ANSWER_ROOM - 1, Refusal::AnswerShort);
-        put(STORED_BOOK, &all[..512 * count], (count - 1) * ANSWER_ROOM, Refusal::AnswerShort);
+        put(STORED_BOOK, &all[..512 * count], count * ANSWER_ROOM - 1, Reason::AnswerShort);
+        put(STORED_BOOK, &all[..512 * count], (count - 1) * ANSWER_ROOM, Reason::AnswerShort);
     }
 }

@@ -6,7 +6,7 @@ mod ethanol_water;
 use ethanol_water::ethanol_water;
 use zektonk::{answer_bytes, feeds_bytes, floor, floor_words, lab, Floor};
 use zektonk::{
-    Block, Kelvin, Options, Pascal, Question, Refusal, Task, Words, ANSWER_ROOM, BLOCK, FEED_BYTES, FLOOR_WORDS,
+    Block, Kelvin, Options, Pascal, Question, Reason, Task, Words, ANSWER_ROOM, BLOCK, FEED_BYTES, FLOOR_WORDS,
 };
 
 const STORED_BOOK: &[u8] = include_bytes!("../../../crates/still/data/book.bin");
@@ -85,12 +85,12 @@ fn number_1() {
         assert_eq!(floor(&right).map(|floor| floor.words()), Ok(due(Block::of(&right, 0).unwrap())));
         assert_eq!(lab(&[&right[..], &[1, 2, 3]].concat()).map(<[u8]>::len), Ok(BLOCK * (1 + trials)));
         for short in [&right[..right.len() - 1], &right[..BLOCK * trials], &right[1..]] {
-            assert_eq!((floor(short), lab(short)), (Err(Refusal::BookLength), Err(Refusal::BookLength)));
+            assert_eq!((floor(short), lab(short)), (Err(Reason::BookLength.into()), Err(Reason::BookLength.into())));
         }
         for block in 1..=trials {
             let mut other = right.clone();
             other[BLOCK * block] = 9;
-            assert_eq!(floor(&other), Err(Refusal::BookLength));
+            assert_eq!(floor(&other), Err(Reason::BookLength.into()));
         }
         // A check isn't tested.
         let mut unsealed = right.clone();
@@ -98,9 +98,9 @@ fn number_1() {
         assert_eq!(lab(&unsealed), Ok(&unsealed[..]));
     }
     for (kind, count) in [(8, 0), (10, 0), (1 << 32 | 9, 0), (9, 9), (9, 1 << 32), (9, u64::MAX)] {
-        assert_eq!(floor(&blocks(kind, count, 10)), Err(Refusal::BookLength), "{kind} {count}");
+        assert_eq!(floor(&blocks(kind, count, 10)), Err(Reason::BookLength.into()), "{kind} {count}");
     }
-    assert_eq!((floor(&[]), lab(&[])), (Err(Refusal::BookLength), Err(Refusal::BookLength)));
+    assert_eq!((floor(&[]), lab(&[])), (Err(Reason::BookLength.into()), Err(Reason::BookLength.into())));
 }
 
 #[test]
@@ -108,8 +108,8 @@ fn words_that_stay() {
     let answer = blocks(9, 2, 2);
     let mut words: Vec<u64> = (0..30).collect();
     for room in 0..FLOOR_WORDS {
-        assert_eq!(floor_words(&answer, &mut words[..room]), Err(Refusal::AnswerShort));
-        assert_eq!(floor_words(&answer[1..], &mut words[..room]), Err(Refusal::BookLength));
+        assert_eq!(floor_words(&answer, &mut words[..room]), Err(Reason::AnswerShort.into()));
+        assert_eq!(floor_words(&answer[1..], &mut words[..room]), Err(Reason::BookLength.into()));
     }
     assert!(words.iter().copied().eq(0..30));
     floor_words(&answer, &mut words).unwrap();

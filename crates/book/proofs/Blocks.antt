@@ -31,15 +31,23 @@ each_item p xs d =
     let m : length xs ≤ length xs = omega arith in
     ap (list_all p) (sym (take_all (length xs) xs m)) ∙ first_items p xs d (length xs) m
 
+-- a part of one
+pub one_item : {X : Type 0} (p : X → Bool) (xs : List X) (d : X) (k : ℕ) → k < length xs → list_all p (take (k + 1 - k) (drop k xs)) ≡ p (get_or xs k d)
+unfolding all_to
+one_item p xs d k h =
+    let e : k + 1 - k ≡ 1 = omega arith in
+    let f : k + 0 ≡ k = omega arith in
+    rw e (first_items p (drop k xs) d 1 (omega (arith, length-drop k xs)) ∙ ap p (get_or-drop k xs 0 d ∙ ap (λ i. get_or xs i d) f))
+
 -- ---- the solvents' blocks
 abbrev pub solvents : List (List ℕ) → ℕ → List (List ℕ)
 solvents book n = take (1 + n - 1) (drop 1 book)
 
 module _ (book : List (List ℕ)) (n : ℕ) (h : length book ≡ block_count n) where
-  how_many : length (solvents book n) ≡ n
+  pub how_many : length (solvents book n) ≡ n
   how_many = simp (length-take, length-drop) (omega arith)
 
-  solvent_at : (i : ℕ) → i < n → get_or (solvents book n) i [] ≡ get_or book (i + 1) []
+  pub solvent_at : (i : ℕ) → i < n → get_or (solvents book n) i [] ≡ get_or book (i + 1) []
   solvent_at i l = let e : 1 + i ≡ i + 1 = omega arith in get_or-take (1 + n - 1) (drop 1 book) i [] (omega arith) ∙ get_or-drop 1 book i [] ∙ ap (λ k. get_or book k []) e
 
   numbered : (p : ℕ → List ℕ → Bool) → all_to (λ i. p i (get_or (solvents book n) i [])) (length (solvents book n)) ≡ all_to (λ i. p i (get_or book (i + 1) [])) n
@@ -73,13 +81,18 @@ solvents_asked book h l =
     )
 
 -- ---- the pairs' blocks
-pub each_pair : (book : List (List ℕ)) (n : ℕ) (p : List ℕ → Bool) → length book ≡ block_count n
-    → list_all p (take (length book - (1 + n)) (drop (1 + n) book)) ≡ all_to (λ d. p (get_or book (1 + n + d) [])) (pair_count n)
-each_pair book n p h =
-    let s = take (length book - (1 + n)) (drop (1 + n) book) in
-    let e : length s ≡ pair_count n = simp (length-take, length-drop) (omega arith) in
-    each_item p s [] ∙ ap (all_to (λ d. p (get_or s d []))) e
-    ∙ all_cong (pair_count n) (λ d l. ap p (get_or-take (length book - (1 + n)) (drop (1 + n) book) d [] (omega arith) ∙ get_or-drop (1 + n) book d []))
+abbrev pub pairs : List (List ℕ) → ℕ → List (List ℕ)
+pairs book n = take (length book - (1 + n)) (drop (1 + n) book)
+
+module _ (book : List (List ℕ)) (n : ℕ) (h : length book ≡ block_count n) where
+  pub pairs_count : length (pairs book n) ≡ pair_count n
+  pairs_count = simp (length-take, length-drop) (omega arith)
+
+  pub pair_at : (d : ℕ) → d < length (pairs book n) → get_or (pairs book n) d [] ≡ get_or book (1 + n + d) []
+  pair_at d l = get_or-take (length book - (1 + n)) (drop (1 + n) book) d [] (omega (arith, pairs_count)) ∙ get_or-drop (1 + n) book d []
+
+  pub each_pair : (p : List ℕ → Bool) → list_all p (pairs book n) ≡ all_to (λ d. p (get_or book (1 + n + d) [])) (pair_count n)
+  each_pair p = each_item p (pairs book n) [] ∙ ap (all_to (λ d. p (get_or (pairs book n) d []))) pairs_count ∙ all_cong (pair_count n) (λ d l. ap p (pair_at d (rw pairs_count l)))
 
 -- a row of them, at the front of what is left, and what is left behind it
 pub row_read : (book : List (List ℕ)) (n i from : ℕ) {rest row : List (List ℕ)} → length book ≡ block_count n → from + (n - i - 1) ≤ block_count n → rest ≡ drop from book → row ≡ take (n - i - 1) rest

@@ -5,3 +5,4 @@ pub mod Blocks
 pub mod Sound
 pub mod Accepted
 pub mod Unread
+pub mod Places

@@ -2,3 +2,4 @@
 pub mod Places
 pub mod Book
 pub mod Named
+pub mod Place

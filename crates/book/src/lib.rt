@@ -1,14 +1,15 @@
 // The book: questions 1 to 9, 35, 37 and 38.
 #![tactic(auto)]
 
-ghost use Rattle.std.specs.Prelude.{◌≡◌, ◌+◌, ◌-◌, ◌<◌, ◌≤◌, not, false, ◌&&◌, ◌||◌, ◌==◌, if◌then◌else◌, length, take, nat_lt, MatchOption};
+ghost use Rattle.std.specs.Prelude.{◌≡◌, ℕ, ◌+◌, ◌-◌, ◌*◌, ◌<◌, ◌≤◌, Bool, not, true, false, ◌&&◌, ◌||◌, ◌==◌, if◌then◌else◌, length, take, get_or, [], nat_lt, MatchOption, IfSome, ◌^◌};
 ghost use Rattle.std.specs.List.{list_all};
 ghost use Rattle.blocks.specs.Words.{word, check_right};
 ghost use Rattle.floats.specs.Small.{is_finite, positive, float_of, float};
 ghost use Rattle.floats.specs.Fold.{all_to};
-ghost use Rattle.book.specs.Places.{pair_count, block_count, row_from, words_in, Whole};
-ghost use Rattle.book.specs.Book.{floats_finite, version_right, head_right, model_right, model_of, solvent_right, range_right, record_right, records_right, has_masses, pair_right, row_right, parameters_finite, bounds_finite, pair_finite, alphas_equal, pairs_of, solvents_of, head_of, whole_blocks, rule_in, rule_of, book_of, offered_right, offered_of};
-ghost use Rattle.outcome.specs.Refused.{outcome_of};
+ghost use Rattle.book.specs.Places.{pair_count, block_count, row_from, pair_place, words_in, Whole};
+ghost use Rattle.book.specs.Book.{floats_finite, version_right, head_right, model_right, model_of, solvent_right, range_right, record_right, records_right, has_masses, pair_right, row_right, parameters_finite, bounds_finite, pair_finite, alphas_equal, pairs_of, solvents_of, head_in, head_of, whole_blocks, rule_in, rule_of, book_of, offered_right, offered_of};
+ghost use Rattle.book.specs.Place.{lowest, first_pair, block_behind, solvents_at, pair_at, place_in, shaped_by, place_of, put_to_offered, place_past, preview_place};
+ghost use Rattle.outcome.specs.Refused.{number, outcome_of};
 
 use blocks::Rule;
 use floats::Count;
@@ -27,6 +28,15 @@ pub struct Head {
     pub n: usize,
     pub version: u64,
     pub model: Model,
+}
+
+// Where the bytes of a call were answered no: a block of the book, two of its solvents, the offered block, or no such place.
+#[derive(Clone, Copy)]
+pub enum Place {
+    Nowhere,
+    Block(u64),
+    Pair(u64, u64),
+    Offered,
 }
 
 // A book's blocks, where its bytes are whole ones and at least one: question 1.
@@ -141,7 +151,9 @@ fn pair_count(m: Count) -> usize
     m.n * m.n.saturating_sub(1) / 2
 }
 
-// Kind 2, its own index, a CAS number, term counts 1 to 8.
+// Kind 2, its own index, a CAS number, term counts 1 to 8. Inlined, as is `pair_right`: of two callers one is the scan of every
+// book, which a call for each block would slow down.
+#[inline(always)]
 #[tactic(auto, unfolding(crate::specs::Book::solvent_right))]
 fn solvent_right(s: &[u8; 512], i: u64) -> bool
     ensures { result ≡ solvent_right (word s.now) i }
@@ -247,6 +259,7 @@ fn cas_distinct(solvents: &[[u8; 512]]) -> bool
 }
 
 // Kind 3, due i and j, flags 0 or 1.
+#[inline(always)]
 #[tactic(auto, unfolding(crate::specs::Book::pair_right))]
 fn pair_right(s: &[u8; 512], i: u64, j: u64) -> bool
     ensures { result ≡ pair_right (word s.now) i j }
@@ -302,6 +315,16 @@ impl Model {
         match self {
             Model::Nrtl => nrtl_sound(s),
             Model::Wilson => self.pair_finite(s),
+        }
+    }
+
+    #[tactic(auto, unfolding(crate::specs::Book::alphas_equal))]
+    fn alphas_equal(self, s: &[u8; 512]) -> bool
+        ensures { result ≡ alphas_equal self (word s.now) }
+    {
+        match self {
+            Model::Nrtl => alphas_equal(s),
+            Model::Wilson => true,
         }
     }
 
@@ -402,28 +425,42 @@ impl<'a> Book<'a> {
     }
 }
 
-#[tactic(auto, unfolding(crate::specs::Book::head_of, floats::specs::Outcome::need, crate::specs::Book::head_in, crate::specs::Book::model_in))]
-fn open_head(blocks: &[[u8; 512]]) -> Result<Head, Refusal>
+// A book with a block for each solvent and each pair of 1 to 8: question 3.
+#[tactic(auto, unfolding(crate::specs::Book::head_in, crate::specs::Book::model_in))]
+fn shaped(blocks: &[[u8; 512]]) -> Option<Book<'_>>
     requires { 0 < length blocks.now }
-    ensures { outcome_of result ≡ head_of (words_in blocks.now) (length blocks.now) }
+    ensures { MatchOption result
+        (shaped_by (words_in blocks.now 0) (length blocks.now) ≡ false)
+        (λ book. (shaped_by (words_in blocks.now 0) (length blocks.now) ≡ true) × (book.blocks.now ≡ blocks.now) × (book.head ≡ head_in (words_in blocks.now 0))) }
 {
     let first = &blocks[0];
     if !head_right(first) {
-        return Err(Refusal::BookHead);
+        return None;
     }
     let m = Count::of(word(first, 2) as usize);
     if blocks.len() != 1 + m.n + pair_count(m) {
-        return Err(Refusal::BookHead);
-    }
-    if !model_right(first) {
-        return Err(Refusal::BookModel);
+        return None;
     }
     let head = Head {
         n: m.n,
         version: word(first, 1),
         model: model_in(word(first, 3)),
     };
-    Book { blocks, head }.open_solvents()
+    Some(Book { blocks, head })
+}
+
+#[tactic(auto, unfolding(crate::specs::Book::head_of, floats::specs::Outcome::need))]
+fn open_head(blocks: &[[u8; 512]]) -> Result<Head, Refusal>
+    requires { 0 < length blocks.now }
+    ensures { outcome_of result ≡ head_of (words_in blocks.now) (length blocks.now) }
+{
+    let Some(book) = shaped(blocks) else {
+        return Err(Refusal::BookHead);
+    };
+    if !model_right(&blocks[0]) {
+        return Err(Refusal::BookModel);
+    }
+    book.open_solvents()
 }
 
 // Version 3 of kind 1 is checked by running sums.
@@ -498,4 +535,140 @@ pub fn open_offered(rule: Rule, head: Head, offered: &[u8]) -> Result<Head, Refu
         return Err(Refusal::PairAlphas);
     }
     Ok(head)
+}
+
+// ---- where a book said no
+
+// The lowest k below n that does not pass.
+fn lowest<F: Fn(usize) -> bool>(n: usize, passes: F) -> Option<usize>
+    requires { (k : ℕ) → k < n → F.pre passes k }
+    ensures below { IfSome result (λ k. k < n) }
+    ensures first { (q : ℕ → Bool) → ((k : ℕ) (b : Bool) → k < n → F.post passes k b → b ≡ q k) → result ≡ lowest q n }
+{
+    for k in 0..n {
+        if !passes(k) {
+            return Some(k);
+        }
+    }
+    None
+}
+
+// The block behind so many others.
+#[tactic(auto, unfolding(crate::specs::Place::block_behind))]
+fn block_behind(before: usize, found: Option<usize>) -> Place
+    requires { IfSome found (λ k. before + k < 2 ^ 64) }
+    ensures { result ≡ block_behind before found }
+{
+    match found {
+        Some(k) => Place::Block((before + k) as u64),
+        None => Place::Nowhere,
+    }
+}
+
+// The first two solvents with one CAS number, in the order of the pairs.
+fn first_twice(solvents: &[[u8; 512]]) -> Option<(usize, usize)>
+    requires { length solvents.now ≤ 8 }
+    ensures { result ≡ first_pair (λ i j. not (words_in solvents.now i 2 == words_in solvents.now j 2)) (length solvents.now) }
+{
+    for (i, s) in solvents.iter().enumerate() {
+        let own = word(s, 2);
+        let behind = &solvents[i + 1..];
+        if let Some(d) = lowest(behind.len(), |d| own != word(&behind[d], 2)) {
+            return Some((i, i + 1 + d));
+        }
+    }
+    None
+}
+
+impl<'a> Book<'a> {
+    // The block of the first pair that is none of the book's.
+    #[tactic(auto, unfolding(floats::specs::Fold::all_to, crate::specs::Places::row_from))]
+    fn wrong_pair(self) -> Option<usize>
+        ensures { block_behind 0 result ≡ pair_at self.entry.head.n (first_pair (λ i j. pair_right (words_in self.entry.blocks.now (pair_place self.entry.head.n i j)) i j) self.entry.head.n) }
+    {
+        let n = self.head.n;
+        let mut pairs = &self.blocks[1 + n..];
+        for i in 0..n {
+            let (row, behind) = pairs.split_at(n - i - 1);
+            let found = lowest(row.len(), move |d| {
+                pair_right(&row[d], i as u64, (i + 1 + d) as u64)
+            });
+            if let Some(d) = found {
+                return Some(self.blocks.len() - pairs.len() + d);
+            }
+            pairs = behind;
+        }
+        None
+    }
+
+    // Questions 4 to 9. Two of them through the loops over blocks, so that these keep their longer tests to themselves.
+    #[tactic(auto, unfolding(crate::specs::Place::place_in))]
+    fn place_in(self, refusal: Refusal) -> Place
+        ensures { result ≡ place_in (words_in self.entry.blocks.now) self.entry.head (number refusal) }
+    {
+        let Head { n, model, .. } = self.head;
+        let solvents = &self.blocks[1..1 + n];
+        let pairs = &self.blocks[1 + n..];
+        match refusal {
+            Refusal::SolventBlock => block_behind(
+                1,
+                lowest(n, |i| solvent_right(&solvents[i], i as u64)),
+            ),
+            Refusal::SolventNumber => block_behind(
+                1,
+                lowest(n, |i| all_records_right(&solvents[i..i + 1])),
+            ),
+            Refusal::SolventTwice => match first_twice(solvents) {
+                Some((i, j)) => Place::Pair(i as u64, j as u64),
+                None => Place::Nowhere,
+            },
+            Refusal::PairBlock => block_behind(0, self.wrong_pair()),
+            Refusal::PairNumber => block_behind(
+                1 + n,
+                lowest(pairs.len(), |d| model.pairs_finite(&pairs[d..d + 1])),
+            ),
+            Refusal::PairAlphas => block_behind(
+                1 + n,
+                lowest(pairs.len(), |d| model.alphas_equal(&pairs[d])),
+            ),
+            _ => Place::Nowhere,
+        }
+    }
+}
+
+// Where a book that is refused so was answered no: the lowest block, or the first pair of solvents with one CAS number.
+pub fn place_of(book: &[u8], refusal: Refusal) -> Place
+    ensures { result ≡ place_of book.now (number refusal) }
+{
+    let Some(blocks) = whole_blocks(book) else {
+        return Place::Nowhere;
+    };
+    if let Refusal::BookCheck = refusal {
+        let rule = rule_in(&blocks[0]);
+        return block_behind(
+            0,
+            lowest(blocks.len(), |k| blocks::check_right(rule, &blocks[k])),
+        );
+    }
+    match shaped(blocks) {
+        Some(book) => book.place_in(refusal),
+        None => Place::Nowhere,
+    }
+}
+
+// Of a preview that is refused so: once the book passed, the offered block has its own numbers.
+pub fn preview_place(book: &[u8], refusal: Refusal) -> Place
+    ensures { result ≡ preview_place book.now (number refusal) }
+{
+    if open_book(book).is_err() {
+        return place_of(book, refusal);
+    }
+    match refusal {
+        Refusal::BookLength
+        | Refusal::BookCheck
+        | Refusal::PairBlock
+        | Refusal::PairNumber
+        | Refusal::PairAlphas => Place::Offered,
+        _ => Place::Nowhere,
+    }
 }

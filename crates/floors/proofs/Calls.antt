@@ -29,10 +29,11 @@ use Rattle.striking.specs.Theorem.{Accepted}
 use Rattle.pool.specs.Pool.{drums_to, pooled_from, pooled_of}
 use Rattle.pools.specs.Plain.{pool_fractions}
 use Rattle.pools.proofs.Plain.{accepted-is, task-passed, pool_as_plain, as_plain, as_plain_lem}
-use Rattle.pools.proofs.Strike.{PoolTaken}
+use Rattle.pools.proofs.Strike.{taken}
 use Rattle.preview.specs.Preview.{preview_of}
 use Rattle.records.specs.Offered.{with_pair}
-use Rattle.previews.proofs.Copy.{names-pair, Offer, as_copy}
+use Rattle.previews.proofs.Copy.{as_copy}
+use Rattle.previews.proofs.Strike.{tried}
 use Rattle.batches.specs.Alone.{part}
 use Rattle.batches.proofs.Alone.{feeds_alone}
 use Rattle.queue.specs.Queue.{queue_reply, left_at}
@@ -76,28 +77,9 @@ sheet_reads book question room {bs} e =
     subst Readable k (answer-reads (rule_of book) q.task a (few-trials (bs ++ []) a.block.state.trials m))
 
 -- ---- the other calls, as plain ones
-drums-passed : (book question drums : List ℕ) (room : ℕ) {bs : List ℕ} → pooled_of book question drums room ≡ ok bs → PoolTaken book question drums
-unfolding pooled_of pooled_from roomy drums_to Accepted
-drums-passed book question drums room e =
-    let o = bind_inv (book_of book) _ e in
-    let a = open-book.accepted book o.1 in
-    let t = bind_inv (task_in (rule_of book) question) _ (need_inv _ 10 _ o.2).1 in
-    let d = need_inv _ 31 _ t.2 in
-    let s = need_inv _ 32 _ d.1 in
-    let k = need_inv _ 36 _ s.1 in
-    record {
-      few = omega (arith, a.count, a.few);
-      passed = record {
-        task = rw t.1 tt;
-        drums_right = is_true _ d.0;
-        total_right = rw a.count (is_true _ s.0);
-        moles = eqb→eq (word question 27) 0 k.0;
-      };
-    }
-
 pub pooled-reads : (book question drums : List ℕ) (room : ℕ) {bs : List ℕ} → pooled_of book question drums room ≡ ok bs → Readable bs
 pooled-reads book question drums room {bs} e =
-    let t = drums-passed book question drums room e in
+    let t = taken book question drums room e in
     let rule = rule_of book in
     let n = solvents book in
     let z = pool_fractions drums n in
@@ -105,29 +87,10 @@ pooled-reads book question drums room {bs} e =
     let plain = as_plain_lem rule n z question t.few (eqb→eq (length question) 512 asked.size) in
     sheet_reads book (as_plain rule n z question) room (sym (pool_as_plain book question drums (as_plain rule n z question) room t.passed plain) ∙ e)
 
-pair-offered : (book offered question : List ℕ) (room : ℕ) {bs : List ℕ} → preview_of book offered question room ≡ ok bs → Offer book offered
-unfolding preview_of offered_of
-pair-offered book offered question room e =
-    let p = bind_inv (book_of book) _ e in
-    let q = bind_inv (offered_of (rule_of book) p.0 offered) _ p.2 in
-    let w = word offered in
-    let n = p.0.n in
-    let ordered = ltb (w 1) (w 2) in
-    let below = ltb (w 2) n in
-    let size = need_inv (eqb (length offered) 512) 1 _ q.1 in
-    let check = need_inv (check_right (rule_of book) w) 2 _ size.1 in
-    let pair = need_inv (ordered && below && pair_right w (w 1) (w 2)) 7 _ check.1 in
-    let front = and_l (ordered && below) (pair_right w (w 1) (w 2)) pair.0 in
-    record {
-      head = p.0;
-      opened = p.1;
-      named = names-pair n offered (eqb-true (length offered) 512 (is_true _ size.0))
-          (ltb-true (w 1) (w 2) (is_true ordered (and_l ordered below front))) (ltb-true (w 2) n (is_true below (and_r ordered below front)));
-    }
-
 pub preview_reads : (book offered question : List ℕ) (room : ℕ) {bs : List ℕ} → preview_of book offered question room ≡ ok bs → Readable bs
+unfolding Accepted
 preview_reads book offered question room e =
-    let o = pair-offered book offered question room e in
+    let o = tried book offered question room (rw e tt) in
     sheet_reads (with_pair o.head.n book offered) question room (sym (as_copy book offered o question room) ∙ e)
 
 pub reply-read : ReplyRead

@@ -48,7 +48,7 @@ pub record PoolTaken (book question drums : List ℕ) : Type 0 where
   pub few : solvents book ≤ 8
   pub passed : DrumsPass book question drums
 
-taken : (book question drums : List ℕ) (room : ℕ) {bs : List ℕ} → pooled_of book question drums room ≡ ok bs → PoolTaken book question drums
+pub taken : (book question drums : List ℕ) (room : ℕ) {bs : List ℕ} → pooled_of book question drums room ≡ ok bs → PoolTaken book question drums
 unfolding pooled_of pooled_from roomy drums_to Accepted
 taken book question drums room e =
     let o = bind_inv (book_of book) _ e in

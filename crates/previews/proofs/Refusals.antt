@@ -1,4 +1,5 @@
 -- Every refusal of a preview is one of the numbers that there are, so the result 0 means an answer. Assumes nothing.
+use mathlib.Core.Bool.{true}
 use mathlib.Core.Path.{◌≡◌, refl, sym, ap}
 use mathlib.Core.List.{List}
 use Prim.Native.Nat.{ℕ}
@@ -27,7 +28,7 @@ num_offered Wilson rule h offered e = rw e (search numbers depth 8)
 
 -- the copy has the book's model
 num_copy : (book : List ℕ) (n : ℕ) (offered : List ℕ) (q : Question) → Numbered (model_of book) (answer_to (with_pair n book offered) n q)
-num_copy book n offered q = rw (copy-model n book offered) at (num_answer (with_pair n book offered) n q)
+num_copy book n offered q = rw (copy-model n book offered) at (num_answer {own = true} (with_pair n book offered) n q)
 
 num_from : (book : List ℕ) (h : Head) (offered question : List ℕ) (room : ℕ) → Numbered (model_of book) (preview_from book h offered question room)
 unfolding preview_from sheet_from roomy question_of

@@ -43,7 +43,7 @@ accepted-is (ok a) h = (a, refl)
 accepted-is (no r) h = absurd h
 
 -- what an accepted preview passed
-tried : (book offered question : List ℕ) (room : ℕ) → Accepted (preview_of book offered question room) → Offer book offered
+pub tried : (book offered question : List ℕ) (room : ℕ) → Accepted (preview_of book offered question room) → Offer book offered
 unfolding preview_of offered_of
 tried book offered question room took =
     let p = bind_inv (book_of book) _ (accepted-is (preview_of book offered question room) took).1 in

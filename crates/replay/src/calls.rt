@@ -1,4 +1,5 @@
 // The core's functions on the words of a stored line.
+use book::Place;
 use distance::Distance;
 use outcome::{Refusal, number_in};
 use rachford_rice::{RachfordRice, RachfordRiceOutcome};
@@ -43,10 +44,26 @@ impl<'a> Stored<'a> {
     // A slice has its size first, then its bytes as words.
     fn take_bytes<'b>(&mut self, buffer: &'b mut [u8]) -> Option<&'b [u8]> {
         let size = self.take_count()?;
+        self.take_sized(size, buffer)
+    }
+
+    fn take_sized<'b>(&mut self, size: usize, buffer: &'b mut [u8]) -> Option<&'b [u8]> {
         for k in 0..size.div_ceil(8) {
             blocks::write_word(buffer, k, self.take()?);
         }
         buffer.get(..size)
+    }
+
+    // A place is three words; another kind is none.
+    fn take_place(&mut self) -> Option<Place> {
+        let kind = self.take()?;
+        let (a, b) = (self.take()?, self.take()?);
+        Some(match kind {
+            1 => Place::Block(a),
+            2 => Place::Pair(a, b),
+            3 => Place::Offered,
+            _ => Place::Nowhere,
+        })
     }
 
     fn give(&mut self, word: u64) {
@@ -66,6 +83,18 @@ impl<'a> Stored<'a> {
     fn give_eight(&mut self, x: &[f64; 8]) {
         for v in x {
             self.give_float(*v);
+        }
+    }
+
+    fn give_place(&mut self, place: Place) {
+        let words = match place {
+            Place::Nowhere => [0, 0, 0],
+            Place::Block(k) => [1, k, 0],
+            Place::Pair(i, j) => [2, i, j],
+            Place::Offered => [3, 0, 0],
+        };
+        for word in words.iter() {
+            self.give(*word);
         }
     }
 
@@ -245,6 +274,61 @@ fn read_sheets(stored: &mut Stored) -> Option<()> {
     Some(())
 }
 
+// Which call, its inputs, and how many words are lent for the place: the number and, where three are, where it was said no.
+fn placed(stored: &mut Stored) -> Option<()> {
+    let mut book = [0; 24576];
+    let mut question = [0; 4096];
+    let mut lent = [0; 8192];
+    let mut out = [0; 32768];
+    let kind = stored.take()?;
+    let book = stored.take_bytes(&mut book)?;
+    let question = stored.take_bytes(&mut question)?;
+    let size = match kind {
+        1..=4 => stored.take_count()?,
+        _ => 0,
+    };
+    let lent = stored.take_sized(size, &mut lent)?;
+    let out = out.get_mut(..stored.take_count()?)?;
+    let words = stored.take()?;
+    let answered = match kind {
+        0 => sheet::answer(book, question, out),
+        1 => pool::answer(book, question, lent, out),
+        2 => batch::answer(book, question, lent, out),
+        3 => preview::answer(book, lent, question, out),
+        4 => queue::answer(book, question, blocks::word(lent, 0), out),
+        5 => distance::answer(book, question).map(|_| ()),
+        _ => return None,
+    };
+    stored.give(number_in(answered));
+    if words >= 3 {
+        stored.give_place(match answered {
+            Ok(()) => Place::Nowhere,
+            Err(refusal) if kind == 3 => book::preview_place(book, refusal),
+            Err(refusal) => book::place_of(book, refusal),
+        });
+    }
+    Some(())
+}
+
+// A number, a place and the length of a text slice: the number and, of a sentence, how many bytes and these as words.
+fn sentence(stored: &mut Stored) -> Option<()> {
+    let mut text = [0; 4096];
+    let number = stored.take()?;
+    let place = stored.take_place()?;
+    let text = text.get_mut(..stored.take_count()?)?;
+    match sentences::write(number, place, text) {
+        Err(refusal) => stored.give(u64::from(refusal)),
+        Ok(n) => {
+            stored.give(0);
+            stored.give(n as u64);
+            for k in 0..n.div_ceil(8) {
+                stored.give(blocks::word(text, k));
+            }
+        }
+    }
+    Some(())
+}
+
 // Takes the inputs of the function with that name, and gives its results; none where there is no such function, there are too
 // few inputs or too long a slice.
 // Kept: the names stand here and in the order of the report: an enum of the functions would name each a third time, and a table
@@ -296,6 +380,8 @@ pub(crate) fn call(name: &str, stored: &mut Stored) -> Option<()> {
         )?,
         "distance" => next_change(stored)?,
         "readers" => read_sheets(stored)?,
+        "place" => placed(stored)?,
+        "sentence" => sentence(stored)?,
         _ => return None,
     }
     Some(())

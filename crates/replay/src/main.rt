@@ -10,7 +10,7 @@ mod calls;
 mod text;
 
 // The stored files.
-const FILES: [&str; 13] = [
+const FILES: [&str; 15] = [
     "numbers.txt",
     "fractions.txt",
     "book.txt",
@@ -24,13 +24,15 @@ const FILES: [&str; 13] = [
     "queue.txt",
     "distance.txt",
     "readers.txt",
+    "place.txt",
+    "sentence.txt",
 ];
 
 // More than any of them has.
 const FILE_BYTES: usize = 524288;
 
 // The functions, in the order of the report.
-const NAMES: [&str; 21] = [
+const NAMES: [&str; 23] = [
     "exp",
     "ln",
     "powf",
@@ -52,6 +54,8 @@ const NAMES: [&str; 21] = [
     "queue",
     "distance",
     "readers",
+    "place",
+    "sentence",
 ];
 
 // Of a function: how many lines were replayed, and how many of them differ.
@@ -64,7 +68,7 @@ struct Function {
 
 #[derive(Clone, Copy)]
 struct Tally {
-    functions: [Function; 21],
+    functions: [Function; 23],
     unread: u64,
 }
 
@@ -84,7 +88,7 @@ impl Tally {
 }
 
 // The place of the function that a line calls, and whether its results differ; none where it could not be read.
-fn replay(line: &str, functions: &[Function; 21]) -> Option<(usize, bool)> {
+fn replay(line: &str, functions: &[Function; 23]) -> Option<(usize, bool)> {
     let (call, results) = line.split_once(" = ")?;
     let (name, inputs) = call.split_once(' ')?;
     let k = functions.iter().position(|f| f.name == name)?;

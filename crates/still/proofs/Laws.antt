@@ -15,11 +15,14 @@ use Rattle.book.specs.Book.{rule_of}
 use Rattle.replies.specs.Blocks.{answer_room, answer_length, refusal_words, refusal_bytes}
 use Rattle.sheet.specs.Sheet.{sheet_of, number_of, written, Answers, reply_of, reply_to}
 use Rattle.sheet.proofs.Lengths.{own_length}
-use Rattle.still.specs.Sent.{Sent}
+use Rattle.still.specs.Sent.{Sent, sheet_number}
 use Rattle.refusals.proofs.Laws.{never}
 use Rattle.refusals.proofs.Theorem.{refusals}
 
 module _ (book question : List ℕ) {old : List ℕ} (l : length old ≡ answer_room) where
+  pub sent_number : {r : ℕ} {new : List ℕ} → Answers (sheet_of book question (length old)) r old new → sheet_number book question ≡ r
+  sent_number a = sym (rw l at a.number)
+
   pub sent_answer : {r : ℕ} {new : List ℕ} → Answers (sheet_of book question (length old)) 0 old new → r ≡ answer_length new → Sent book question r new
   unfolding number_of written reply_of reply_to
   sent_answer {r} {new} a e = go (sheet_of book question answer_room) refl (rw l at a) refl

@@ -1,2 +1,3 @@
--- Laws of the program's replies. Assumes nothing.
+-- Laws of the program's replies, and a refusal's place and sentence. Assumes nothing.
 pub mod Laws
+mod Reasons

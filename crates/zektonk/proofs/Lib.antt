@@ -1,2 +1,4 @@
 -- What the proofs of zektonk cite. Assumes nothing.
 mod Words
+mod Placed
+mod Said

@@ -1,7 +1,7 @@
 // The names under which desks in C, Rust and Python call the core; bindings/c/zektonk.h has their prototypes. A slice passes as a pointer and a length.
 #![tactic(auto)]
 
-ghost use Rattle.std.specs.Prelude.{length, ◌≡◌};
+ghost use Rattle.std.specs.Prelude.{cond, length, drop, nat_le, ◌++◌, ◌≡◌};
 ghost use Rattle.sheet.specs.Sheet.{sheet_of, number_of, slice_of, Answers};
 ghost use Rattle.pool.specs.Pool.{pooled_of};
 ghost use Rattle.batch.specs.Feeds.{feeds_of};
@@ -9,9 +9,13 @@ ghost use Rattle.queue.specs.Queue.{queue_of};
 ghost use Rattle.preview.specs.Preview.{preview_of};
 ghost use Rattle.distance.specs.Distance.{distance_of, distance_number, four_words, four_in, distance_written};
 ghost use Rattle.readers.specs.Readers.{floor_to, Fills, lab_of, lab_bytes};
+ghost use Rattle.outcome.specs.Refused.{number_in, outcome_of};
+ghost use Rattle.book.specs.Place.{place_of, preview_place, place_words, place_written, place_from};
+ghost use Rattle.sentences.specs.Sentence.{sentence_to, sentence_number, sentence_written, sentence_length};
 
+use book::Place;
 use distance::Distance;
-use outcome::number_in;
+use outcome::{Refusal, number_in};
 
 // 0 and the answer's blocks at the front of `out`; or the number of the question that was answered no, and `out` as it was.
 #[unsafe(no_mangle)]
@@ -75,14 +79,23 @@ fn four_words(distance: Distance) -> [u64; 4]
     }
 }
 
-// At the front of a slice that has room for them.
-fn store_four(words: [u64; 4], out: &mut [u64])
-    ensures { out.new ≡ four_in words out.old }
+// Words at the front of a slice that has room for them.
+fn store<const N: usize>(words: [u64; N], out: &mut [u64])
+    ensures { out.new ≡ cond (nat_le N (length out.old)) (words.entry ++ drop N out.old) out.old }
 {
-    let Some(front) = out.first_chunk_mut::<4>() else {
+    let Some(front) = out.first_chunk_mut::<N>() else {
         return;
     };
     *front = words;
+}
+
+// The four words of what was found, or the refusal, and `out` as it was.
+#[tactic(auto, unfolding(distance::specs::Distance::distance_number, distance::specs::Distance::distance_written, distance::specs::Distance::four_in))]
+fn give_distance(found: Result<Distance, Refusal>, out: &mut [u64]) -> Result<(), Refusal>
+    ensures { (number_in result ≡ distance_number (outcome_of found)) × (out.new ≡ distance_written (outcome_of found) out.old) }
+{
+    store(four_words(found?), out);
+    Ok(())
 }
 
 // From a flash's pressure to the next phase change, in steps of 100 Pa: 0 and in `out` the words 1, s in two's complement, the
@@ -92,13 +105,7 @@ fn store_four(words: [u64; 4], out: &mut [u64])
 pub extern "C" fn zektonk_distance(book: &[u8], question: &[u8], out: &mut [u64]) -> u64
     ensures { (result ≡ distance_number (distance_of book.now question.now)) × (out.new ≡ distance_written (distance_of book.now question.now) out.old) }
 {
-    match distance::answer(book, question) {
-        Ok(found) => {
-            store_four(four_words(found), out);
-            0
-        }
-        Err(refusal) => u64::from(refusal),
-    }
+    number_in(give_distance(distance::answer(book, question), out))
 }
 
 // What the floor is shown of an answer: 0 and its 22 words at the front of `words`; or 1 where `answer` doesn't begin with an
@@ -118,5 +125,174 @@ pub extern "C" fn zektonk_lab(answer: &[u8]) -> usize
     match readers::lab(answer) {
         Ok(part) => part.len(),
         Err(_) => 0,
+    }
+}
+
+// ---- the same calls with the place beside the number
+
+// A place as three words: its kind (0 none, 1 a block, 2 a pair, 3 the offered block), then the block or i and j, else 0.
+#[tactic(auto, unfolding(book::specs::Place::place_words))]
+fn place_words(place: Place) -> [u64; 3]
+    ensures { result ≡ place_words place }
+{
+    match place {
+        Place::Nowhere => [0, 0, 0],
+        Place::Block(k) => [1, k, 0],
+        Place::Pair(i, j) => [2, i, j],
+        Place::Offered => [3, 0, 0],
+    }
+}
+
+// At the front of a slice that has room for them.
+#[tactic(auto, unfolding(book::specs::Place::place_written))]
+fn store_place(place: Place, out: &mut [u64])
+    ensures { out.new ≡ place_written place out.old }
+{
+    store(place_words(place), out);
+}
+
+// Read back; another kind, or fewer words, is no place.
+#[tactic(auto, unfolding(book::specs::Place::place_from))]
+fn place_from(words: &[u64]) -> Place
+    ensures { result ≡ place_from words.now }
+{
+    match words {
+        [1, k, _, ..] => Place::Block(*k),
+        [2, i, j, ..] => Place::Pair(*i, *j),
+        [3, _, _, ..] => Place::Offered,
+        _ => Place::Nowhere,
+    }
+}
+
+// Where a call said no; nowhere if it did not.
+fn place_in(book: &[u8], answered: Result<(), Refusal>) -> Place
+    ensures { result ≡ place_of book.now (number_in answered) }
+{
+    match answered {
+        Ok(()) => Place::Nowhere,
+        Err(refusal) => book::place_of(book, refusal),
+    }
+}
+
+fn preview_place_in(book: &[u8], answered: Result<(), Refusal>) -> Place
+    ensures { result ≡ preview_place book.now (number_in answered) }
+{
+    match answered {
+        Ok(()) => Place::Nowhere,
+        Err(refusal) => book::preview_place(book, refusal),
+    }
+}
+
+// As `zektonk_answer`; in `place` three words say where the book said no. Fewer words stay as they were, here and below.
+#[unsafe(no_mangle)]
+pub extern "C" fn zektonk_answer_placed(
+    book: &[u8],
+    question: &[u8],
+    out: &mut [u8],
+    place: &mut [u64],
+) -> u64
+    ensures { Answers (sheet_of book.now question.now (length out.old)) result out.old out.new × (place.new ≡ place_written (place_of book.now result) place.old) }
+{
+    let answered = sheet::answer(book, question, out);
+    store_place(place_in(book, answered), place);
+    number_in(answered)
+}
+
+// As `zektonk_pooled`.
+#[unsafe(no_mangle)]
+pub extern "C" fn zektonk_pooled_placed(
+    book: &[u8],
+    question: &[u8],
+    drums: &[u8],
+    out: &mut [u8],
+    place: &mut [u64],
+) -> u64
+    ensures { Answers (pooled_of book.now question.now drums.now (length out.old)) result out.old out.new × (place.new ≡ place_written (place_of book.now result) place.old) }
+{
+    let answered = pool::answer(book, question, drums, out);
+    store_place(place_in(book, answered), place);
+    number_in(answered)
+}
+
+// As `zektonk_feeds`.
+#[unsafe(no_mangle)]
+pub extern "C" fn zektonk_feeds_placed(
+    book: &[u8],
+    question: &[u8],
+    feeds: &[u8],
+    out: &mut [u8],
+    place: &mut [u64],
+) -> u64
+    ensures { ((result ≡ number_of (feeds_of book.now question.now feeds.now out.old)) × (out.new ≡ slice_of (feeds_of book.now question.now feeds.now out.old) out.old)) × (place.new ≡ place_written (place_of book.now result) place.old) }
+{
+    let answered = batch::answer(book, question, feeds, out);
+    store_place(place_in(book, answered), place);
+    number_in(answered)
+}
+
+// As `zektonk_queue`.
+#[unsafe(no_mangle)]
+pub extern "C" fn zektonk_queue_placed(
+    book: &[u8],
+    questions: &[u8],
+    allowance: u64,
+    out: &mut [u8],
+    place: &mut [u64],
+) -> u64
+    ensures { ((result ≡ number_of (queue_of book.now questions.now allowance out.old)) × (out.new ≡ slice_of (queue_of book.now questions.now allowance out.old) out.old)) × (place.new ≡ place_written (place_of book.now result) place.old) }
+{
+    let answered = queue::answer(book, questions, allowance, out);
+    store_place(place_in(book, answered), place);
+    number_in(answered)
+}
+
+// As `zektonk_preview`; the offered block is a place of its own.
+#[unsafe(no_mangle)]
+pub extern "C" fn zektonk_preview_placed(
+    book: &[u8],
+    offered: &[u8],
+    question: &[u8],
+    out: &mut [u8],
+    place: &mut [u64],
+) -> u64
+    ensures { Answers (preview_of book.now offered.now question.now (length out.old)) result out.old out.new × (place.new ≡ place_written (preview_place book.now result) place.old) }
+{
+    let answered = preview::answer(book, offered, question, out);
+    store_place(preview_place_in(book, answered), place);
+    number_in(answered)
+}
+
+// As `zektonk_distance`.
+#[unsafe(no_mangle)]
+pub extern "C" fn zektonk_distance_placed(
+    book: &[u8],
+    question: &[u8],
+    out: &mut [u64],
+    place: &mut [u64],
+) -> u64
+    ensures { ((result ≡ distance_number (distance_of book.now question.now)) × (out.new ≡ distance_written (distance_of book.now question.now) out.old)) × (place.new ≡ place_written (place_of book.now result) place.old) }
+{
+    let answered = give_distance(distance::answer(book, question), out);
+    store_place(place_in(book, answered), place);
+    number_in(answered)
+}
+
+// A refusal's sentence: 0, the sentence at the front of `text` and how many bytes it has; or 1 for a number of no refusal, then 10
+// where fewer than 160 bytes are lent, and `text` and `bytes` as they were.
+#[unsafe(no_mangle)]
+pub extern "C" fn zektonk_sentence(
+    number: u64,
+    place: &[u64],
+    text: &mut [u8],
+    bytes: &mut u64,
+) -> u64
+    ensures { (result ≡ sentence_number (sentence_to number (place_from place.now) (length text.old))) × (text.new ≡ sentence_written (sentence_to number (place_from place.now) (length text.old)) text.old) × (bytes.new ≡ sentence_length (sentence_to number (place_from place.now) (length text.old)) bytes.old) }
+{
+    match sentences::write(number, place_from(place), text) {
+        Ok(count) => {
+            *bytes = count as u64;
+            0
+        }
+        Err(refusal) => u64::from(refusal),
     }
 }

@@ -1,10 +1,10 @@
 //! Calls the core with book, question and answer slices, and drums, feeds, an offered pair or a queue of questions, or for a distance,
 //! that end, or begin, at a page that can't be touched, and compares every byte with the reference.
 //!
-//! guarded [--count N] [--seed S]     N calls, and the readers on N/2 answer slices
+//! guarded [--count N] [--seed S]     N calls, the readers on N/2 answer slices, and N/2 sentences
 //!
-//! Each slice lies in pages of its own between two pages without access. All but the answer slice can't be written during
-//! the call; of the answer's pages every byte is compared, those outside the slice too.
+//! Each slice lies in pages of its own between two pages without access. All but the answer slice, and the words for a place in half of
+//! the calls, can't be written during the call; of their pages every byte is compared, those outside the slices too.
 
 use std::ffi::{c_int, c_void};
 use std::process::ExitCode;
@@ -13,17 +13,19 @@ use std::ptr;
 use reference::command::count_and_seed;
 use reference::counts::Tally;
 use reference::generate::cases::{sheets, Cases};
+use reference::generate::questions::quick;
 use reference::generate::Rng;
 use reference::rattle::{
-    zektonk_answer, zektonk_distance, zektonk_feeds, zektonk_floor, zektonk_lab, zektonk_pooled, zektonk_preview,
-    zektonk_queue,
+    zektonk_answer, zektonk_answer_placed, zektonk_distance, zektonk_distance_placed, zektonk_feeds,
+    zektonk_feeds_placed, zektonk_floor, zektonk_lab, zektonk_pooled, zektonk_pooled_placed, zektonk_preview,
+    zektonk_preview_placed, zektonk_queue, zektonk_queue_placed, zektonk_sentence,
 };
 use reference::sheet::anew::word;
 use reference::sheet::blocks::{bytes_of, rule_of, seal, words_of, Rule, BLOCK};
 use reference::sheet::distance::Way;
 use reference::sheet::feeds::FEED;
-use reference::sheet::question::{MAX_ITERATIONS, MAX_TEMPERATURE_ITERATIONS};
-use reference::sheet::{self, distance, readers, ANSWER_BYTES};
+use reference::sheet::place::{self, Place};
+use reference::sheet::{self, distance, readers, sentence, ANSWER_BYTES};
 use reference::stage::{Case, Stage};
 use reference::with::With;
 
@@ -118,16 +120,56 @@ struct Call {
     what: What,
     /// Bytes.
     room: usize,
-    /// Book, question, answer and the slice more.
-    at_end: [bool; 4],
+    /// Words for the place, where the call gives it.
+    place: Option<usize>,
+    /// Book, question, answer, the slice more and the place.
+    at_end: [bool; 5],
     /// Empty slices as null.
     null: bool,
 }
 
-/// An answer's pages, and what they hold before a call.
+/// Of calls with 0 to 6 words for the place, by what it is.
+#[derive(Default)]
+struct Places {
+    all: usize,
+    blocks: usize,
+    pairs: usize,
+    offered: usize,
+}
+
+impl Places {
+    fn add(&mut self, place: Place) {
+        self.all += 1;
+        match place {
+            Place::Nowhere => {}
+            Place::Block(_) => self.blocks += 1,
+            Place::Pair(..) => self.pairs += 1,
+            Place::Offered => self.offered += 1,
+        }
+    }
+}
+
+/// An answer's pages, a place's or a length's, and what they hold before a call.
 struct Noisy {
     area: Area,
     noise: Vec<u8>,
+}
+
+impl Noisy {
+    fn new(rng: &mut Rng, most: usize) -> Self {
+        let area = Area::new(most);
+        let noise = random(rng, area.length);
+        Self { area, noise }
+    }
+
+    /// Its noise with so many words written by `write`, and where they begin; the pages hold the noise.
+    fn due(&mut self, words: usize, at_end: bool, write: impl FnOnce(&mut [u64])) -> (Vec<u8>, *mut u64) {
+        let to = self.area.place(8 * words, at_end);
+        let mut due = self.noise.clone();
+        in_words(&mut due[to..to + 8 * words], write);
+        self.area.fill(0, &self.noise);
+        (due, self.area.at(to).cast())
+    }
 }
 
 struct Pages {
@@ -136,17 +178,15 @@ struct Pages {
     more: Area,
     /// From the shortest on.
     answers: [Noisy; 3],
+    place: Noisy,
+    places: Places,
 }
 
 impl Pages {
     fn new(rng: &mut Rng) -> Self {
         let [book, question, more] = [BOOK, QUEUE, MORE].map(Area::new);
-        let answers = [ANSWER, ANSWERS[0], ANSWERS[1]].map(|most| {
-            let area = Area::new(most);
-            let noise = random(rng, area.length);
-            Noisy { area, noise }
-        });
-        Self { book, question, more, answers }
+        let answers = [ANSWER, ANSWERS[0], ANSWERS[1]].map(|most| Noisy::new(rng, most));
+        Self { book, question, more, answers, place: Noisy::new(rng, 8), places: Places::default() }
     }
 
     /// The number, and whether all is as the reference has it.
@@ -168,11 +208,17 @@ impl Pages {
         };
         area.fill(0, noise);
         let at = area.at(to);
-        let found = self.offered(call, at);
-        (number, found == u64::from(number) && self.answers[which].area.bytes() == expected)
+        let place = place_of(call, number);
+        if call.place.is_some() {
+            self.places.add(place);
+        }
+        let (due, words) = self.place.due(call.place.unwrap_or(0), call.at_end[4], |words| place.write(words));
+        let found = self.offered(call, at, words);
+        let same = self.answers[which].area.bytes() == expected && self.place.area.bytes() == due;
+        (number, found == u64::from(number) && same)
     }
 
-    fn offered(&mut self, call: &Call, answer: *mut u8) -> u64 {
+    fn offered(&mut self, call: &Call, answer: *mut u8, place: *mut u64) -> u64 {
         let more = if let What::With(_, more) = &call.what { more } else { &[][..] };
         let read = [&call.book, &call.question, more];
         let mut from = [ptr::null_mut(); 3];
@@ -187,17 +233,33 @@ impl Pages {
         let [b, q, m] = [0, 1, 2].map(|k| lent(from[k], read[k].len()));
         let [b_len, q_len, m_len] = read.map(<[u8]>::len);
         let (a, a_len) = (lent(answer, call.room), call.room);
+        let p = lent(place.cast(), call.place.unwrap_or(0)).cast();
+        let allowance = if let What::With(With::Allowance, _) = call.what { word(more, 0) } else { 0 };
         // SAFETY: each pointer and length lie in pages of their own, apart from each other, that can be read or written
         // as the core's header asks.
         let number = unsafe {
-            match call.what {
-                What::Plain => zektonk_answer(b, b_len, q, q_len, a, a_len),
-                What::With(With::Drums, _) => zektonk_pooled(b, b_len, q, q_len, m, m_len, a, a_len),
-                What::With(With::Feeds, _) => zektonk_feeds(b, b_len, q, q_len, m, m_len, a, a_len),
-                What::With(With::Pair, _) => zektonk_preview(b, b_len, m, m_len, q, q_len, a, a_len),
-                What::With(With::Allowance, _) => zektonk_queue(b, b_len, q, q_len, word(more, 0), a, a_len),
+            match (&call.what, call.place) {
+                (What::Plain, None) => zektonk_answer(b, b_len, q, q_len, a, a_len),
+                (What::With(With::Drums, _), None) => zektonk_pooled(b, b_len, q, q_len, m, m_len, a, a_len),
+                (What::With(With::Feeds, _), None) => zektonk_feeds(b, b_len, q, q_len, m, m_len, a, a_len),
+                (What::With(With::Pair, _), None) => zektonk_preview(b, b_len, m, m_len, q, q_len, a, a_len),
+                (What::With(With::Allowance, _), None) => zektonk_queue(b, b_len, q, q_len, allowance, a, a_len),
                 // The words lie at a multiple of eight.
-                What::Distance => zektonk_distance(b, b_len, q, q_len, a.cast(), a_len / 8),
+                (What::Distance, None) => zektonk_distance(b, b_len, q, q_len, a.cast(), a_len / 8),
+                (What::Plain, Some(w)) => zektonk_answer_placed(b, b_len, q, q_len, a, a_len, p, w),
+                (What::With(With::Drums, _), Some(w)) => {
+                    zektonk_pooled_placed(b, b_len, q, q_len, m, m_len, a, a_len, p, w)
+                }
+                (What::With(With::Feeds, _), Some(w)) => {
+                    zektonk_feeds_placed(b, b_len, q, q_len, m, m_len, a, a_len, p, w)
+                }
+                (What::With(With::Pair, _), Some(w)) => {
+                    zektonk_preview_placed(b, b_len, m, m_len, q, q_len, a, a_len, p, w)
+                }
+                (What::With(With::Allowance, _), Some(w)) => {
+                    zektonk_queue_placed(b, b_len, q, q_len, allowance, a, a_len, p, w)
+                }
+                (What::Distance, Some(w)) => zektonk_distance_placed(b, b_len, q, q_len, a.cast(), a_len / 8, p, w),
             }
         };
         for area in [&self.book, &self.question, &self.more] {
@@ -225,10 +287,43 @@ impl Pages {
         let due = (number.into(), readers::lab(slice).map_or(0, <[u8]>::len));
         (number, found == due && self.answers[0].area.bytes() == expected)
     }
+
+    /// A sentence to a slice of so many bytes: its number, and whether all is as the reference has it.
+    fn say(&mut self, rng: &mut Rng, number: u64, words: &[u64], room: usize) -> (u32, bool) {
+        let [words_at_end, text_at_end, length_at_end] = [(); 3].map(|_| rng.one_in(2));
+        let null = rng.one_in(4);
+        let bytes: Vec<u8> = words.iter().flat_map(|word| word.to_le_bytes()).collect();
+        let from = self.more.place(bytes.len(), words_at_end);
+        self.more.fill(from, &bytes);
+        let Noisy { area, noise } = &mut self.answers[0];
+        let to = area.place(room, text_at_end);
+        let mut expected = noise.clone();
+        let mut refusal = 0;
+        let (due, length) = self.place.due(1, length_at_end, |length| {
+            refusal = sentence::write(number, words, &mut expected[to..to + room], &mut length[0]);
+        });
+        area.fill(0, noise);
+        self.more.allow(READ);
+        let lent = |at: *mut u8, length: usize| if null && length == 0 { ptr::null_mut() } else { at };
+        let (p, t) = (lent(self.more.at(from), words.len()), lent(area.at(to), room));
+        // SAFETY: as in `offered`; the words, and the length, lie at a multiple of eight.
+        let found = unsafe { zektonk_sentence(number, p.cast(), words.len(), t, room, length) };
+        self.more.allow(READ_AND_WRITE);
+        let same = self.answers[0].area.bytes() == expected && self.place.area.bytes() == due;
+        (refusal, found == u64::from(refusal) && same)
+    }
+}
+
+/// Of a call that came to this number.
+fn place_of(call: &Call, number: u32) -> Place {
+    match &call.what {
+        What::With(With::Pair, offered) => place::of_preview(&call.book, offered, number),
+        _ => place::of(&call.book, number),
+    }
 }
 
 /// What `write` makes of the words that stand in these bytes.
-fn in_words(bytes: &mut [u8], write: impl FnOnce(&mut [u64]) -> u32) -> u32 {
+fn in_words<T>(bytes: &mut [u8], write: impl FnOnce(&mut [u64]) -> T) -> T {
     let mut words: Vec<u64> = bytes.chunks_exact(8).map(|bytes| word(bytes, 0)).collect();
     let number = write(&mut words);
     bytes.chunks_exact_mut(8).zip(words).for_each(|(place, word)| place.copy_from_slice(&word.to_le_bytes()));
@@ -250,8 +345,9 @@ fn room(rng: &mut Rng) -> usize {
 }
 
 fn call(rng: &mut Rng, book: Vec<u8>, question: Vec<u8>) -> Call {
-    let at_end = [(); 4].map(|_| rng.one_in(2));
-    Call { book, question, what: What::Plain, room: room(rng), at_end, null: rng.one_in(4) }
+    let at_end = [(); 5].map(|_| rng.one_in(2));
+    let place = rng.one_in(2).then(|| rng.below(7));
+    Call { book, question, what: What::Plain, room: room(rng), place, at_end, null: rng.one_in(4) }
 }
 
 /// As `calls`, with drums, feeds or a pair: as they are in half of the calls, changed, of another length, or noise.
@@ -333,18 +429,6 @@ fn calls(rng: &mut Rng, book: &[u8], question: &[u8], most: usize) -> Vec<Call> 
 fn noise(rng: &mut Rng, most: usize) -> Vec<u8> {
     let length = rng.below(most + 1);
     random(rng, length)
-}
-
-/// Limits low enough that a changed tolerance doesn't keep the call busy.
-fn quick(mut question: Vec<u8>, rule: Rule) -> Vec<u8> {
-    for block in question.chunks_exact_mut(BLOCK) {
-        let mut words = words_of(block);
-        words[MAX_ITERATIONS] = words[MAX_ITERATIONS].min(300);
-        words[MAX_TEMPERATURE_ITERATIONS] = words[MAX_TEMPERATURE_ITERATIONS].min(60);
-        seal(&mut words, rule);
-        block.copy_from_slice(&bytes_of(&words));
-    }
-    question
 }
 
 /// One to three changes: a bit, a byte, a word, or the length; then the checks of all whole blocks made right by the rule of what
@@ -448,6 +532,21 @@ fn main() -> ExitCode {
         }
     }
     println!("guarded, readers: {} slices, {} read, refused {}", tally.all(), tally.accepted(), tally.refused());
+    let mut tally = Tally::default();
+    for case in Cases::new(Stage::Sentence, seed, false).take(count / 2) {
+        let Case::Sentence { number, place, room } = &case else { unreachable!("sentences were asked for") };
+        let (refusal, same) = pages.say(&mut rng, *number, place, *room);
+        tally.add(refusal);
+        if !same {
+            differences += 1;
+            if differences <= SHOWN {
+                println!("difference: {} (reference {refusal})", case.line());
+            }
+        }
+    }
+    println!("guarded, sentences: {} asked, {} composed, refused {}", tally.all(), tally.accepted(), tally.refused());
+    let Places { all, blocks, pairs, offered } = pages.places;
+    println!("guarded, with the place: {all} calls, {blocks} blocks, {pairs} pairs, {offered} offered blocks");
     println!("guarded: {made} calls, {differences} differences");
     if differences == 0 {
         ExitCode::SUCCESS
@@ -474,5 +573,11 @@ fn show(call: &Call, number: u32) {
         What::With(with, lent) => Case::With { with: *with, book, question, lent: lent.clone(), room },
         What::Distance => Case::Distance { book, question, room: room / 8, way: Way::Sides },
     };
-    println!("difference: {} (reference {number}, at the end {:?}, null {})", case.line(), call.at_end, call.null);
+    println!(
+        "difference: {} (reference {number}, words for the place {:?}, at the end {:?}, null {})",
+        case.line(),
+        call.place,
+        call.at_end,
+        call.null
+    );
 }

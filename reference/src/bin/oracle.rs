@@ -14,6 +14,8 @@
 //! oracle limits-borders                          sheets with one turn too few or just enough, each as asked and with limits raised
 //! oracle distance-borders                        distances at the borders of the steps
 //! oracle readers-borders                         answer slices at the borders of 1 and 10
+//! oracle place-borders                           books with several blocks that say no, by all calls
+//! oracle sentence-borders                        every number with places of every kind
 
 use std::io::{BufWriter, Write};
 use std::process::ExitCode;
@@ -22,9 +24,10 @@ use reference::command::{Options, USAGE};
 use reference::counts::{count_sheets, count_stage};
 use reference::generate::cases::Cases;
 use reference::generate::{
-    batches, differences, distances, exchanged, limits, mass, pooled, previews, queues, readers, wilson,
+    batches, differences, distances, exchanged, limits, mass, places, pooled, previews, queues, readers, sentences,
+    wilson,
 };
-use reference::stage::{hex, hex_words, Case, Stage};
+use reference::stage::{Case, Stage};
 
 /// Lines of a stage where no count is given.
 const LINES: usize = 200;
@@ -43,6 +46,8 @@ fn main() -> ExitCode {
         ["limits-borders"] => Some(limits::turns().into_iter().map(|(case, ..)| case).collect()),
         ["distance-borders"] => Some(distances::borders().into_iter().map(|(case, _)| case).collect()),
         ["readers-borders"] => Some(readers::borders().into_iter().map(|(case, _)| case).collect()),
+        ["place-borders"] => Some(places::borders().into_iter().map(|border| border.case).collect()),
+        ["sentence-borders"] => Some(sentences::borders()),
         ["full"] => Some(queues::full().iter().map(|found| found.case()).collect()),
         _ => None,
     };
@@ -50,7 +55,7 @@ fn main() -> ExitCode {
         return if write(cases.into_iter()).is_ok() { ExitCode::SUCCESS } else { ExitCode::FAILURE };
     }
     let Some(options) = Options::read(words.into_iter()) else {
-        eprintln!("usage: oracle differences|borders|exchanged-borders|wilson-borders|pooled-borders|feeds-borders|preview-borders|queue-borders|full|limits-borders|distance-borders|readers-borders|{USAGE}");
+        eprintln!("usage: oracle differences|borders|exchanged-borders|wilson-borders|pooled-borders|feeds-borders|preview-borders|queue-borders|full|limits-borders|distance-borders|readers-borders|place-borders|sentence-borders|{USAGE}");
         return ExitCode::from(2);
     };
     for stage in &options.stages {
@@ -81,11 +86,7 @@ fn count(stage: Stage, options: &Options) {
 fn write(cases: impl Iterator<Item = Case>) -> std::io::Result<()> {
     let mut out = BufWriter::new(std::io::stdout().lock());
     for case in cases.flat_map(Case::calls) {
-        let mut results = String::new();
-        let words = case.stored();
-        hex(&mut results, &words[..1]);
-        hex_words(&mut results, &words[1..]);
-        writeln!(out, "{} ={results}", case.line())?;
+        writeln!(out, "{} ={}", case.line(), case.results())?;
     }
     out.flush()
 }

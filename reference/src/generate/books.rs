@@ -342,7 +342,7 @@ fn damage_length(rng: &mut Rng, bytes: &mut Vec<u8>) {
 }
 
 /// 38 where the version is none.
-fn damage_head(rng: &mut Rng, draft: &mut Draft) {
+pub(super) fn damage_head(rng: &mut Rng, draft: &mut Draft) {
     let n = draft.n as u64;
     match rng.below(8) {
         0 => draft.blocks[0][0] = rng.pick(&[0, 2, 1 << 32 | 1, rng.clone().bits()]),
@@ -368,15 +368,22 @@ fn damage_solvent(rng: &mut Rng, draft: &mut Draft, number: u32) {
     let record = rng.pick(&[VAPOR_PRESSURE, DENSITY]);
     let words = draft.solvent(i);
     match number {
-        4 => match rng.below(4) {
-            0 => words[0] = rng.pick(&[0, 1, 3, 1 << 40 | 2]),
-            1 => words[1] = rng.pick(&[i as u64 + 1, u64::MAX, 1 << 32 | i as u64]),
-            2 => words[2] = 0,
-            _ => words[record + COUNT] = rng.pick(&[0, 9, u64::MAX, 1 << 32 | 1]),
-        },
-        5 => damage_correlation(rng, words, record),
+        4 | 5 => spoil_solvent(rng, words, i, record, number),
         // The same number as another solvent; with one solvent there is nothing to damage.
         _ => words[2] = other,
+    }
+}
+
+/// One thing wrong in the block of solvent i, or in this record, for 4 or 5.
+pub(super) fn spoil_solvent(rng: &mut Rng, words: &mut Words, i: usize, record: usize, number: u32) {
+    if number == 5 {
+        return damage_correlation(rng, words, record);
+    }
+    match rng.below(4) {
+        0 => words[0] = rng.pick(&[0, 1, 3, 1 << 40 | 2]),
+        1 => words[1] = rng.pick(&[i as u64 + 1, u64::MAX, 1 << 32 | i as u64]),
+        2 => words[2] = 0,
+        _ => words[record + COUNT] = rng.pick(&[0, 9, u64::MAX, 1 << 32 | 1]),
     }
 }
 
@@ -388,7 +395,7 @@ fn damage_correlation(rng: &mut Rng, words: &mut Words, at: usize) {
         1 => put(words, at + N + rng.below(count), numbers::not_finite(rng)),
         2 => put(words, at + EXPONENTS + rng.below(count), numbers::not_finite(rng)),
         3 => put(words, at + LOW, rng.pick(&[0.0, -0.0, -low, -f64::from_bits(1)])),
-        4 => words[at + LOW] = words[at + HIGH] + 1,
+        4 => words[at + LOW] = words[at + HIGH].wrapping_add(1),
         5 => put(words, at + HIGH, t_r),
         6 => put(words, at, beside(rng, high).min(high)),
         7 => put(words, at + REDUCING, rng.pick(&[0.0, -0.0, -1.0, -f64::from_bits(1)])),

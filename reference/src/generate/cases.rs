@@ -2,8 +2,8 @@
 
 use super::exchanged::Exchange;
 use super::{
-    batches, books, differences, distances, exchanged, feeds, limits, mass, numbers, pooled, previews, questions,
-    queues, readers, rice, small, wilson, Rng,
+    batches, books, differences, distances, exchanged, feeds, limits, mass, numbers, places, pooled, previews,
+    questions, queues, readers, rice, sentences, small, wilson, Rng,
 };
 use crate::sheet::open_book;
 use crate::stage::{Case, Function, Stage};
@@ -47,6 +47,8 @@ pub struct Cases {
     raised: Option<Box<limits::Calls>>,
     /// Where it is of answer slices.
     slices: Option<Box<readers::Slices>>,
+    /// Where it is of places.
+    placed: Option<Box<places::Calls>>,
     exchange: Option<Exchange>,
 }
 
@@ -68,13 +70,16 @@ impl Cases {
             Stage::Limits if !compact => limits::borders().into_iter().map(|(case, ..)| case).collect(),
             Stage::Distance if !compact => distances::borders().into_iter().map(|(case, _)| case).collect(),
             Stage::Readers if !compact => readers::borders().into_iter().map(|(case, _)| case).collect(),
+            Stage::Place if !compact => places::borders().into_iter().map(|border| border.case).collect(),
+            Stage::Sentence if !compact => sentences::borders(),
             _ => Vec::new(),
         };
         let rng = if compact { Rng::tidy(seed) } else { Rng::new(seed) };
         let third = (stage == Stage::Exchanged).then(|| Box::new(exchanged::Sheets::new(seed, compact)));
         let raised = (stage == Stage::Limits).then(|| Box::new(limits::Calls::new(seed, compact)));
         let slices = (stage == Stage::Readers).then(|| Box::new(readers::Slices::new(seed, compact)));
-        Self { rng, stage, compact, first: first.into_iter(), third, raised, slices, exchange: None }
+        let placed = (stage == Stage::Place).then(|| Box::new(places::Calls::new(seed, compact)));
+        Self { rng, stage, compact, first: first.into_iter(), third, raised, slices, placed, exchange: None }
     }
 
     /// The random ones alone.
@@ -112,6 +117,9 @@ impl Cases {
         if let Some(slices) = &mut self.slices {
             return (Kind::Realistic, slices.draw());
         }
+        if let Some(calls) = &mut self.placed {
+            return calls.draw();
+        }
         let n = self.solvents();
         match self.stage {
             Stage::Sheet => return self.draw_sheet(n),
@@ -122,6 +130,7 @@ impl Cases {
             Stage::Preview => return previews::draw(&mut self.rng, n),
             Stage::Queue => return queues::draw(&mut self.rng, n),
             Stage::Distance => return distances::draw(&mut self.rng, n),
+            Stage::Sentence => return (Kind::Realistic, sentences::draw(&mut self.rng, self.compact)),
             _ => {}
         }
         // The stored ones of versions 2 and 3 stand among the sheets.

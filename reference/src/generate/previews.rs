@@ -166,7 +166,7 @@ fn make_wild(rng: &mut Rng, draft: &Draft, offered: &mut Words, t: Option<f64>) 
 }
 
 /// One thing wrong in an offered block, or two.
-fn spoiled(rng: &mut Rng, draft: &Draft, mut offered: Words) -> Vec<u8> {
+pub(super) fn spoiled(rng: &mut Rng, draft: &Draft, mut offered: Words) -> Vec<u8> {
     let which = [1, 1, 2, 2, 7, 7, 8, 8, 9, 9, 9];
     let mut numbers = vec![rng.pick(&which)];
     if rng.one_in(4) {
@@ -210,7 +210,7 @@ fn spoil_words(rng: &mut Rng, draft: &Draft, words: &mut Words, number: u32) {
 }
 
 /// A bit, the sum by the other rule, or two neighbours exchanged, which a plain sum lets through.
-fn spoil_check(rng: &mut Rng, block: &mut [u8], rule: Rule) {
+pub(super) fn spoil_check(rng: &mut Rng, block: &mut [u8], rule: Rule) {
     let mut words = words_of(block);
     match rng.below(4) {
         0 => words[rng.below(64)] ^= 1 << rng.below(64),

@@ -5,7 +5,7 @@ use super::{beside, numbers, rice, Rng};
 use crate::helpers;
 use crate::named::model::ActivityModel;
 use crate::named::solvers::{activity_bubble_pressure, activity_dew_pressure, ActivityOptions};
-use crate::sheet::blocks::{bytes_of, seal, Rule, Words};
+use crate::sheet::blocks::{bytes_of, seal, words_of, Rule, Words, BLOCK};
 use crate::sheet::question::{
     BASIS, BRACKET, BY_MOLES, ENERGY_TOLERANCE, FRACTIONS, K_VALUES, MAX_ITERATIONS, MAX_TEMPERATURE_ITERATIONS,
     PRESSURE, TASK, TEMPERATURE, TM_THRESHOLD, TOLERANCE,
@@ -231,6 +231,18 @@ pub fn make_patient(draft: &mut Draft, book: &[u8]) {
         draft.words[MAX_ITERATIONS] = HIGHEST_LIMIT;
         draft.words[MAX_TEMPERATURE_ITERATIONS] = HIGHEST_LIMIT;
     }
+}
+
+/// Limits low enough that a changed tolerance doesn't keep the call busy.
+pub fn quick(mut question: Vec<u8>, rule: Rule) -> Vec<u8> {
+    for block in question.chunks_exact_mut(BLOCK) {
+        let mut words = words_of(block);
+        words[MAX_ITERATIONS] = words[MAX_ITERATIONS].min(300);
+        words[MAX_TEMPERATURE_ITERATIONS] = words[MAX_TEMPERATURE_ITERATIONS].min(60);
+        seal(&mut words, rule);
+        block.copy_from_slice(&bytes_of(&words));
+    }
+    question
 }
 
 /// On either side of a question's edge.

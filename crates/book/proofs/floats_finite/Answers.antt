@@ -1,6 +1,4 @@
-use Rattle.std.proofs.Common.{refl, arith}
-use Rattle.floats.proofs.Folds.{all_next, all_done}
-use Rattle.floats.specs.Fold.{all_to}
+use Rattle.floats.proofs.Folds.{all_next}
 use Rattle.book.proofs.Bits.{or_top}
 use Rattle.book.specs.Book.{floats_finite}
 use Rattle.book.proofs.floats_finite.Goals as goal

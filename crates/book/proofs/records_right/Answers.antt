@@ -1,6 +1,5 @@
 -- `book::records_right` meets its contract. From what the callees ensure. Assumes nothing.
 use Rattle.book.proofs.Sound.{records_scanned}
-use Rattle.book.specs.Book.{records_right}
 use Rattle.book.proofs.records_right.Goals as goal
 
 pub returns-then-floats_finite : goal.returns-then-floats_finite

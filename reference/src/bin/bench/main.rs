@@ -1,7 +1,7 @@
 //! Times of the core, of the reference and, where it is at hand, of the peer on the same inputs in one run: nanoseconds a
 //! call, median of five.
 //!
-//! bench numbers|book|excess|rice|sheet|wilson|parts|pooled|feeds|preview|queue|distance|readers|all
+//! bench numbers|book|excess|rice|sheet|wilson|parts|pooled|feeds|preview|queue|distance|readers|placed|sentences|all
 
 use std::hint::black_box;
 use std::process::ExitCode;
@@ -9,15 +9,19 @@ use std::process::ExitCode;
 use reference::generate::{books, feeds as fractions, mass, pooled, questions, small, wilson, Rng};
 use reference::helpers;
 use reference::named::rachford_rice::{rachford_rice, rachford_rice_negative, RachfordRiceOutcome};
+use reference::placed;
 use reference::rattle;
-use reference::sheet::blocks::{rule_of, words_of, BLOCK};
+use reference::sheet::blocks::{bytes_of, rule_of, words_of, BLOCK};
 use reference::sheet::distance::{at_step, flashed, search, steps, Distance, Way, RESULT_WORDS};
+use reference::sheet::place::Place::{self, Block, Nowhere, Pair};
+use reference::sheet::place::PLACE_WORDS;
 use reference::sheet::question::{FRACTIONS, TASK};
 use reference::sheet::queue::FLASH;
 use reference::sheet::readers::{lab, write_floor, FLOOR_WORDS};
 use reference::sheet::reply::{BUBBLE, DEW, EVALUATIONS};
+use reference::sheet::sentence::{self, SENTENCE_ROOM};
 use reference::sheet::{answer, feeds, open_book, pool, ANSWER_BYTES};
-use reference::stage::padded;
+use reference::stage::{padded, Case};
 
 mod peer;
 use peer::Peer;
@@ -33,7 +37,7 @@ const RUN: f64 = 2e7;
 
 fn main() -> ExitCode {
     let stage = std::env::args().nth(1).unwrap_or_default();
-    let stages: [(&str, fn()); 13] = [
+    let stages: [(&str, fn()); 15] = [
         ("numbers", bench_numbers),
         ("book", bench_book),
         ("excess", bench_excess),
@@ -47,12 +51,14 @@ fn main() -> ExitCode {
         ("queue", bench_queue),
         ("distance", bench_distance),
         ("readers", bench_readers),
+        ("placed", bench_placed),
+        ("sentences", bench_sentences),
     ];
     let chosen: Vec<_> = stages.iter().filter(|(name, _)| *name == stage || stage == "all").collect();
     chosen.iter().for_each(|(_, bench)| bench());
     if chosen.is_empty() {
         eprintln!(
-            "usage: bench numbers|book|excess|rice|sheet|wilson|parts|pooled|feeds|preview|queue|distance|readers|all"
+            "usage: bench numbers|book|excess|rice|sheet|wilson|parts|pooled|feeds|preview|queue|distance|readers|placed|sentences|all"
         );
         return ExitCode::from(2);
     }
@@ -689,4 +695,73 @@ fn bench_readers() {
             |slice| drop_value(lab(slice)),
         );
     }
+}
+
+/// The core alone: calls with the place beside the plain ones, of sheets that are answered and of books that are refused.
+fn bench_placed() {
+    const N: usize = 8;
+    for task in 1..=9 {
+        time_placed(&format!("task {task}, n = {N}, answered"), &many(|rng| accepted(rng, N, task, books::realistic)));
+    }
+    let (book, question) = accepted(&mut Rng::new(7), N, 1, books::realistic);
+    time_placed("a question that is refused", &[(book.clone(), Vec::new())]);
+    let blocks: Vec<_> = book.chunks(BLOCK).map(words_of).collect();
+    // (number, place, word, bits), at the last block or pair that the number is put to.
+    for (number, place, at, bits) in [
+        (2, Block(36), 60, 1),
+        (4, Block(8), 0, 0),
+        (5, Block(8), 24, 0),
+        (6, Pair(6, 7), 2, blocks[7][2]),
+        (7, Block(36), 0, 0),
+        (8, Block(36), 3, f64::NAN.to_bits()),
+        (9, Block(36), 11, 0),
+    ] {
+        let mut wrong = blocks.clone();
+        wrong[if number == 6 {
+            8
+        } else if let Block(k) = place {
+            k as usize
+        } else {
+            0
+        }][at] = bits;
+        let book = if number == 2 { wrong.iter().flat_map(bytes_of).collect() } else { small::bytes(&wrong) };
+        let case = Case::Sheet { book: book.clone(), question: question.clone(), room: ANSWER_BYTES };
+        assert_eq!((case.expected().refusal, placed::place_of(&case, number)), (number, place));
+        time_placed(&format!("a book refused with {number}, {place:?}"), &[(book, question.clone())]);
+    }
+    let mut long = [0; 64 * 200];
+    long[64 * 200 - 1] = 1;
+    time_placed(
+        "200 blocks refused with 2, the last",
+        &[(long.iter().flat_map(|word: &u64| word.to_le_bytes()).collect(), Vec::new())],
+    );
+}
+
+fn time_placed(what: &str, inputs: &[Sheet]) {
+    let (mut out, mut other, mut place) = ([0; ANSWER_BYTES], [0; ANSWER_BYTES], [0; PLACE_WORDS]);
+    beside_plain(
+        &format!("placed, {what}"),
+        "the plain call",
+        inputs,
+        |(book, question)| rattle::answer_placed(book, question, &mut out, &mut place).map(drop_value),
+        |(book, question)| drop_value(rattle::answer(book, question, &mut other)),
+    );
+}
+
+fn bench_sentences() {
+    let each: Vec<(u64, Place)> = (1..=sentence::LAST_NUMBER).map(|number| (number, Nowhere)).collect();
+    time_sentences("each number", &each);
+    time_sentences("7, block 36", &[(7, Block(36))]);
+    time_sentences("6, solvents 6 and 7", &[(6, Pair(6, 7))]);
+    time_sentences("5, the longest", &[(5, Block(u64::MAX))]);
+}
+
+fn time_sentences(what: &str, refusals: &[(u64, Place)]) {
+    let ([mut text, mut own], mut length) = ([[0; SENTENCE_ROOM]; 2], 0);
+    line(
+        &format!("sentence of {what}"),
+        refusals,
+        |(number, place)| rattle::sentence(*number, &place.words(), &mut text, &mut length).map(drop_value),
+        |(number, place)| drop_value(sentence::write(*number, &place.words(), &mut own, &mut 0)),
+    );
 }

@@ -1,6 +1,5 @@
-use Rattle.std.proofs.Common.{◌-◌, sym, refl, ◌∙◌, ap, arith, length, length-drop, drop-drop, take_all}
-use Rattle.floats.proofs.Folds.{all_turn, all_fails, all_end}
-use Rattle.floats.specs.Fold.{all_to}
+use Rattle.std.proofs.Common.{◌-◌, sym, refl, ◌∙◌, ap, arith, length, length-drop, drop-drop}
+use Rattle.floats.proofs.Folds.{all_turn, all_fails}
 use Rattle.book.proofs.Blocks.{row_read}
 use Rattle.book.proofs.Laws.{row_ends, row_next}
 use Rattle.book.specs.Places.{row_from}

@@ -1,0 +1,2 @@
+// Laws of the place beside a refusal's number; no code.
+#![tactic(auto)]

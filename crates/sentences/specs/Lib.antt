@@ -1,0 +1,3 @@
+-- What the contracts of sentences cite, and its laws. Assumes nothing.
+pub mod Sentence
+pub mod Laws
