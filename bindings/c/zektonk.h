@@ -528,8 +528,8 @@ uint64_t zektonk_distance_placed(const uint8_t *book, size_t book_len, const uin
  *   no place, so that NULL with length 0 will do. A place that the number can't have is left out.
  * - Two refusals that differ in number or place have different sentences, and none is the beginning of another.
  * - The refusals in the blocks of feeds, queued questions and the program `still` have sentences too, by their number.
- * - `place` is only read, and is aligned as uint64_t is; `text` and `length` overlap neither it nor each other. No state
- *   is kept, no memory is allocated.
+ * - `place` is only read, and is aligned as uint64_t is; `length` is the address of a word, never NULL. None of the three
+ *   overlaps another. No state is kept, no memory is allocated.
  */
 uint64_t zektonk_sentence(uint64_t number, const uint64_t *place, size_t place_len, uint8_t *text, size_t text_len,
                           uint64_t *length);

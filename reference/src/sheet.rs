@@ -65,9 +65,22 @@ fn replied(book: &Book, question: &Question, feed: &[f64]) -> Result<Vec<Words>,
     Ok(blocks)
 }
 
+/// What the program reads of book.bin: a block more than any book has.
+fn read_of(book: &[u8]) -> &[u8] {
+    &book[..book.len().min(38 * BLOCK)]
+}
+
+/// The line that the program writes to standard error with this number; nothing with an answer.
+pub fn program_errors(book: &[u8], number: u32) -> Vec<u8> {
+    match number {
+        0 => Vec::new(),
+        _ => format!("{}\n", sentence::sentence(number.into(), place::of(read_of(book), number))).into_bytes(),
+    }
+}
+
 /// What the program writes for the bytes of book.bin and of its standard input.
 pub fn program_output(book: &[u8], question: &[u8]) -> Vec<u8> {
-    let book = &book[..book.len().min(38 * BLOCK)];
+    let book = read_of(book);
     let question = &question[..question.len().min(BLOCK + 1)];
     let blocks = match blocks_of(book, question, ANSWER_BYTES) {
         Ok(blocks) => blocks,

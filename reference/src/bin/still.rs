@@ -1,4 +1,5 @@
-//! Runs the program in a folder of its own and compares every byte that it writes with the reference.
+//! Runs the program in a folder of its own and compares every byte that it writes, to standard error too, with the
+//! reference.
 //!
 //! still [--count N] [--seed S] [PROGRAM]
 //!
@@ -18,7 +19,7 @@ use reference::counts::Tally;
 use reference::generate::cases::sheets;
 use reference::generate::Rng;
 use reference::sheet::blocks::{words_of, BLOCK};
-use reference::sheet::program_output;
+use reference::sheet::{program_errors, program_output};
 use reference::stage::Case;
 
 /// A run that takes longer hangs.
@@ -116,16 +117,17 @@ enum Feed {
     Held,
 }
 
-/// What the program wrote and how it ended; `None` where it had to be stopped.
+/// What the program wrote, to standard error too, and how it ended; `None` where it had to be stopped.
 struct Run {
     written: Vec<u8>,
+    said: Vec<u8>,
     status: Option<ExitStatus>,
 }
 
 fn run(mut command: Command, question: &[u8], feed: Feed) -> Run {
-    let mut child = command.stdin(Stdio::piped()).stdout(Stdio::piped()).spawn().expect("the program starts");
+    let mut child = started(&mut command);
     let mut stdin = child.stdin.take().expect("it is piped");
-    let mut stdout = child.stdout.take().expect("it is piped");
+    let (stdout, stderr) = (child.stdout.take().expect("it is piped"), child.stderr.take().expect("it is piped"));
     let question = question.to_vec();
     // A program that has read enough may end before all is written.
     let writer = thread::spawn(move || {
@@ -135,14 +137,23 @@ fn run(mut command: Command, question: &[u8], feed: Feed) -> Run {
         };
         matches!(feed, Feed::Held).then_some(stdin)
     });
-    let reader = thread::spawn(move || {
-        let mut written = Vec::new();
-        let _ = stdout.read_to_end(&mut written);
-        written
-    });
+    let (written, said) = (reader(stdout), reader(stderr));
     let status = ended(&mut child);
     drop(writer.join());
-    Run { written: reader.join().unwrap_or_default(), status }
+    Run { written: written.join().unwrap_or_default(), said: said.join().unwrap_or_default(), status }
+}
+
+fn started(command: &mut Command) -> Child {
+    command.stdin(Stdio::piped()).stdout(Stdio::piped()).stderr(Stdio::piped()).spawn().expect("the program starts")
+}
+
+/// All that comes, to the end.
+fn reader(mut from: impl Read + Send + 'static) -> thread::JoinHandle<Vec<u8>> {
+    thread::spawn(move || {
+        let mut bytes = Vec::new();
+        let _ = from.read_to_end(&mut bytes);
+        bytes
+    })
 }
 
 /// `None`, and the program stopped, where it doesn't end in time.
@@ -187,8 +198,9 @@ impl Report {
     /// What came, held to the reference's bytes.
     fn compare(&mut self, what: &str, book: &[u8], question: &[u8], run: &Run) {
         let expected = program_output(book, question);
-        self.tally.add(words_of(&expected[..BLOCK])[2] as u32);
-        if !clean(run.status) || run.written != expected {
+        let number = words_of(&expected[..BLOCK])[2] as u32;
+        self.tally.add(number);
+        if !clean(run.status) || run.written != expected || run.said != program_errors(book, number) {
             self.differs(what, book, question, run);
         }
     }
@@ -197,7 +209,13 @@ impl Report {
         self.differences += 1;
         if self.differences <= SHOWN {
             let case = Case::Sheet { book: book.to_vec(), question: question.to_vec(), room: run.written.len() };
-            println!("difference: {what}: {:?}, {} bytes written: {}", run.status, run.written.len(), case.line());
+            let said = String::from_utf8_lossy(&run.said);
+            println!(
+                "difference: {what}: {:?}, {} bytes written, {said:?}: {}",
+                run.status,
+                run.written.len(),
+                case.line()
+            );
         }
     }
 }
@@ -360,6 +378,12 @@ fn questions(report: &mut Report, folder: &Folder, book: &[u8], question: &[u8])
 fn outputs(report: &mut Report, folder: &Folder, book: &[u8], question: &[u8]) -> usize {
     folder.write_book(book);
     let lines = ["exec ./still >&-", "exec ./still <&- >&-", "exec ./still >/dev/full"];
+    for line in ["exec ./still 2>&-", "exec ./still 2>/dev/full"] {
+        let unsaid = run(folder.shell(line), &question[1..], Feed::Whole);
+        if !clean(unsaid.status) || !unsaid.said.is_empty() || unsaid.written != program_output(book, &question[1..]) {
+            report.differs(line, book, &question[1..], &unsaid);
+        }
+    }
     for line in lines {
         let found = run(folder.shell(line), question, Feed::Whole);
         if !clean(found.status) || !found.written.is_empty() {
@@ -374,13 +398,13 @@ fn outputs(report: &mut Report, folder: &Folder, book: &[u8], question: &[u8]) -
     if !clean(by_error.status) {
         report.differs("no reader, SIGPIPE ignored", book, question, &by_error);
     }
-    lines.len() + 2
+    lines.len() + 4
 }
 
 /// The reader has gone before the question comes. By default SIGPIPE ends a program that writes then.
 fn without_reader(mut command: Command, question: &[u8]) -> Run {
-    let mut child = command.stdin(Stdio::piped()).stdout(Stdio::piped()).spawn().expect("the program starts");
-    drop(child.stdout.take());
+    let mut child = started(&mut command);
+    drop((child.stdout.take(), child.stderr.take()));
     let _ = child.stdin.take().expect("it is piped").write_all(question);
-    Run { written: Vec::new(), status: ended(&mut child) }
+    Run { written: Vec::new(), said: Vec::new(), status: ended(&mut child) }
 }
