@@ -342,7 +342,7 @@ enum zektonk_refusal {
  *   proved holds of a call made otherwise, and nothing tells it from a right one: with another rounding its floats
  *   differ from about the 13th digit on, and it may be refused where a right call is answered.
  * - Every call ends. How long it takes is bounded by the limits in the question (words 12 and 14, 1,000,000 at most
- *   each). It takes about 18 KB of stack, which was measured and is not proved.
+ *   each). It takes about 27 KB of stack, which was measured and is not proved.
  */
 uint64_t zektonk_answer(const uint8_t *book, size_t book_len, const uint8_t *question, size_t question_len,
                         uint8_t *answer, size_t answer_len);
