@@ -25,6 +25,10 @@ pub choose_yes : {A : Type 0} (a b : Out A) {t : Bool} → t ≡ true → choose
 unfolding choose
 choose_yes a b e = rw e
 
+pub choose_no : {A : Type 0} (a b : Out A) {t : Bool} → t ≡ false → choose t a b ≡ b
+unfolding choose
+choose_no a b e = rw e
+
 -- a test, and then what follows
 pub need_then : {A B : Type 0} (b : Bool) (r : ℕ) (o : Out A) (k : A → Out B) → bind (need b r o) k ≡ need b r (bind o k)
 unfolding need bind

@@ -5,7 +5,7 @@ use native.Mathlib.Omega.{arith}
 use lib.Ieee.{Float}
 use Rattle.floats.specs.Fold.{fold_to}
 use Rattle.jet.specs.declared.Jet.{Jet}
-use Rattle.jet.specs.Jets.{add_j, sub_j, mul_j, scale_j, div_j, two_j, sum_jet_from}
+use Rattle.jet.specs.Jets.{add_j, sub_j, mul_j, scale_j, div_j, ln_j, ln_with, two_j, sum_jet_from}
 
 infixl 4 ◌≃◌
 pub record ◌≃◌ (a b : Jet) : Type 0 where
@@ -38,6 +38,10 @@ scale-near x p = record { v = rw p.v; d = rw p.d }
 pub div-near : {a a' b b' : Jet} → a ≃ a' → b ≃ b' → div_j a b ≃ div_j a' b'
 unfolding div_j
 div-near p q = record { v = rw (p.v, q.v); d = rw (p.v, q.v, p.d, q.d) }
+
+pub ln-near : {a a' : Jet} → a ≃ a' → ln_j a ≃ ln_j a'
+unfolding ln_with
+ln-near p = record { v = rw p.v; d = rw (p.v, p.d) }
 
 pub sum_near : {a a' : Jet} (f f' : ℕ → Jet) (n : ℕ) → a ≃ a' → ((k : ℕ) → k < n → f k ≃ f' k) → sum_jet_from a f n ≃ sum_jet_from a' f' n
 unfolding fold_to

@@ -32,10 +32,10 @@ pub struct VaporPressure {
 
 // S = Σ n_k θ^t_k and its first two derivatives by T.
 #[derive(Clone, Copy)]
-struct Sums {
-    s: f64,
-    ds: f64,
-    d2s: f64,
+pub struct Sums {
+    pub s: f64,
+    pub ds: f64,
+    pub d2s: f64,
 }
 
 // In a closed range.

@@ -9,6 +9,7 @@ use Rattle.floats.specs.Fold.{fold_to, sum_from}
 use Rattle.jet.specs.declared.Jet.{Jet}
 use Rattle.jet.specs.Jets.{const_j, add_j, sub_j, neg_j, mul_j, scale_j, div_j, ln_with, ln_j, sum_jet_from, sum_jet_to}
 use Rattle.zeros.specs.Below.{◌⊑◌, ◌⊑!◌}
+use Rattle.zeros.proofs.Numbers.{sum_fits}
 use Rattle.zeros.proofs.Below.{⊑_refl, ⊑_weaken, ⊑_add, ⊑_neg, ⊑_sub, ⊑_mul, ⊑_div, ⊑_ln, gone-add, gone-sub, gone-mul-l, gone-mul-r, gone-div}
 use Rattle.striking.specs.Places.{cnt}
 use Rattle.striking.proofs.Strike.{strike_from, strike_sum}
@@ -109,6 +110,9 @@ sum-dd : (a : Jet) (F : ℕ → Jet) (n : ℕ) → (sum_jet_from a F n).dd ≡ s
 unfolding fold_to add_j
 sum-dd a F zero = refl
 sum-dd a F (suc n) = ap (λ (x : Float). x ⊕ (F n).dd) (sum-dd a F n)
+
+pub sum_j_fits-v : (a : Jet) (F : ℕ → Jet) (n : ℕ) → T (fits binary64 a.v) → T (fits binary64 (sum_jet_from a F n).v)
+sum_j_fits-v a F n h = subst (λ (x : Float). T (fits binary64 x)) (sym (sum-v a F n)) (sum_fits a.v (λ k. (F k).v) n h)
 
 pub record FitsJ (a : Jet) : Type 0 where
   pub v : T (fits binary64 a.v)

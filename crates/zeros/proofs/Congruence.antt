@@ -28,6 +28,13 @@ pub ≈sym : {x y : Float} → x ≈ y → y ≈ x
 pub ≈trans : {x y z : Float} → x ≈ y → y ≈ z → x ≈ z
 ≈trans p q = by (p.is ∙ q.is)
 
+pub canon-canon : (x : Float) → canon (canon x) ≡ canon x
+unfolding canon
+canon-canon nan = refl
+canon-canon (inf s) = refl
+canon-canon (fin s zero e) = refl
+canon-canon (fin s (suc m) e) = refl
+
 -- ---- a zero, rounded
 round_zero1 : (f : Format) (s : Bool) → round f s 0 1 ≡ fin s 0 (pos 0)
 unfolding round

@@ -410,7 +410,19 @@ solid_≈ x y h r = sym (solid_canon x h) ∙ r.is ∙ solid_canon y (λ z. h (z
 pub add_zero≡ : (x z : Float) → T (fits binary64 x) → T (fits binary64 z) → Plain x → Zero z → add binary64 x z ≡ x
 add_zero≡ x z p q h k = plain_≈ binary64 (add binary64 x z) x (add-fits binary64 x z) p (plain-add binary64 x z p q h) h (add_zero≈ x z p k)
 
--- ---- a finite product has finite factors
+-- ---- finite results have finite operands; a quotient's divisor is no zero and no NaN, and may be an infinity
+pub finite_add-l : (f : Format) (x y : Float) → T (finite (add f x y)) → T (finite x)
+unfolding add
+finite_add-l f nan y h = h
+finite_add-l f (inf s) nan h = h
+finite_add-l f (inf s) (inf t) h = absurd (go (beq s t) h)
+  where
+    go : (b : Bool) → T (finite (cond b (inf s) nan)) → ⊥
+    go true h = h
+    go false h = h
+finite_add-l f (inf s) (fin t n d) h = h
+finite_add-l f (fin s m e) y h = tt
+
 pub finite_mul-l : (f : Format) (x y : Float) → T (finite (mul f x y)) → T (finite x)
 unfolding mul
 finite_mul-l f nan y h = h
@@ -425,6 +437,35 @@ finite_mul-l f (fin s m e) y h = tt
 
 pub finite_mul-r : (f : Format) (x y : Float) → T (finite (mul f x y)) → T (finite y)
 finite_mul-r f x y h = finite_mul-l f y x (subst (λ (z : Float). T (finite z)) (mul_comm≡ f x y) h)
+
+pub finite_div-l : (f : Format) (x y : Float) → T (finite (div f x y)) → T (finite x)
+unfolding div
+finite_div-l f nan y h = h
+finite_div-l f (inf s) nan h = h
+finite_div-l f (inf s) (inf t) h = h
+finite_div-l f (inf s) (fin t n d) h = h
+finite_div-l f (fin s m e) y h = tt
+
+pub finite_div-r : (f : Format) (x y : Float) → T (finite (div f x y)) → Num y × (Zero y → ⊥)
+unfolding div
+finite_div-r f x nan h = absurd (go x h)
+  where
+    go : (x : Float) → T (finite (div f x nan)) → ⊥
+    go nan h = h
+    go (inf s) h = h
+    go (fin s m e) h = h
+finite_div-r f x (inf t) h = (tt, λ z. z)
+finite_div-r f x (fin t zero d) h = absurd (go x h)
+  where
+    go : (x : Float) → T (finite (div f x (fin t zero d))) → ⊥
+    go nan h = h
+    go (inf s) h = h
+    go (fin s m e) h = cut (eqb m 0) h
+      where
+        cut : (b : Bool) → T (finite (cond b nan (inf (unlike s t)))) → ⊥
+        cut true h = h
+        cut false h = h
+finite_div-r f x (fin t (suc n) d) h = (tt, λ z. z)
 
 -- a function of one float gives one result for x ≈ y where it does so for every zero
 pub respects : {A : Type 0} (f : Float → A) → ((s : Bool) (e : ℤ) → f (fin s 0 e) ≡ f plus0) → (x y : Float) → x ≈ y → f x ≡ f y
