@@ -31,6 +31,9 @@ const FILES: [&str; 15] = [
 // More than any of them has.
 const FILE_BYTES: usize = 524288;
 
+// More than any function gives: a line with more results differs.
+const RESULTS: usize = 640;
+
 // The functions, in the order of the report.
 const NAMES: [&str; 23] = [
     "exp",
@@ -89,41 +92,50 @@ impl Tally {
 
 // The place of the function that a line calls, and whether its results differ; none where it could not be read.
 fn replay(line: &str, functions: &[Function; 23]) -> Option<(usize, bool)> {
-    let (call, results) = line.split_once(" = ")?;
-    let (name, inputs) = call.split_once(' ')?;
+    let (name, text) = line.split_once(' ')?;
     let k = functions.iter().position(|f| f.name == name)?;
-    let mut taken = [0; 4096];
-    let mut given = [0; 640];
+    let mut words = [0; text::WORDS];
+    let (inputs, count) = text::read_words(text, &mut words)?;
     let mut stored = Stored {
-        inputs: text::read_words(inputs, &mut taken)?,
-        results: text::read_words(results, &mut given)?,
+        inputs: words.get(..inputs)?,
+        results: words.get(inputs..count)?,
         differs: false,
     };
+    let long = RESULTS < stored.results.len();
     calls::call(name, &mut stored)?;
     if !stored.inputs.is_empty() {
         return None;
     }
-    Some((k, stored.differs || !stored.results.is_empty()))
+    Some((k, long || stored.differs || !stored.results.is_empty()))
 }
 
-fn replay_lines(text: &str, tally: &mut Tally) {
-    for line in text.lines() {
-        if line.starts_with('#') {
-            continue;
-        }
-        match replay(line, &tally.functions) {
-            Some((k, differs)) => tally.count(k, differs),
-            None => tally.miss(),
-        }
+// A comment is passed over; a line that is no text can't be read.
+fn replay_line(line: &[u8], tally: &mut Tally) {
+    if line.starts_with(b"#") {
+        return;
+    }
+    let read = match std::str::from_utf8(line) {
+        Ok(line) => replay(line, &tally.functions),
+        Err(_) => None,
+    };
+    match read {
+        Some((k, differs)) => tally.count(k, differs),
+        None => tally.miss(),
     }
 }
 
-// A file that is missing, too long for the buffer or no text counts as an unread line.
+fn replay_lines(file: &[u8], tally: &mut Tally) {
+    for line in file.split_inclusive(|b| *b == b'\n') {
+        replay_line(line.strip_suffix(b"\n").unwrap_or(line), tally);
+    }
+}
+
+// A file that is missing or too long for the buffer counts as an unread line, beside those that are read.
 fn replay_file(rt: &impl Files, path: &str, buffer: &mut [u8; FILE_BYTES], tally: &mut Tally) {
     let n = reading::read_path(rt, path, buffer);
-    match std::str::from_utf8(&buffer[..n]) {
-        Ok(text) if 0 < n && n < FILE_BYTES => replay_lines(text, tally),
-        _ => tally.miss(),
+    replay_lines(&buffer[..n], tally);
+    if n == 0 || n == FILE_BYTES {
+        tally.miss();
     }
 }
 
