@@ -42,7 +42,7 @@ excess-given (ok s) a {e = e} g w = let q : e ≡ energies_in s = cc g.energies 
 excess-given (no r) a g w = absurd (refused (sym g.energies))
 
 -- from the book's parameters, no pair offered, by a table made for t
-module _ (book : List ℕ) (n : ℕ) (x : List Float) {P : List Float} {t : Temperature} {s : Tabled} {table : List Float} (p : P ≡ parameters_of (with_pair n book []) n)
+module _ (book : List ℕ) (n : ℕ) (x : List Float) {P : List Float} {t : Temperature} {s : Tabled Refusal} {table : List Float} (p : P ≡ parameters_of (with_pair n book []) n)
     (h : Stands book P n t s (replicate 512 0f) table) {r : Result Energies Refusal} {lg sl : List Float} (g : Gives (excess_on table s x) r lg sl) where
   known : Gives (excess_of book (parameters_of book n) n t.0 x) r lg sl
   known = let k = ap (λ (E : List Float → Out Excess). E x) (excess_fresh h) in rw (p, copy-nothing) at (rw k at g)

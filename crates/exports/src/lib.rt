@@ -88,10 +88,10 @@ pub extern "C" fn zektonk_float_of(bits: u64) -> f64
 fn eight(s: &[f64]) -> [f64; 8]
     ensures { result ≡ eight_of s.now }
 {
-    let mut a = [f64::NAN; 8];
-    let m = floats::places(s.len());
-    a[..m].copy_from_slice(&s[..m]);
-    a
+    match s.first_chunk() {
+        Some(front) => *front,
+        None => std::array::from_fn(|i| s.get(i).copied().unwrap_or(f64::NAN)),
+    }
 }
 
 // 0, or 15, 16, 18.

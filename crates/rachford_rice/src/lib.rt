@@ -226,6 +226,9 @@ impl<'a> Feed<'a> {
         std::array::from_fn(|i| if i < self.m.n { x[i] * self.k[i] } else { 0.0 })
     }
 
+    // Kept: inlined, as are `iterate` and `between`: else a result of 160 bytes is copied by calls of memcpy from one to the next,
+    // and a single phase takes 35 ns for 7.
+    #[inline(always)]
     fn solution(self, beta: f64, iterations: u64) -> RachfordRice
         ensures { result ≡ two_phase (solution_at (at self.entry.z.now) (at self.entry.k.now) self.entry.m.n beta iterations) }
     {
@@ -240,6 +243,7 @@ impl<'a> Feed<'a> {
     }
 
     // From β = 0.5 between the bounds; refused where g(β) isn't finite, and where no turn is left.
+    #[inline(always)]
     fn iterate(self, limit: u64, lo: f64, hi: f64) -> Result<RachfordRice, Refusal>
         ensures { outcome_of result ≡ bind (iterate (at self.entry.z.now) (at self.entry.k.now) self.entry.m.n limit 0 lo hi ½) (λ s. ok (two_phase s)) }
     {
@@ -258,6 +262,7 @@ impl<'a> Feed<'a> {
     }
 
     // Between the poles 1 / (1 - Kmax) and 1 / (1 - Kmin); refused where K lies on one side of 1.
+    #[inline(always)]
     #[tactic(auto, unfolding(crate::specs::Rachford::between, floats::specs::Outcome::need, floats::specs::Outcome::bind))]
     fn between(self, limit: u64) -> Result<RachfordRice, Refusal>
         ensures { outcome_of result ≡ bind (between (at self.entry.z.now) (at self.entry.k.now) self.entry.m.n limit) (λ s. ok (two_phase s)) }

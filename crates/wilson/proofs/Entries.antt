@@ -5,7 +5,7 @@ use mathlib.Core.Logic.{⊎_elim}
 use mathlib.Core.List.{List}
 use native.Mathlib.Nat.{eq-or-lt_of_le}
 use native.Mathlib.Omega.{arith}
-use lib.ListN.{set, length, length-set, length-replicate, replicate}
+use lib.ListN.{set, length, length-set}
 use lib.Seq.{get_or-set_same, get_or-set_other}
 use lib.Ieee.{Float}
 use Rattle.floats.specs.Vector.{at}
@@ -31,8 +31,8 @@ pub record Rows (F : ℕ → Jet) (k : ℕ) (l : List Jet) : Type 0 where
   pub long : length l ≡ 8
   pub jet : (v : ℕ) → v < k → jet_of l v ≡ F v
 
-pub rows_start : (F : ℕ → Jet) (z : Jet) → Rows F 0 (replicate 8 z)
-rows_start F z = record { long = length-replicate 8 z; jet = λ v l. absurd (omega arith) }
+pub rows_start : (F : ℕ → Jet) {l : List Jet} → length l ≡ 8 → Rows F 0 l
+rows_start F e = record { long = e; jet = λ v l. absurd (omega arith) }
 
 pub rows_next : (F : ℕ → Jet) (k : ℕ) {l : List Jet} {j : Jet} → k < 8 → j ≡ F k → Rows F k l → Rows F (k + 1) (set l k j)
 rows_next F k {l} {j} h e r = record {

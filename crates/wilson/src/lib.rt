@@ -79,13 +79,13 @@ impl Liquid<'_> {
     }
 
     // S of each.
-    // Kept: a pass of its own: with the logarithms in it an activity of six and seven solvents takes a sixth longer.
+    // Kept: a pass of its own: with the logarithms in it an activity of six and seven solvents takes a sixth longer. The array is
+    // the caller's: by value its 192 bytes are copied by a call of memcpy.
     #[inline(always)]
-    fn rows(self) -> [Jet; 8]
-        ensures { let q = self.entry in (k : ℕ) → k < q.m.n → jet_of result k ≡ s_on q.table.now (at q.x.now) q.m.n k }
+    fn fill_rows(self, rows: &mut [Jet; 8])
+        ensures { let q = self.entry in (k : ℕ) → k < q.m.n → jet_of rows.new k ≡ s_on q.table.now (at q.x.now) q.m.n k }
     {
         let n = self.m.n;
-        let mut rows = [Jet::constant(0.0); 8];
         for h in 0..n / 2 {
             let [s, r] = self.row_sums::<2>(2 * h);
             rows[2 * h] = s;
@@ -95,7 +95,6 @@ impl Liquid<'_> {
             let [s] = self.row_sums::<1>(n - 1);
             rows[n - 1] = s;
         }
-        rows
     }
 
     // S_i and its logarithm l into `sums`; the next partial sum of x_i ln S_i.
@@ -117,7 +116,8 @@ impl Liquid<'_> {
         ensures { let q = self.entry in SumsTo (s_on q.table.now (at q.x.now) q.m.n) (ln_s_on q.table.now (at q.x.now) q.m.n) (at q.x.now) q.m.n result sums.old sums.new }
     {
         let n = self.m.n;
-        let rows = self.rows();
+        let mut rows = [Jet::constant(0.0); 8];
+        self.fill_rows(&mut rows);
         let mut total = Jet::constant(0.0);
         for h in 0..n / 2 {
             let (i, j) = (2 * h, 2 * h + 1);

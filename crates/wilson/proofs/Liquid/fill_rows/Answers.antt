@@ -2,10 +2,10 @@ use Prim.Native.Nat.{◌+◌, ◌*◌, ◌-◌}
 use mathlib.Core.Path.{◌≡◌}
 use native.Mathlib.Omega.{arith}
 use Rattle.wilson.proofs.Entries.{rows_start, rows_next, rows_done}
-use Rattle.wilson.proofs.Liquid.rows.Goals as goal
+use Rattle.wilson.proofs.Liquid.fill_rows.Goals as goal
 
 pub loop-h-init : goal.loop-h-init
-loop-h-init c = rows_done _ 0 _ (omega arith) (rows_start _ _)
+loop-h-init c = rows_done _ 0 _ (omega arith) (rows_start _ (omega arith))
 
 pub loop-h-preserved : goal.loop-h-preserved
 loop-h-preserved c =
