@@ -80,7 +80,7 @@ module _ (book : List ℕ) (version n : ℕ) (question : List ℕ) (x : List Flo
     pub feed-warm : needs_temperature q.task ≡ true
     feed-warm = rw asks.task (among-warm book version question v)
 
-    pub feed_ready : {m : Mixture} {r : Result Tabled Refusal} {table ps : List Float} → Readied m (word question 1) (float (word question) 2) (float (word question) 3) r table ps
+    pub feed_ready : {m : Mixture} {r : Result (Tabled Refusal) Refusal} {table ps : List Float} → Readied m (word question 1) (float (word question) 2) (float (word question) 3) r table ps
         → Readied m q.task q.temperature q.pressure r table ps
     feed_ready h = rw (asks.task, asks.temperature, asks.pressure) h
 
@@ -98,16 +98,16 @@ module _ {m : Mixture} {question : List ℕ} {table ps : List Float} where
   pub keeps-nothing : length table ≡ 512 → Keeps m question None table ps
   keeps-nothing l = record { room = λ e. l; made = λ r e. absurd (none r e) }
     where
-      none : (r : Result Tabled Refusal) → None ≡ Some r → ⊥
+      none : (r : Result (Tabled Refusal) Refusal) → None ≡ Some r → ⊥
       none r e = let z : ◌≡◌ {A = ℕ} 0 1 = cc in omega arith
 
-  pub keeps-made : {r : Result Tabled Refusal} → Readied m (word question 1) (float (word question) 2) (float (word question) 3) r table ps → Keeps m question (Some r) table ps
+  pub keeps-made : {r : Result (Tabled Refusal) Refusal} → Readied m (word question 1) (float (word question) 2) (float (word question) 3) r table ps → Keeps m question (Some r) table ps
   keeps-made {r} h = record { room = λ e. absurd (none e); made = λ s e. rw (same s e) h }
     where
       none : Some r ≡ None → ⊥
       none e = let z : ◌≡◌ {A = ℕ} 0 1 = cc in omega arith
 
-      same : (s : Result Tabled Refusal) → Some r ≡ Some s → s ≡ r
+      same : (s : Result (Tabled Refusal) Refusal) → Some r ≡ Some s → s ≡ r
       same s e = cc
 
 -- ---- all feeds

@@ -64,6 +64,6 @@ feeds_of book question feeds old =
     (ok (parts_to book h.version h.n question feeds old (feed_count feeds)))))
 
 -- what is kept from feed to feed: a table to fill; once made, it is ready for the question's task, T and p
-pub record Keeps (m : Mixture) (question : List ℕ) (kept : Option (Result Tabled Refusal)) (table ps : List Float) : Type 0 where
+pub record Keeps (m : Mixture) (question : List ℕ) (kept : Option (Result (Tabled Refusal) Refusal)) (table ps : List Float) : Type 0 where
   pub room : kept ≡ None → length table ≡ 512
-  pub made : (r : Result Tabled Refusal) → kept ≡ Some r → Readied m (word question 1) (float (word question) 2) (float (word question) 3) r table ps
+  pub made : (r : Result (Tabled Refusal) Refusal) → kept ≡ Some r → Readied m (word question 1) (float (word question) 2) (float (word question) 3) r table ps

@@ -40,7 +40,7 @@ use Rattle.distance.specs.declared.Distance.{Distance}
 use Rattle.distance.proofs.Central.{from, ready_at}
 
 -- ---- from what was made ready for a flash that was read
-module _ (book : List ℕ) (n : ℕ) (q : Question) (seven : q.task ≡ 7) {table ps : List Float} {s : Tabled}
+module _ (book : List ℕ) (n : ℕ) (q : Question) (seven : q.task ≡ 7) {table ps : List Float} {s : Tabled Refusal}
     (h : Readied (mixture_of book n) 7 q.temperature q.pressure (Ok s) table ps) {old new : ℕ} where
   pub feed-no : {r : ℕ} → Counts old (no r) new (saturated_counted (activity_on table s) (places s.n) q.options q.fractions ps) → no r ≡ searched book n q
   feed-no c = sym (ready_at book n q seven h ∙ bind-no _ (sym (saturated-outcome _ _ _ _ q.pressure ps) ∙ sym c.outcome))

@@ -130,7 +130,7 @@ module _ (book : List ℕ) (n : ℕ) (q : Question) (seven : q.task ≡ 7) where
       ap (from q) f
   searched-by (no r) e warm a d b pure = bind-no _ (outcome-no (mixture_of book n) q seven warm d pure e q.pressure a b)
 
-  module _ {table ps : List Float} {s : Tabled} (h : Readied (mixture_of book n) 7 q.temperature q.pressure (Ok s) table ps) where
+  module _ {table ps : List Float} {s : Tabled Refusal} (h : Readied (mixture_of book n) 7 q.temperature q.pressure (Ok s) table ps) where
     pub ready_at : searched book n q ≡ bind (saturated_of (activity_on table s) (places s.n) q.options q.fractions ps) (λ y. from q (outcome_by (activity_on table s) (places s.n) q.options q.fractions ps y))
     unfolding pressures_for flash_pressures choose
     ready_at =

@@ -1,10 +1,10 @@
 -- What the code gives for an outcome: its struct and the two arrays, which are zeros with a refusal. Assumes nothing.
-use Rattle.std.specs.Prelude.{◌≡◌, Bool, ◌&&◌, List, Float, Result}
+use Rattle.std.specs.Prelude.{ℕ, ◌≡◌, Bool, ◌&&◌, List, Float, Result}
 use Rattle.floats.specs.Small.{is_finite}
 use Rattle.floats.specs.Vector.{zeros8}
 use Rattle.floats.specs.Outcome.{Out, ok, no}
 use Rattle.outcome.specs.declared.Refusal.{Refusal}
-use Rattle.outcome.specs.Refused.{outcome_of}
+use Rattle.outcome.specs.Refused.{number, outcome_by}
 use Rattle.jet.specs.declared.Jet.{Jet}
 use Rattle.excess.specs.declared.Energies.{Energies}
 use Rattle.excess.specs.State.{Excess, gibbs_of, enthalpy_of, entropy_of, heat_capacity_of}
@@ -25,11 +25,14 @@ unfoldable pub excess_slopes : Out Excess → List Float
 excess_slopes (ok s) = s.slopes
 excess_slopes (no r) = zeros8
 
--- a call's result r and arrays lg, sl say the outcome o
-pub record Gives (o : Out Excess) (r : Result Energies Refusal) (lg sl : List Float) : Type 0 where
-  pub energies : outcome_of r ≡ energies_of o
+-- a call's result r, its no by the number that it says, and arrays lg, sl say the outcome o
+pub record GivesBy {E : Type 0} (said : E → ℕ) (o : Out Excess) (r : Result Energies E) (lg sl : List Float) : Type 0 where
+  pub energies : outcome_by said r ≡ energies_of o
   pub values : lg ≡ excess_ln_gammas o
   pub slopes : sl ≡ excess_slopes o
+
+abbrev pub Gives : Out Excess → Result Energies Refusal → List Float → List Float → Type 0
+Gives o r lg sl = GivesBy number o r lg sl
 
 -- the energies, not yet tested, and their test
 unfoldable pub energies_at : Jet → Float → Energies

@@ -10,7 +10,6 @@ use lib.Dec.{T, ltb, le→leb}
 use borrow.Author.Tests.{lt-ltb, le-ltb}
 use lib.IntN.{pos}
 use lib.Ieee.{Float, nan, binary64, lt, le, of_int, in_float}
-use Rattle.std.specs.Prelude.{Result, Ok, Err}
 use Rattle.std.specs.declared.ops.ControlFlow.{ControlFlow}
 use Rattle.std.specs.declared.ops.ControlFlow.TheVariants.{Break, Continue}
 use Rattle.floats.specs.Arithmetic.{◌⊕◌, ◌⊘◌, 0f}
@@ -23,9 +22,6 @@ use Rattle.floats.proofs.Fills.{fill-at, fill_cong}
 use Rattle.counted.specs.Counted.{Counted, uncounted, evaluated, begun_before, go_on, bind_counted, need_counted, choose_counted, count_word, Counts}
 use Rattle.counted.proofs.Laws.{counts_none, counts_one, counts_next, counts_stop, counts_first, counts_second}
 use Rattle.numerics.specs.Numerics.{exp_of}
-use Rattle.outcome.specs.Refused.{number, outcome_of}
-use Rattle.outcome.specs.declared.Refusal.{Refusal}
-use Rattle.outcome.specs.declared.Refusal.TheVariants.{ResultNotFinite}
 use Rattle.thermo_types.specs.declared.ActivityOptions.{ActivityOptions}
 use Rattle.thermo_models.specs.Model.{Activity}
 use Rattle.liquid_stability.specs.declared.LiquidStabilityTrial.{LiquidStabilityTrial}
@@ -106,14 +102,13 @@ module _ (E : List Float → Out Activity) (threshold : Float) (n : ℕ) (h : n 
   unfolding trial_counted rest
   goes_on e left done = rw (← composition-is x lnW n h pb ps pw, e) (by_ln_gamma (E w) (rest left done))
 
-  pub turn-refused : (e : Refusal) {r : Result (ControlFlow LiquidStabilityTrial (List Float)) Refusal} → no (number e) ≡ bind (E w) (λ a. ok a.ln_gamma) → outcome_of r ≡ no (number e)
-      → TrialTurn E threshold n x d j iteration lnW r
+  pub turn-refused : (k : ℕ) → no k ≡ bind (E w) (λ a. ok a.ln_gamma) → TrialTurn E threshold n x d j iteration lnW (no k)
   unfolding bind_counted evaluated go_on
-  turn-refused e p q = record { goes = λ left done i. rw q (goes_on p left done) }
+  turn-refused k p = record { goes = λ left done i. goes_on p left done }
 
   module _ {lg : List Float} (p : ok lg ≡ bind (E w) (λ a. ok a.ln_gamma)) {tm change apart : Float}
       (pd : tm ≡ distance_of x lnW lg d n) (pc : change ≡ change_of x lnW lg d n) (pa : apart ≡ apart_of x w n) where
-    pub turn-infinite : false ≡ is_finite tm → TrialTurn E threshold n x d j iteration lnW (Err ResultNotFinite)
+    pub turn-infinite : false ≡ is_finite tm → TrialTurn E threshold n x d j iteration lnW (no 25)
     unfolding bind_counted evaluated go_on begun_before rest judge_counted need_counted uncounted
     turn-infinite f = record { goes = λ left done i. rw (goes_on p left done, ← pd, ← f) }
 
@@ -132,16 +127,16 @@ module _ (E : List Float → Out Activity) (threshold : Float) (n : ℕ) (h : n 
       unfolding bind_counted evaluated go_on rest judge_counted need_counted
       turned left done i = rw (goes_on p left done, ← pd, ← pc, ← pa, ← f, i)
 
-      pub turn-unstable : true ≡ unstable threshold tm trivial → TrialTurn E threshold n x d j iteration lnW (Ok (Break (found trivial)))
+      pub turn-unstable : true ≡ unstable threshold tm trivial → TrialTurn E threshold n x d j iteration lnW (ok (Break (found trivial)))
       unfolding bind_counted evaluated go_on after choose_counted
       turn-unstable u = let t = not-trivial threshold tm trivial u in record { goes = λ left done i. rw (turned left done i, ← u, ← t) }
 
       module _ (u : false ≡ unstable threshold tm trivial) where
-        pub turn-converged : le change ln_w_tolerance ≡ true → TrialTurn E threshold n x d j iteration lnW (Ok (Break (found trivial)))
+        pub turn-converged : le change ln_w_tolerance ≡ true → TrialTurn E threshold n x d j iteration lnW (ok (Break (found trivial)))
         unfolding bind_counted evaluated go_on after choose_counted
         turn-converged c = record { goes = λ left done i. rw (turned left done i, ← u, c) }
 
-        pub turn-on : le change ln_w_tolerance ≡ false → {nx : List Float} → nx ≡ next_of d lg n → TrialTurn E threshold n x d j iteration lnW (Ok (Continue nx))
+        pub turn-on : le change ln_w_tolerance ≡ false → {nx : List Float} → nx ≡ next_of d lg n → TrialTurn E threshold n x d j iteration lnW (ok (Continue nx))
         unfolding bind_counted evaluated go_on after choose_counted
         turn-on c pn = record { goes = λ left done i. rw (turned left done i, ← u, c, ← pn) }
 
@@ -163,18 +158,18 @@ module _ (E : List Float → Out Activity) (threshold : Float) (n : ℕ) (x d : 
 
     -- the next turn begins one
     module _ (l : done < limit) {mid : ℕ} (b : mid ≡ count_word (now + 1)) where
-      by_turn : {r : Result (ControlFlow LiquidStabilityTrial (List Float)) Refusal} → TrialTurn E threshold n x d j (done + 1) lnW r
-          → (o : Out LiquidStabilityTrial) (new : ℕ) → Counts now o new (bind_counted (evaluated (outcome_of r)) (after (run (limit - (done + 1)) (done + 1))))
+      by_turn : {r : Out (ControlFlow LiquidStabilityTrial (List Float))} → TrialTurn E threshold n x d j (done + 1) lnW r
+          → (o : Out LiquidStabilityTrial) (new : ℕ) → Counts now o new (bind_counted (evaluated r) (after (run (limit - (done + 1)) (done + 1))))
           → Counts old o new W
       by_turn ps o new g =
           let z : limit - done ≡ suc (limit - (done + 1)) = omega arith in
           let s : done + 1 ≡ suc done = add-one done in
           h.all o new (rw (z, ps.goes (limit - (done + 1)) done s, ← s) g)
 
-      pub trial-refused : {e : Refusal} → TrialTurn E threshold n x d j (done + 1) lnW (Err e) → Counts old (no (number e)) mid W
-      trial-refused {e} ps = by_turn ps (no (number e)) mid (counts_stop _ (counts_one b refl))
+      pub trial-refused : {k : ℕ} → TrialTurn E threshold n x d j (done + 1) lnW (no k) → Counts old (no k) mid W
+      trial-refused {k} ps = by_turn ps (no k) mid (counts_stop _ (counts_one b refl))
 
-      module _ {t : ControlFlow LiquidStabilityTrial (List Float)} (ps : TrialTurn E threshold n x d j (done + 1) lnW (Ok t)) where
+      module _ {t : ControlFlow LiquidStabilityTrial (List Float)} (ps : TrialTurn E threshold n x d j (done + 1) lnW (ok t)) where
         pub trial-found : {a : LiquidStabilityTrial} → t ≡ Break a → Counts old (ok a) mid W
         unfolding after
         trial-found {a} e = by_turn ps (ok a) mid (rw e (counts_next _ (counts_one b refl) (counts_none refl)))

@@ -1,5 +1,5 @@
 -- What the functions inside a trial ensure; `liquid_stability` itself is stated by Stability.antt alone. Assumes nothing.
-use Rattle.std.specs.Prelude.{ℕ, suc, ◌≡◌, cond, List, Float, Result}
+use Rattle.std.specs.Prelude.{ℕ, suc, ◌≡◌, cond, List, Float}
 use Rattle.std.specs.Float.Ieee.{lt}
 use Rattle.std.specs.declared.ops.ControlFlow.{ControlFlow}
 use Rattle.std.specs.declared.ops.ControlFlow.TheVariants.{Break, Continue}
@@ -8,8 +8,6 @@ use Rattle.floats.specs.Vector.{at, vec}
 use Rattle.floats.specs.Outcome.{Out, ok}
 use Rattle.counted.specs.Counted.{Counted, uncounted, evaluated, bind_counted}
 use Rattle.numerics.specs.Numerics.{exp_of}
-use Rattle.outcome.specs.Refused.{outcome_of}
-use Rattle.outcome.specs.declared.Refusal.{Refusal}
 use Rattle.thermo_models.specs.Model.{Activity}
 use Rattle.liquid_stability.specs.declared.LiquidStabilityTrial.{LiquidStabilityTrial}
 use Rattle.liquid_stability.specs.Counted.{trial_counted}
@@ -25,6 +23,6 @@ after rest (Continue lnW) = rest lnW
 
 -- a turn from ln W of the trial near solvent j: it is one evaluation, begun whatever comes of it, and the definition goes on as the turn says
 pub record TrialTurn (E : List Float → Out Activity) (threshold : Float) (n : ℕ) (x d : List Float) (j iteration : ℕ) (lnW : List Float)
-    (r : Result (ControlFlow LiquidStabilityTrial (List Float)) Refusal) : Type 0 where
+    (o : Out (ControlFlow LiquidStabilityTrial (List Float))) : Type 0 where
   pub goes : (left done : ℕ) → iteration ≡ suc done
-      → trial_counted E threshold n x d j (suc left) done lnW ≡ bind_counted (evaluated (outcome_of r)) (after (trial_counted E threshold n x d j left (suc done)))
+      → trial_counted E threshold n x d j (suc left) done lnW ≡ bind_counted (evaluated o) (after (trial_counted E threshold n x d j left (suc done)))

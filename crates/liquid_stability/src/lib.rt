@@ -8,15 +8,15 @@ ghost use Rattle.floats.specs.Arithmetic.{◌⊕◌, ◌⊘◌, 0f};
 ghost use Rattle.floats.specs.Fold.{fold_to, active};
 ghost use Rattle.floats.specs.Vector.{at, vec, places};
 ghost use Rattle.floats.specs.Outcome.{ok, bind};
-ghost use Rattle.outcome.specs.Refused.{outcome_of};
+ghost use Rattle.outcome.specs.Refused.{outcome_by};
 ghost use Rattle.counted.specs.Counted.{Counts};
-ghost use Rattle.thermo_models.specs.Activity.{activity_on};
+ghost use Rattle.thermo_models.specs.Activity.{activity_by_reason};
 ghost use Rattle.liquid_stability.specs.Stability.{present_count, tangent, others_in, start_of, distance_of, change_of, apart_of, next_of, unstable, no_trial, no_trials};
 ghost use Rattle.liquid_stability.specs.Counted.{trial_counted, trials_counted, stability_counted};
 ghost use Rattle.liquid_stability.specs.Steps.{amounts_of, TrialTurn};
 
 use floats::Count;
-use outcome::Refusal;
+use outcome::{Reason, Refusal};
 use std::hint::select_unpredictable;
 use std::ops::ControlFlow;
 use thermo_models::Tabled;
@@ -66,9 +66,9 @@ pub fn present_count(x: &[f64; 8], n: usize) -> usize
 }
 
 // ln γ of x; its slopes aren't used here.
-#[tactic(auto, using(outcome::proofs::Exits::met), unfolding(floats::specs::Outcome::bind))]
-fn ln_gamma(table: &[f64; 512], tabled: Tabled, x: &[f64; 8]) -> Result<[f64; 8], Refusal>
-    ensures { outcome_of result ≡ bind (activity_on table.now tabled x.now) (λ a. ok a.ln_gamma) }
+#[tactic(auto, using(outcome::proofs::Exits::met_reason), unfolding(floats::specs::Outcome::bind))]
+fn ln_gamma<E: Reason>(table: &[f64; 512], tabled: Tabled<E>, x: &[f64; 8]) -> Result<[f64; 8], E>
+    ensures { outcome_by E.said result ≡ bind (activity_by_reason E.said table.now tabled x.now) (λ a. ok a.ln_gamma) }
 {
     let activity = thermo_models::activity(table, tabled, x)?;
     Ok(activity.ln_gamma)
@@ -126,7 +126,6 @@ const LN_W_TOLERANCE: f64 = 1e-10;
 #[derive(Clone, Copy)]
 struct Tested<'a> {
     table: &'a [f64; 512],
-    tabled: Tabled,
     m: Count,
     o: ActivityOptions,
     x: &'a [f64; 8],
@@ -211,22 +210,23 @@ impl<'a> Tested<'a> {
     }
 
     // One turn of the trial near solvent j: the trial where it ends here, else the next ln W. The activity of w is asked for once.
-    fn turn(
+    fn turn<E: Reason>(
         self,
+        at: Tabled<E>,
         j: usize,
         iteration: u64,
         ln_w: &[f64; 8],
-    ) -> Result<ControlFlow<LiquidStabilityTrial, [f64; 8]>, Refusal>
+    ) -> Result<ControlFlow<LiquidStabilityTrial, [f64; 8]>, E>
         ensures { let l = self.entry in
-            TrialTurn (activity_on l.table.now l.tabled) l.o.tm_threshold l.m.n l.x.now l.d.now j iteration ln_w.now result }
+            TrialTurn (activity_by_reason E.said l.table.now at) l.o.tm_threshold l.m.n l.x.now l.d.now j iteration ln_w.now (outcome_by E.said result) }
     {
         let big = self.amounts(ln_w);
         let s = self.total(&big);
         let w = self.composition(&big, s);
-        let lg = ln_gamma(self.table, self.tabled, &w)?;
+        let lg = ln_gamma(self.table, at, &w)?;
         let measured = self.measure(ln_w, &big, &lg, &w);
         if !floats::is_finite(measured.distance) {
-            return Err(Refusal::ResultNotFinite);
+            return Err(E::from(Refusal::ResultNotFinite));
         }
         let found = LiquidStabilityTrial {
             component: j,
@@ -243,31 +243,36 @@ impl<'a> Tested<'a> {
 
     // The trial near solvent j: 24, 25, and 27 at its limit.
     #[tactic(auto, unfolding(floats::specs::Outcome::bind, crate::specs::Steps::after))]
-    fn trial(self, j: usize, begun: &mut u64) -> Result<LiquidStabilityTrial, Refusal>
+    fn trial<E: Reason>(
+        self,
+        at: Tabled<E>,
+        j: usize,
+        begun: &mut u64,
+    ) -> Result<LiquidStabilityTrial, E>
         ensures { let l = self.entry in
-            Counts begun.old (outcome_of result) begun.new
-            (trial_counted (activity_on l.table.now l.tabled) l.o.tm_threshold l.m.n l.x.now l.d.now j l.o.max_iterations 0 (start_of l.x.now l.m.n j)) }
+            Counts begun.old (outcome_by E.said result) begun.new
+            (trial_counted (activity_by_reason E.said l.table.now at) l.o.tm_threshold l.m.n l.x.now l.d.now j l.o.max_iterations 0 (start_of l.x.now l.m.n j)) }
     {
         let mut ln_w = self.start(j);
         for done in 0..self.o.max_iterations {
             counted::begin(begun);
-            match self.turn(j, done + 1, &ln_w)? {
+            match self.turn(at, j, done + 1, &ln_w)? {
                 ControlFlow::Break(found) => return Ok(found),
                 ControlFlow::Continue(next) => ln_w = next,
             }
         }
-        Err(Refusal::NotConverged)
+        Err(E::from(Refusal::NotConverged))
     }
 
     // One trial near each solvent present. All of them run: a later trial's refusal stands before an unstable one's answer.
     #[tactic(auto, unfolding(crate::specs::Stability::no_trials, crate::specs::Stability::trials_to, crate::specs::Stability::with_trial))]
-    fn trials(self, begun: &mut u64) -> Result<LiquidStability, Refusal>
-        ensures { let l = self.entry in Counts begun.old (outcome_of result) begun.new (trials_counted (activity_on l.table.now l.tabled) l.m.n l.o l.x.now l.d.now l.m.n) }
+    fn trials<E: Reason>(self, at: Tabled<E>, begun: &mut u64) -> Result<LiquidStability, E>
+        ensures { let l = self.entry in Counts begun.old (outcome_by E.said result) begun.new (trials_counted (activity_by_reason E.said l.table.now at) l.m.n l.o l.x.now l.d.now l.m.n) }
     {
         let mut all = no_trials();
         for j in 0..self.m.n {
             if self.x[j] > 0.0 {
-                let found = self.trial(j, begun)?;
+                let found = self.trial(at, j, begun)?;
                 all.trials[all.count] = found;
                 all.count += 1;
                 all.stable &= !found.is_unstable(self.o.tm_threshold);
@@ -279,14 +284,14 @@ impl<'a> Tested<'a> {
 
 // Trials of the liquid x, one near each solvent present: 24, 25, 27. The activity of x (24, 25) stands before the question how many
 // solvents are present; fewer than two: stable, no trials. `begun` counts the evaluations on.
-pub fn liquid_stability(
+pub fn liquid_stability<E: Reason>(
     table: &[f64; 512],
-    at: Tabled,
+    at: Tabled<E>,
     o: ActivityOptions,
     x: &[f64; 8],
     begun: &mut u64,
-) -> Result<LiquidStability, Refusal>
-    ensures { Counts begun.old (outcome_of result) begun.new (stability_counted (activity_on table.now at) (places at.n) o x.now) }
+) -> Result<LiquidStability, E>
+    ensures { Counts begun.old (outcome_by E.said result) begun.new (stability_counted (activity_by_reason E.said table.now at) (places at.n) o x.now) }
 {
     let m = Count::of(at.n);
     counted::begin(begun);
@@ -299,12 +304,11 @@ pub fn liquid_stability(
     let others = (count - 1) as f64;
     let tested = Tested {
         table,
-        tabled: at,
         m,
         o,
         x,
         d: &d,
         others,
     };
-    tested.trials(begun)
+    tested.trials(at, begun)
 }

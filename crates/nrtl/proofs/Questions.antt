@@ -1,23 +1,22 @@
 -- The questions ahead of the model, one after the other. Assumes nothing.
 use Prim.Native.Nat.{ℕ}
-use mathlib.Core.Path.{◌≡◌, refl, ◌∙◌}
+use mathlib.Core.Path.{◌≡◌, ◌∙◌}
 use mathlib.Core.List.{List}
 use lib.Ieee.{Float}
-use Rattle.std.specs.Prelude.{Result, Ok, Err}
-use Rattle.std.specs.Result.{result_and}
-use Rattle.floats.specs.Outcome.{Out, ok, bind}
-use Rattle.outcome.specs.declared.Refusal.{Refusal}
-use Rattle.outcome.specs.Refused.{outcome_of}
-use Rattle.excess.specs.State.{Excess, with_state, state_from}
+use Rattle.floats.specs.Outcome.{Out, ok, no, bind}
+use Rattle.excess.specs.State.{with_state, state_from}
 use Rattle.excess.proofs.Passing.{state_first}
 use Rattle.nrtl.specs.On.{ln_gamma_on, reduced_on, passing, nrtl_on}
 
-both : (w v : Result (Unit {0}) Refusal) (o : Out Excess) → bind (outcome_of w) (λ _. passing v o) ≡ bind (outcome_of (result_and w v)) (λ _. o)
-unfolding bind passing
-both (Ok u) v o = refl
-both (Err r) v o = refl
+module _ (m : List Float) (n : ℕ) (t : Float) (x : ℕ → Float) where
+  pub fractions-refused : (alphas : Out (Unit {0})) {k : ℕ} → no k ≡ with_state t x n (ok (tt {0})) → nrtl_on m alphas n t x ≡ no k
+  unfolding nrtl_on bind
+  fractions-refused alphas e = state_first t x n _ ∙ rw (← e)
 
-pub asked : (m : List Float) (n : ℕ) (t : Float) (x : ℕ → Float) (w alphas : Result (Unit {0}) Refusal) {r : Result (Unit {0}) Refusal} → outcome_of w ≡ with_state t x n (ok (tt {0}))
-    → r ≡ result_and w alphas → nrtl_on m alphas n t x ≡ bind (outcome_of r) (λ _. state_from (reduced_on m x n) (ln_gamma_on m x n) n t)
-unfolding nrtl_on
-asked m n t x w alphas e p = state_first t x n _ ∙ rw (← e, p) (both w alphas _)
+  pub alphas-refused : {u : Unit {0}} (k : ℕ) → ok u ≡ with_state t x n (ok (tt {0})) → nrtl_on m (no k) n t x ≡ no k
+  unfolding nrtl_on passing bind
+  alphas-refused k e = state_first t x n _ ∙ rw (← e)
+
+  pub asked : {u : Unit {0}} (v : Unit {0}) → ok u ≡ with_state t x n (ok (tt {0})) → nrtl_on m (ok v) n t x ≡ state_from (reduced_on m x n) (ln_gamma_on m x n) n t
+  unfolding nrtl_on passing bind
+  asked v e = state_first t x n _ ∙ rw (← e)

@@ -11,6 +11,7 @@ use Rattle.std.specs.Prelude.{Ok, Err}
 use Rattle.floats.specs.Vector.{at}
 use Rattle.floats.specs.Outcome.{need, bind}
 use Rattle.outcome.specs.declared.Refusal.TheVariants.{AlphaNotPositive}
+use Rattle.outcome.specs.Refused.{outcome_of}
 use Rattle.jet.specs.declared.Jet.{Jet}
 use Rattle.jet.specs.Jets.{scale_j, mul_j, two_j}
 use Rattle.jet.specs.Planes.{jet_at, jets, twos, first_two}
@@ -82,7 +83,7 @@ module _ (P : List Float) (n : ℕ) (t : Float) (old : List Float) (len : length
       state-near _ _ n t (reduced-is (tau_at P t) (g_at P t) n _ s x) (ln-near (tau_at P t) (g_at P t) n _ s x)
 
   inner : (b : Bool)
-      → passing (cond b (Ok tt) (Err AlphaNotPositive))
+      → passing (outcome_of (cond b (Ok tt) (Err AlphaNotPositive)))
       (state_from (reduced_on (cond b (table_rows (tau_at P t) (g_at P t) n n old) old) x n) (ln_gamma_on (cond b (table_rows (tau_at P t) (g_at P t) n n old) old) x n) n t)
       ≡ need b 24 (state_from (reduced_j (tau_at P t) (g_at P t) x n) (ln_gamma_j (tau_at P t) (g_at P t) x n) n t)
   unfolding passing need bind
@@ -90,6 +91,6 @@ module _ (P : List Float) (n : ℕ) (t : Float) (old : List Float) (len : length
   inner false = refl
 
   -- the law: a table and a result of `tables` carry the parameters
-  pub nrtl_filled : nrtl_on (table_of P n t old) (alphas_of P n t) n t x ≡ nrtl_of P n t x
+  pub nrtl_filled : nrtl_on (table_of P n t old) (outcome_of (alphas_of P n t)) n t x ≡ nrtl_of P n t x
   unfolding nrtl_on nrtl_of table_of alphas_of
   nrtl_filled = rw (inner (alphas_right P t n))

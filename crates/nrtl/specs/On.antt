@@ -1,8 +1,6 @@
 -- NRTL's excess state of any table of planes. Assumes nothing.
-use Rattle.std.specs.Prelude.{ℕ, List, Float, Result}
+use Rattle.std.specs.Prelude.{ℕ, List, Float}
 use Rattle.floats.specs.Outcome.{Out, bind}
-use Rattle.outcome.specs.declared.Refusal.{Refusal}
-use Rattle.outcome.specs.Refused.{outcome_of}
 use Rattle.jet.specs.declared.Jet.{Jet}
 use Rattle.jet.specs.Jets.{div_j}
 use Rattle.jet.specs.Planes.{jets, twos, first_two}
@@ -30,8 +28,8 @@ abbrev pub reduced_on : List Float → (ℕ → Float) → ℕ → Jet
 reduced_on m x n = gibbs_from (r_on m x n) x n
 
 -- go on if the tables passed, else refuse as they did
-unfoldable pub passing : {A : Type 0} → Result (Unit {0}) Refusal → Out A → Out A
-passing alphas next = bind (outcome_of alphas) (λ _. next)
+unfoldable pub passing : {A : Type 0} → Out (Unit {0}) → Out A → Out A
+passing alphas next = bind alphas (λ _. next)
 
-unfoldable pub nrtl_on : List Float → Result (Unit {0}) Refusal → ℕ → Float → (ℕ → Float) → Out Excess
+unfoldable pub nrtl_on : List Float → Out (Unit {0}) → ℕ → Float → (ℕ → Float) → Out Excess
 nrtl_on m alphas n t x = with_state t x n (passing alphas (state_from (reduced_on m x n) (ln_gamma_on m x n) n t))

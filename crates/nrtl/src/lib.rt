@@ -8,7 +8,8 @@
 ghost use Rattle.std.specs.Prelude.{◌≡◌, ◌≤◌, ◌<◌, ◌+◌, ◌*◌};
 ghost use Rattle.floats.specs.Vector.{at, fill_from, places, zeros8};
 ghost use Rattle.excess.specs.State.{state_from};
-ghost use Rattle.excess.specs.Answers.{Gives};
+ghost use Rattle.outcome.specs.Refused.{outcome_by};
+ghost use Rattle.excess.specs.Answers.{Gives, GivesBy};
 ghost use Rattle.excess.specs.Steps.{jet_of, Side, GammasTo};
 ghost use Rattle.jet.specs.Jets.{scale_j};
 ghost use Rattle.jet.specs.declared.Jet.{Jet};
@@ -22,7 +23,7 @@ use excess::Energies;
 use floats::Count;
 use jet::Jet;
 use nrtl_tables::{G_PLANE, H_PLANE, TAU_PLANE};
-use outcome::Refusal;
+use outcome::{Reason, Refusal};
 use thermo_types::Temperature;
 
 // ---- lanes: Jets of the solvents side by side, entry i of plane k at k * 8 + i
@@ -304,19 +305,20 @@ fn clear_past(m: Count, ln_gamma: &mut [f64; 8], slopes: &mut [f64; 8])
 
 // ln γ and slopes (1/K), 0.0 past n, and the energies at t and the mole fractions x, from a table and what `tables` said
 // of its α, which is asked after the composition.
-pub fn excess(
+pub fn excess<E: Reason>(
     table: &[f64; 512],
-    alphas: Result<(), Refusal>,
+    alphas: Result<(), E>,
     n: usize,
     t: Temperature,
     x: &[f64; 8],
     ln_gamma: &mut [f64; 8],
     slopes: &mut [f64; 8],
-) -> Result<Energies, Refusal>
-    ensures { Gives (nrtl_on table.now alphas (places n) t.0 (at x.now)) result ln_gamma.new slopes.new }
+) -> Result<Energies, E>
+    ensures { GivesBy E.said (nrtl_on table.now (outcome_by E.said alphas) (places n) t.0 (at x.now)) result ln_gamma.new slopes.new }
 {
     excess::clear(ln_gamma, slopes);
-    excess::with_state(t, x, n).and(alphas)?;
+    excess::with_state(t, x, n)?;
+    alphas?;
     let m = Count::of(n);
-    Liquid { table, x, m }.state_by_count(t, ln_gamma, slopes)
+    Ok(Liquid { table, x, m }.state_by_count(t, ln_gamma, slopes)?)
 }

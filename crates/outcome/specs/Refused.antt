@@ -46,12 +46,18 @@ number BookModel = 37
 number BookVersion = 38
 number QueueQuestions = 39
 
--- a result as an outcome
-abbrev pub outcome_of : {A : Type 0} → Result A Refusal → Out A
-outcome_of (Ok a) = ok a
-outcome_of (Err r) = no (number r)
+-- a result as an outcome, its no by the number that it says
+abbrev pub outcome_by : {A E : Type 0} → (E → ℕ) → Result A E → Out A
+outcome_by said (Ok a) = ok a
+outcome_by said (Err e) = no (said e)
 
--- what a call gives in C: 0, or the refusal's number
+abbrev pub outcome_of : {A : Type 0} → Result A Refusal → Out A
+outcome_of r = outcome_by number r
+
+-- what a call gives in C: 0, or the number
+abbrev pub number_by : {A E : Type 0} → (E → ℕ) → Result A E → ℕ
+number_by said (Ok a) = 0
+number_by said (Err e) = said e
+
 abbrev pub number_in : {A : Type 0} → Result A Refusal → ℕ
-number_in (Ok a) = 0
-number_in (Err r) = number r
+number_in r = number_by number r

@@ -1,7 +1,9 @@
 // The refusals: the questions of docs/FORMAT.md, each by its name and number.
 #![tactic(auto)]
 
-ghost use Rattle.std.specs.Prelude.{◌≡◌};
+ghost use Rattle.std.proofs.Common.{rules};
+ghost use Rattle.std.specs.Prelude.{◌≡◌, ℕ};
+ghost use Rattle.outcome.specs.declared.Refusal.{Refusal};
 ghost use Rattle.outcome.specs.Refused.{number, number_in};
 
 // The question that was answered no.
@@ -54,6 +56,25 @@ impl From<Refusal> for u64 {
     fn from(refusal: Refusal) -> u64 {
         refusal as u64
     }
+}
+
+// What a call says with its no: a refusal, or numbers of the caller's own among which each refusal has its number.
+pub trait Reason: From<Refusal> + Copy {
+    ghost said: { Self → ℕ };
+
+    ghost of_refusal: { (refusal : Refusal) (reason : Self) → Self.from_gives refusal reason → said reason ≡ number refusal };
+}
+
+impl Reason for Refusal {
+    ghost said = { number };
+
+    ghost of_refusal = { λ a b p. Prim.search rules };
+}
+
+impl Reason for u64 {
+    ghost said = { λ n. n };
+
+    ghost of_refusal = { λ a b p. p };
 }
 
 // What a call gives in C: 0, or the refusal's number.

@@ -148,7 +148,7 @@ module _ (book : List ℕ) (version n : ℕ) (question : List ℕ) where
 
     module _ (left : ℕ) where
       -- it doesn't fit: put off, and nothing is taken
-      module _ {t : Tabled} {table ps : List Float} (h : Readied (mixture_of book n) 7 q.temperature q.pressure (Ok t) table ps) (l : left < most_evaluations n q.options q.fractions) where
+      module _ {t : Tabled Refusal} {table ps : List Float} (h : Readied (mixture_of book n) 7 q.temperature q.pressure (Ok t) table ps) (l : left < most_evaluations n q.options q.fractions) where
         some : (run_of book version n question).begun ≡ 0 → ⊥
         some z =
             let a = phases-begun (activity (mixture_of book n) t.t.0) n q.options q.fractions (flash_pressure (mixture_of book n) q h).0 ps in

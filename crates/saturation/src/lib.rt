@@ -7,15 +7,15 @@ ghost use Rattle.floats.specs.Arithmetic.{◌⊕◌, ◌⊖◌};
 ghost use Rattle.floats.specs.Small.{abs_of};
 ghost use Rattle.floats.specs.Vector.{at, vec, places};
 ghost use Rattle.floats.specs.Outcome.{ok, bind};
-ghost use Rattle.outcome.specs.Refused.{outcome_of};
+ghost use Rattle.outcome.specs.Refused.{outcome_of, outcome_by};
 ghost use Rattle.counted.specs.Counted.{uncounted, bind_counted, Counts};
 ghost use Rattle.numerics.specs.Numerics.{exp_of, ln_of};
-ghost use Rattle.thermo_models.specs.Activity.{activity_on};
+ghost use Rattle.thermo_models.specs.Activity.{activity_by_reason};
 ghost use Rattle.saturation.specs.Saturation.{bubble_from, gap_of, residual_with, incipient, change_of, turned, bubble_task, dew_task};
 ghost use Rattle.saturation.specs.Counted.{dew_turn_counted, dew_point_counted, dew_counted};
 
 use floats::Count;
-use outcome::Refusal;
+use outcome::{Reason, Refusal};
 use thermo_models::{ActivityCoefficients, Tabled};
 use thermo_types::ActivityOptions;
 
@@ -156,11 +156,11 @@ pub fn residual_with(
 // ---- dew point: p = 1 / Σ y_i / (γ_i p_i^sat), by successive substitution on ln γ of the incipient liquid
 
 // A vapor y whose dew point is sought, with the tables and the vapor pressures of a temperature.
-// Kept: liquid_stability and tp_flash hold a table and its Tabled in a struct too: each with what its own solver reads beside them.
+// Kept: what the table stands for goes beside it: its type is the caller's, and the borrow checker covers no generic struct that
+// lends.
 #[derive(Clone, Copy)]
 struct Vapor<'a> {
     table: &'a [f64; 512],
-    tabled: Tabled,
     y: &'a [f64; 8],
     ps: &'a [f64; 8],
     m: Count,
@@ -193,10 +193,10 @@ impl Vapor<'_> {
     }
 
     // A turn from ln γ: what `activity` refuses at the incipient liquid, then 25 where change or pressure isn't finite.
-    fn turn(self, lg: &[f64; 8], begun: &mut u64) -> Result<DewTurn, Refusal>
+    fn turn<E: Reason>(self, s: Tabled<E>, lg: &[f64; 8], begun: &mut u64) -> Result<DewTurn, E>
         ensures { let v = self.entry in
-            Counts begun.old (outcome_of result) begun.new
-            (bind_counted (dew_turn_counted (activity_on v.table.now v.tabled) v.ps.now v.m.n v.y.now lg.now) (λ a. uncounted (ok (turned v.y.now lg.now v.m.n a)))) }
+            Counts begun.old (outcome_by E.said result) begun.new
+            (bind_counted (dew_turn_counted (activity_by_reason E.said v.table.now s) v.ps.now v.m.n v.y.now lg.now) (λ a. uncounted (ok (turned v.y.now lg.now v.m.n a)))) }
     {
         let IncipientLiquid { pressure, liquid } = self.incipient(lg)?;
         counted::begin(begun);
@@ -204,21 +204,27 @@ impl Vapor<'_> {
         // longer.
         let mut ln_gamma = [0.0; 8];
         let mut slopes = [0.0; 8];
-        thermo_models::excess(self.table, self.tabled, &liquid, &mut ln_gamma, &mut slopes)?;
+        thermo_models::excess(self.table, s, &liquid, &mut ln_gamma, &mut slopes)?;
         let change = self.largest_change(&ln_gamma, lg);
         if !(floats::is_finite(change) & floats::is_finite(pressure)) {
-            return Err(Refusal::ResultNotFinite);
+            return Err(E::from(Refusal::ResultNotFinite));
         }
         Ok(DewTurn { change, ln_gamma })
     }
 
     // The dew point of converged ln γ.
-    fn point(self, lg: &[f64; 8], iterations: u64, begun: &mut u64) -> Result<DewPoint, Refusal>
-        ensures { let v = self.entry in Counts begun.old (outcome_of result) begun.new (dew_point_counted (activity_on v.table.now v.tabled) v.ps.now v.m.n v.y.now lg.now iterations) }
+    fn point<E: Reason>(
+        self,
+        s: Tabled<E>,
+        lg: &[f64; 8],
+        iterations: u64,
+        begun: &mut u64,
+    ) -> Result<DewPoint, E>
+        ensures { let v = self.entry in Counts begun.old (outcome_by E.said result) begun.new (dew_point_counted (activity_by_reason E.said v.table.now s) v.ps.now v.m.n v.y.now lg.now iterations) }
     {
         let IncipientLiquid { pressure, liquid } = self.incipient(lg)?;
         counted::begin(begun);
-        let activity = thermo_models::activity(self.table, self.tabled, &liquid)?;
+        let activity = thermo_models::activity(self.table, s, &liquid)?;
         let residual = residual_with(
             &activity.ln_gamma,
             self.ps,
@@ -239,32 +245,31 @@ impl Vapor<'_> {
 
 // The dew point of y, by turns from ln γ = 0 until the change is within the tolerance: 34, what `activity` refuses, 25, and
 // 27 where the limit is used up. `begun` counts the evaluations on.
-pub fn dew_at(
+pub fn dew_at<E: Reason>(
     table: &[f64; 512],
-    s: Tabled,
+    s: Tabled<E>,
     y: &[f64; 8],
     ps: &[f64; 8],
     o: ActivityOptions,
     begun: &mut u64,
-) -> Result<DewPoint, Refusal>
-    ensures { Counts begun.old (outcome_of result) begun.new (dew_counted (activity_on table.now s) ps.now (places s.n) o y.now) }
+) -> Result<DewPoint, E>
+    ensures { Counts begun.old (outcome_by E.said result) begun.new (dew_counted (activity_by_reason E.said table.now s) ps.now (places s.n) o y.now) }
 {
     let vapor = Vapor {
         table,
-        tabled: s,
         y,
         ps,
         m: Count::of(s.n),
     };
     let mut lg = [0.0; 8];
     for done in 0..o.max_iterations {
-        let turn = vapor.turn(&lg, begun)?;
+        let turn = vapor.turn(s, &lg, begun)?;
         lg = turn.ln_gamma;
         if turn.change <= o.tolerance {
-            return vapor.point(&lg, done + 1, begun);
+            return vapor.point(s, &lg, done + 1, begun);
         }
     }
-    Err(Refusal::NotConverged)
+    Err(E::from(Refusal::NotConverged))
 }
 
 // ---- tasks 2 and 3
@@ -272,19 +277,19 @@ pub fn dew_at(
 // Bubble pressure of the feed x, p = Σ x_i γ_i p_i^sat, from the tables and the vapor pressures of a temperature: what
 // `activity` refuses, 25, and 23 where the pressure isn't in the domain.
 #[tactic(auto, unfolding(crate::specs::Saturation::bubble_task, crate::specs::Saturation::bubble_at, floats::specs::Outcome::bind, floats::specs::Outcome::need, crate::specs::Saturation::residual))]
-pub fn activity_bubble_pressure(
+pub fn activity_bubble_pressure<E: Reason>(
     table: &[f64; 512],
-    s: Tabled,
+    s: Tabled<E>,
     x: &[f64; 8],
     ps: &[f64; 8],
-) -> Result<ActivitySaturation, Refusal>
-    ensures { outcome_of result ≡ bubble_task (activity_on table.now s) ps.now (places s.n) s.t.0 x.now }
+) -> Result<ActivitySaturation, E>
+    ensures { outcome_by E.said result ≡ bubble_task (activity_by_reason E.said table.now s) ps.now (places s.n) s.t.0 x.now }
 {
     let activity = thermo_models::activity(table, s, x)?;
     let lg = &activity.ln_gamma;
     let BubblePoint { pressure, vapor } = bubble_from(x, lg, ps, s.n)?;
     if !thermo_models::check_pressure(pressure) {
-        return Err(Refusal::PressureOutside);
+        return Err(E::from(Refusal::PressureOutside));
     }
     let residual = residual_with(lg, ps, pressure, x, &vapor, s.n)?;
     Ok(ActivitySaturation {
@@ -299,14 +304,14 @@ pub fn activity_bubble_pressure(
 
 // Dew pressure of the feed y, from the same: 34, what `activity` refuses at an incipient liquid, 25, 27, 23.
 #[tactic(auto, unfolding(crate::specs::Saturation::dew_task, floats::specs::Outcome::bind, floats::specs::Outcome::need))]
-pub fn activity_dew_pressure(
+pub fn activity_dew_pressure<E: Reason>(
     table: &[f64; 512],
-    s: Tabled,
+    s: Tabled<E>,
     y: &[f64; 8],
     ps: &[f64; 8],
     o: ActivityOptions,
-) -> Result<ActivitySaturation, Refusal>
-    ensures { outcome_of result ≡ dew_task (activity_on table.now s) ps.now (places s.n) o s.t.0 y.now }
+) -> Result<ActivitySaturation, E>
+    ensures { outcome_by E.said result ≡ dew_task (activity_by_reason E.said table.now s) ps.now (places s.n) o s.t.0 y.now }
 {
     let mut begun = 0;
     let DewPoint {
@@ -317,7 +322,7 @@ pub fn activity_dew_pressure(
         ..
     } = dew_at(table, s, y, ps, o, &mut begun)?;
     if !thermo_models::check_pressure(pressure) {
-        return Err(Refusal::PressureOutside);
+        return Err(E::from(Refusal::PressureOutside));
     }
     Ok(ActivitySaturation {
         temperature: s.t.value(),

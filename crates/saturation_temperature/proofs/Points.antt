@@ -9,6 +9,7 @@ use Rattle.counted.specs.Counted.{Counts}
 use Rattle.thermo_types.specs.declared.ActivityOptions.{ActivityOptions}
 use Rattle.thermo_types.specs.declared.Temperature.{Temperature}
 use Rattle.thermo_types.specs.Quantities.{positive_of, kelvin}
+use Rattle.outcome.specs.declared.Refusal.{Refusal}
 use Rattle.thermo_models.specs.declared.Tabled.{Tabled}
 use Rattle.thermo_models.specs.Model.{Activity, Pures, Activities, Liquids}
 use Rattle.thermo_models.specs.Activity.{activity_on, activity_of, Stands}
@@ -38,7 +39,7 @@ positive_is {t} {T} r e =
     sym (got (need_inv _ r _ (need_inv _ r _ e).1).1)
 
 -- ---- the activity and the dew point on the table w of the parameters P are those of the book; s is what the table stands for
-module _ (book : List ℕ) (P : List Float) (n : ℕ) (few : n ≤ 8) (z : List Float) (T : Temperature) {s : Tabled} {w : List Float}
+module _ (book : List ℕ) (P : List Float) (n : ℕ) (few : n ≤ 8) (z : List Float) (T : Temperature) {s : Tabled Refusal} {w : List Float}
     (h : Stands book P (places n) T s (replicate 512 0f) w) where
   pub feed-is : {a : Out Activity} → a ≡ activity_on w s z → activity_of book P n T.0 z ≡ a
   feed-is e = sym (rw (stands_fresh h, places_is n few) at e)

@@ -10,7 +10,7 @@ use Rattle.std.proofs.lemmas.List.{drop-append-le}
 use Rattle.std.specs.Prelude.{Result, Ok, Err}
 use Rattle.std.specs.Result.{IsErrAnd}
 use Rattle.floats.specs.Outcome.{Out, ok, no}
-use Rattle.outcome.specs.Refused.{number, number_in}
+use Rattle.outcome.specs.Refused.{number, number_by, number_in}
 use Rattle.outcome.specs.declared.Refusal.{Refusal}
 use Rattle.blocks.specs.declared.Rule.{Rule}
 use Rattle.blocks.specs.Bytes.{word_at, put, stored, row_to, block_bytes}
@@ -31,10 +31,21 @@ pub refuses : {o : Out (List ℕ)} {r : ℕ} {old : List ℕ} → o ≡ no r →
 unfolding number_of written
 refuses e = record { number = rw e; bytes = rw e }
 
--- the refusal that a `?` met is the one that is returned
+module _ {A E : Type 0} {o : Out (List ℕ)} (said : E → ℕ) where
+  -- the reason that a `?` met is the one that is returned
+  pub quits_reason : (e : E) (r : Result A E) {old : List ℕ} → IsErrAnd r (λ y. y ≡ e) → o ≡ no (said e) → Answers o (number_by said r) old old
+  quits_reason e (Err y) h q = refuses (q ∙ ap (λ (x : E). no (said x)) (sym h))
+  quits_reason e (Ok a) h q = absurd h
+
+  -- so is one made of a refusal, whose number it says
+  pub quits_refusal : {Made : Refusal → E → Type 0} (of_refusal : (e : Refusal) (y : E) → Made e y → said y ≡ number e) (e : Refusal) (r : Result A E) {old : List ℕ}
+      → IsErrAnd r (λ y. Made e y) → o ≡ no (number e) → Answers o (number_by said r) old old
+  quits_refusal of_refusal e (Err y) h q = refuses (q ∙ ap no (sym (of_refusal e y h)))
+  quits_refusal of_refusal e (Ok a) h q = absurd h
+
+-- the refusal, where that is what is returned
 pub quits : {A : Type 0} {o : Out (List ℕ)} (e : Refusal) (r : Result A Refusal) {old : List ℕ} → IsErrAnd r (λ y. y ≡ e) → o ≡ no (number e) → Answers o (number_in r) old old
-quits e (Err y) h q = refuses (q ∙ ap (λ (x : Refusal). no (number x)) (sym h))
-quits e (Ok a) h q = absurd h
+quits e r h q = quits_reason number e r h q
 
 -- ---- an answer in the front of a slice is one in the slice
 front : (o : Out (List ℕ)) (old new : List ℕ) (k : ℕ) → k ≤ length old → length new ≡ k → new ≡ written o (take k old) → new ++ drop k old ≡ written o old

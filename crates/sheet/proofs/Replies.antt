@@ -18,7 +18,7 @@ use Rattle.excess.specs.State.{Excess}
 use Rattle.excess.specs.Answers.{energies_of, excess_ln_gammas, excess_slopes}
 use Rattle.thermo_models.specs.declared.Tabled.{Tabled}
 use Rattle.thermo_models.specs.Model.{Activity}
-use Rattle.thermo_models.specs.Activity.{excess_on, activity_on}
+use Rattle.thermo_models.specs.Activity.{excess_by_reason, activity_by_reason}
 use Rattle.thermo_models.specs.Mixture.{Mixture}
 use Rattle.rachford_rice.specs.declared.RachfordRiceOutcome.{RachfordRiceOutcome}
 use Rattle.rachford_rice.specs.declared.RachfordRiceOutcome.TheVariants.{LiquidOnly, VaporOnly, TwoPhase}
@@ -37,7 +37,7 @@ use Rattle.replies.specs.Blocks.{Answer}
 use Rattle.replies.specs.Answers.{excess_block, stability_block, flash_block, rice_block}
 use Rattle.sheet.specs.Asked.{split}
 use Rattle.sheet.specs.Tasks.{alone, excess_found, saturated, task1, task2, task3, task6, task7_counted, task7}
-use Rattle.sheet.specs.Ready.{pressures_in, flash_pressures, TableOf}
+use Rattle.sheet.specs.Ready.{pressures_in, flash_pressures, TableBy}
 use Rattle.sheet.proofs.Flashes.{flashed, told_found}
 use Rattle.sheet.proofs.Shared.{table-activity, bubble_from_lem, dew_from, flash_from}
 
@@ -58,13 +58,13 @@ excess-ok (ok a) e g s = let z = same e in rw (z, g, s)
     same e = cc
 excess-ok (no m) e g s = absurd (refused (sym e))
 
-module _ (q : Question) {m : Mixture} {s : Tabled} {table : List Float} (h : TableOf m s table) where
-  pub excess_refused : {r : ℕ} → no r ≡ energies_of (excess_on table s q.fractions) → task1 m q s.t.0 ≡ no r
+module _ {E : Type 0} {said : E → ℕ} (q : Question) {m : Mixture} {s : Tabled E} {table : List Float} (h : TableBy said m s table) where
+  pub excess_refused : {r : ℕ} → no r ≡ energies_of (excess_by_reason said table s q.fractions) → task1 m q s.t.0 ≡ no r
   unfolding task1
   excess_refused e = bind-no _ (sym (h.excess q.fractions) ∙ excess-no _ e)
 
-  module _ {e : Energies} {lg sl : List Float} (a : ok e ≡ energies_of (excess_on table s q.fractions)) (b : lg ≡ excess_ln_gammas (excess_on table s q.fractions))
-      (c : sl ≡ excess_slopes (excess_on table s q.fractions)) where
+  module _ {e : Energies} {lg sl : List Float} (a : ok e ≡ energies_of (excess_by_reason said table s q.fractions)) (b : lg ≡ excess_ln_gammas (excess_by_reason said table s q.fractions))
+      (c : sl ≡ excess_slopes (excess_by_reason said table s q.fractions)) where
     found_lem : m.excess s.t.0 q.fractions ≡ ok (found_excess e lg sl)
     found_lem = sym (h.excess q.fractions) ∙ excess-ok _ a b c
 
@@ -78,22 +78,22 @@ module _ (q : Question) {m : Mixture} {s : Tabled} {table : List Float} (h : Tab
 
   -- ---- 2 and 3
   module _ {ps : List Float} (w : pressures_in (m.liquids s.t.0) ≡ ok ps) where
-    pub bubble-at : task2 m q s.t.0 ≡ saturated (bubble_task (activity_on table s) ps (places s.n) s.t.0 q.fractions)
+    pub bubble-at : task2 m q s.t.0 ≡ saturated (bubble_task (activity_by_reason said table s) ps (places s.n) s.t.0 q.fractions)
     unfolding task2
     bubble-at = rw (bubble_from_lem m s.t.0 q.fractions w, table-activity h, h.count)
 
-    pub dew-at : task3 m q s.t.0 ≡ saturated (dew_task (activity_on table s) ps (places s.n) q.options s.t.0 q.fractions)
+    pub dew-at : task3 m q s.t.0 ≡ saturated (dew_task (activity_by_reason said table s) ps (places s.n) q.options s.t.0 q.fractions)
     unfolding task3
     dew-at = rw (dew_from m q.options s.t.0 q.fractions w, table-activity h, h.count)
 
   -- ---- 6 and 7
-  pub stability-at : task6 m q s.t.0 ≡ bind (stability_of (activity_on table s) (places s.n) q.options q.fractions) (λ f. ok (record { block = stability_block f.stable f.count; trials = f.trials }))
+  pub stability-at : task6 m q s.t.0 ≡ bind (stability_of (activity_by_reason said table s) (places s.n) q.options q.fractions) (λ f. ok (record { block = stability_block f.stable f.count; trials = f.trials }))
   unfolding task6
   stability-at = rw (table-activity h, h.count)
 
   module _ (p : Float) {ps : List Float} (w : flash_pressures m s.t.0 p ≡ ok ps) where
     abbrev phases : Counted Flash
-    phases = phases_counted (activity_on table s) (places s.n) q.options q.fractions p ps
+    phases = phases_counted (activity_by_reason said table s) (places s.n) q.options q.fractions p ps
 
     pub flash-at : task7_counted m q s.t.0 p ≡ flashed s.t.0 p phases
     unfolding task7_counted

@@ -22,7 +22,7 @@ use Rattle.records.specs.Offered.{with_pair}
 use Rattle.records.specs.Parameters.{parameters_of}
 use Rattle.thermo_models.specs.declared.Tabled.{Tabled}
 use Rattle.thermo_models.specs.Model.{Pures, pressure_in_domain}
-use Rattle.thermo_models.specs.Activity.{activity_in, activity_on, excess_of, Stands}
+use Rattle.thermo_models.specs.Activity.{activity_in, activity_by_reason, excess_of, Stands}
 use Rattle.thermo_models.specs.Mixture.{Mixture, activity, mixture_with, mixture_of}
 use Rattle.thermo_models.proofs.Offered.{copy_mixture}
 use Rattle.saturation.proofs.Answers.{stands-places, stands-kelvin}
@@ -32,7 +32,7 @@ use Rattle.tp_flash.specs.Counted.{phases_counted, flash_counted}
 use Rattle.question.specs.declared.Question.{Question}
 use Rattle.replies.specs.Blocks.{Answer}
 use Rattle.sheet.specs.Tasks.{saturated, task1, task2, task3, task6, task7_counted, task7, flash_task, task_at}
-use Rattle.sheet.specs.Ready.{pressures_in, flash_pressures, pressures_for, TableOf, Readied}
+use Rattle.sheet.specs.Ready.{pressures_in, flash_pressures, pressures_for, TableBy, TableOf, Readied}
 use Rattle.sheet.proofs.Flashes.{given, stopped, told_none, task7-is, flash_task_at}
 
 -- ---- temperatures and pressures
@@ -70,12 +70,12 @@ module _ (o : Out Float) where
       pick (no m) e = absurd (refused (sym e))
 
 -- ---- a table that stands for a mixture
-pub table-activity : {m : Mixture} {s : Tabled} {table : List Float} → TableOf m s table → activity_on table s ≡ activity m s.t.0
-unfolding activity_on
+pub table-activity : {E : Type 0} {said : E → ℕ} {m : Mixture} {s : Tabled E} {table : List Float} → TableBy said m s table → activity_by_reason said table s ≡ activity m s.t.0
+unfolding activity_by_reason
 table-activity h = fun_ext (λ x. ap activity_in (h.excess x))
 
 -- one that `tables` made of the book's parameters with a pair offered
-pub tabled : (book offered : List ℕ) (n : ℕ) {P old table : List Float} {t : Temperature} {s : Tabled} → P ≡ parameters_of (with_pair (places n) book offered) (places n)
+pub tabled : (book offered : List ℕ) (n : ℕ) {P old table : List Float} {t : Temperature} {s : Tabled Refusal} → P ≡ parameters_of (with_pair (places n) book offered) (places n)
     → Stands book P (places n) t s old table → length old ≡ 512 → (s.t ≡ t) × TableOf (mixture_of (with_pair (places n) book offered) (places n)) s table
 tabled book offered n {P} {t = t} {s = s} e h l =
     (stands-kelvin h, rw (copy_mixture (places n) book offered, ← e) (record { count = stands-places n h; excess = λ x. h.agrees l x ∙ later x }))
@@ -184,7 +184,7 @@ module _ (m : Mixture) (q : Question) where
       gone (positive_of q.temperature 13) (pressures_for m 7 q.pressure) _ (h.refused _ refl) (λ t d.
       gone (positive_of q.pressure 14) (flash_pressures m t) _ d (λ p b. flash-gone t p b))
 
-  module _ {s : Tabled} {table ps : List Float} (h : Readied m 7 q.temperature q.pressure (Ok s) table ps) where
+  module _ {s : Tabled Refusal} {table ps : List Float} (h : Readied m 7 q.temperature q.pressure (Ok s) table ps) where
     -- the pressure that its vapor pressures passed
     pub flash_pressure : (p : Float) × (positive_of q.pressure 14 ≡ ok p) × (flash_pressures m s.t.0 p ≡ ok ps)
     unfolding pressures_for choose
@@ -207,7 +207,7 @@ pressures-copied n book offered task p t h = rw (copy_mixture n book offered) (s
 
 -- ---- made ready
 module _ (m : Mixture) (task : ℕ) (T p : Float) {table ps : List Float} where
-  pub made-no : (e : Refusal) (r : Result Tabled Refusal) → IsErrAnd r (λ y. y ≡ e) → bind (positive_of T 13) (pressures_for m task p) ≡ no (number e) → Readied m task T p r table ps
+  pub made-no : (e : Refusal) (r : Result (Tabled Refusal) Refusal) → IsErrAnd r (λ y. y ≡ e) → bind (positive_of T 13) (pressures_for m task p) ≡ no (number e) → Readied m task T p r table ps
   made-no e (Err y) h q = record {
     refused = λ d k. let z : d ≡ e = cc in q ∙ ap (λ (x : Refusal). no (number x)) (sym z);
     temperature = λ s k. cc;
@@ -216,7 +216,7 @@ module _ (m : Mixture) (task : ℕ) (T p : Float) {table ps : List Float} where
   }
   made-no e (Ok s) h q = absurd h
 
-  pub made-ok : {s : Tabled} → positive_of T 13 ≡ ok s.t.0 → pressures_for m task p s.t.0 ≡ ok ps → TableOf m s table → Readied m task T p (Ok s) table ps
+  pub made-ok : {s : Tabled Refusal} → positive_of T 13 ≡ ok s.t.0 → pressures_for m task p s.t.0 ≡ ok ps → TableOf m s table → Readied m task T p (Ok s) table ps
   made-ok {s} a b c = record {
     refused = λ d k. cc;
     temperature = λ u k. let z : u ≡ s = cc in rw z a;

@@ -7,7 +7,7 @@ use Rattle.outcome.specs.declared.Refusal.{Refusal}
 use Rattle.thermo_types.specs.Quantities.{positive_of}
 use Rattle.thermo_models.specs.declared.Tabled.{Tabled}
 use Rattle.thermo_models.specs.Model.{Pures, pressure_in_domain}
-use Rattle.thermo_models.specs.Activity.{excess_on}
+use Rattle.thermo_models.specs.Activity.{excess_by_reason}
 use Rattle.thermo_models.specs.Mixture.{Mixture}
 
 -- the vapor pressures of the pure liquids
@@ -26,14 +26,22 @@ module _ (m : Mixture) where
       (choose (eqb task 2 || eqb task 3) (pressures_in (m.liquids t))
       (bind (positive_of p 14) (flash_pressures t)))
 
--- a table and what it stands for, which is the mixture at their temperature
-pub record TableOf (m : Mixture) (s : Tabled) (table : List Float) : Type 0 where
-  pub count : places s.n ≡ m.n
-  pub excess : (x : List Float) → excess_on table s x ≡ m.excess s.t.0 x
+module _ {E : Type 0} (said : E → ℕ) where
+  -- a table and what it stands for, which is the mixture at their temperature
+  pub record TableBy (m : Mixture) (s : Tabled E) (table : List Float) : Type 0 where
+    pub count : places s.n ≡ m.n
+    pub excess : (x : List Float) → excess_by_reason said table s x ≡ m.excess s.t.0 x
 
--- what was made ready for a task at T, 7 at p too
-pub record Readied (m : Mixture) (task : ℕ) (T p : Float) (r : Result Tabled Refusal) (table ps : List Float) : Type 0 where
-  pub refused : (e : Refusal) → r ≡ Err e → bind (positive_of T 13) (pressures_for m task p) ≡ no (number e)
-  pub temperature : (s : Tabled) → r ≡ Ok s → positive_of T 13 ≡ ok s.t.0
-  pub pressures : (s : Tabled) → r ≡ Ok s → pressures_for m task p s.t.0 ≡ ok ps
-  pub tables : (s : Tabled) → r ≡ Ok s → TableOf m s table
+  -- what was made ready for a task at T, 7 at p too
+  pub record ReadiedBy (m : Mixture) (task : ℕ) (T p : Float) (r : Result (Tabled E) E) (table ps : List Float) : Type 0 where
+    pub refused : (e : E) → r ≡ Err e → bind (positive_of T 13) (pressures_for m task p) ≡ no (said e)
+    pub temperature : (s : Tabled E) → r ≡ Ok s → positive_of T 13 ≡ ok s.t.0
+    pub pressures : (s : Tabled E) → r ≡ Ok s → pressures_for m task p s.t.0 ≡ ok ps
+    pub tables : (s : Tabled E) → r ≡ Ok s → TableBy m s table
+
+-- with a refusal, as `make_ready` has it
+abbrev pub TableOf : Mixture → Tabled Refusal → List Float → Type 0
+TableOf m s table = TableBy number m s table
+
+abbrev pub Readied : Mixture → ℕ → Float → Float → Result (Tabled Refusal) Refusal → List Float → List Float → Type 0
+Readied m task T p r table ps = ReadiedBy number m task T p r table ps

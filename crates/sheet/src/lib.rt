@@ -4,7 +4,7 @@
 ghost use Rattle.std.specs.Prelude.{◌≡◌, cond, true, List, ℕ, ◌≤◌, ◌<◌, ◌+◌, ◌*◌, length, Float, Ok};
 ghost use Rattle.floats.specs.Vector.{places};
 ghost use Rattle.floats.specs.Outcome.{ok, bind};
-ghost use Rattle.outcome.specs.Refused.{outcome_of, number_in};
+ghost use Rattle.outcome.specs.Refused.{outcome_of, outcome_by, number_in, number_by};
 ghost use Rattle.counted.specs.Counted.{count_word};
 ghost use Rattle.thermo_types.specs.Quantities.{positive_of};
 ghost use Rattle.book.specs.Book.{rule_of};
@@ -14,14 +14,14 @@ ghost use Rattle.thermo_models.specs.Mixture.{mixture_with, mixture_of};
 ghost use Rattle.question.specs.Inputs.{is_task, task_number, needs_temperature};
 ghost use Rattle.replies.specs.Blocks.{answer_room, answer_bytes};
 ghost use Rattle.sheet.specs.Tasks.{alone, saturated, task1, task6, task7, task7_counted, flash_task, task_at, task_under, task_of};
-ghost use Rattle.sheet.specs.Ready.{pressures_in, flash_pressures, pressures_for, TableOf, Readied};
+ghost use Rattle.sheet.specs.Ready.{pressures_in, flash_pressures, pressures_for, TableBy, TableOf, ReadiedBy, Readied};
 ghost use Rattle.sheet.specs.Asked.{mixture_in, bytes_for, split};
 ghost use Rattle.sheet.specs.Sheet.{answer_to, roomy, sheet_from, sheet_of, Answers};
 
 use blocks::Rule;
 use book::Head;
 use liquid_stability::LiquidStabilityTrial;
-use outcome::Refusal;
+use outcome::{Reason, Refusal};
 use question::{Question, Task, read_question};
 use rachford_rice::RachfordRice;
 use replies::{
@@ -43,13 +43,12 @@ struct Source<'a> {
     n: usize,
 }
 
-// Tables, what they stand for, and the vapor pressures that the task reads.
+// Tables, and the vapor pressures that the task reads. What the tables stand for goes beside it, as in crate saturation.
 // Kept: no ghost field says that the tables stand for the mixture: `answer_ready` is asked with any, and only its ensures has that
 // as a premise.
 #[derive(Clone, Copy)]
 struct Made<'a> {
     table: &'a [f64; 512],
-    at: Tabled,
     ps: &'a [f64; 8],
 }
 
@@ -215,19 +214,24 @@ impl<'a> Asked<'a> {
     }
 
     // Task 1: 25 where g^E / RT isn't finite.
-    fn activity(self, made: Made, out: &mut [u8; ANSWER_ROOM]) -> Result<(), Refusal>
-        ensures { TableOf (mixture_in self.entry.source) made.entry.at made.entry.table.now → Answers (bytes_for self.entry (task1 (mixture_in self.entry.source) self.entry.q.now made.entry.at.t.0)) (number_in result) out.old out.new }
+    fn activity<E: Reason>(
+        self,
+        made: Made,
+        at: Tabled<E>,
+        out: &mut [u8; ANSWER_ROOM],
+    ) -> Result<(), E>
+        ensures { TableBy E.said (mixture_in self.entry.source) at made.entry.table.now → Answers (bytes_for self.entry (task1 (mixture_in self.entry.source) self.entry.q.now at.t.0)) (number_by E.said result) out.old out.new }
     {
         let Source { book, offered, n } = self.source;
         let x = &self.q.fractions;
         let mut ln_gamma = [0.0; 8];
         let mut slopes = [0.0; 8];
-        let e = thermo_models::excess(made.table, made.at, x, &mut ln_gamma, &mut slopes)?;
+        let e = thermo_models::excess(made.table, at, x, &mut ln_gamma, &mut slopes)?;
         if !floats::is_finite(e.reduced) {
-            return Err(Refusal::ResultNotFinite);
+            return Err(E::from(Refusal::ResultNotFinite));
         }
-        let v = thermo_models::validity(book, offered, n, made.at.t, x);
-        let b = excess_block(made.at.t.value(), e, v, ln_gamma, slopes);
+        let v = thermo_models::validity(book, offered, n, at.t, x);
+        let b = excess_block(at.t.value(), e, v, ln_gamma, slopes);
         self.write_alone(b, out);
         Ok(())
     }
@@ -235,26 +239,31 @@ impl<'a> Asked<'a> {
     // Tasks 2 to 5, from what their solver found.
     // Kept: two lines, as `split`: one function over the block's would need clauses that the block's can be called, what it gives
     // and that this has no trials; and these two still, for their five callers.
-    fn saturated(
+    fn saturated<E: Reason>(
         self,
-        found: Result<ActivitySaturation, Refusal>,
+        found: Result<ActivitySaturation, E>,
         out: &mut [u8; ANSWER_ROOM],
-    ) -> Result<(), Refusal>
-        ensures { Answers (bytes_for self.entry (saturated (outcome_of found))) (number_in result) out.old out.new }
+    ) -> Result<(), E>
+        ensures { Answers (bytes_for self.entry (saturated (outcome_by E.said found))) (number_by E.said result) out.old out.new }
     {
         self.write_alone(saturation_block(found?), out);
         Ok(())
     }
 
     // Task 6.
-    fn stability(self, made: Made, out: &mut [u8; ANSWER_ROOM]) -> Result<(), Refusal>
-        ensures { TableOf (mixture_in self.entry.source) made.entry.at made.entry.table.now → Answers (bytes_for self.entry (task6 (mixture_in self.entry.source) self.entry.q.now made.entry.at.t.0)) (number_in result) out.old out.new }
+    fn stability<E: Reason>(
+        self,
+        made: Made,
+        at: Tabled<E>,
+        out: &mut [u8; ANSWER_ROOM],
+    ) -> Result<(), E>
+        ensures { TableBy E.said (mixture_in self.entry.source) at made.entry.table.now → Answers (bytes_for self.entry (task6 (mixture_in self.entry.source) self.entry.q.now at.t.0)) (number_by E.said result) out.old out.new }
     {
         let q = self.q;
         let mut begun = 0;
         let found = liquid_stability::liquid_stability(
             made.table,
-            made.at,
+            at,
             q.options,
             &q.fractions,
             &mut begun,
@@ -265,18 +274,19 @@ impl<'a> Asked<'a> {
     }
 
     // Task 7, from the vapor pressures that its T and p have. The evaluations that it began, with a refusal too, go into `begun`.
-    fn flash(
+    fn flash<E: Reason>(
         self,
         made: Made,
+        at: Tabled<E>,
         p: Pressure,
         begun: &mut u64,
         out: &mut [u8; ANSWER_ROOM],
-    ) -> Result<(), Refusal>
-        ensures answers { TableOf (mixture_in self.entry.source) made.entry.at made.entry.table.now → flash_pressures (mixture_in self.entry.source) made.entry.at.t.0 p.0 ≡ ok made.entry.ps.now → Answers (bytes_for self.entry (task7 (mixture_in self.entry.source) self.entry.q.now made.entry.at.t.0 p.0)) (number_in result) out.old out.new }
-        ensures counted { TableOf (mixture_in self.entry.source) made.entry.at made.entry.table.now → flash_pressures (mixture_in self.entry.source) made.entry.at.t.0 p.0 ≡ ok made.entry.ps.now → count_word begun.new ≡ count_word (task7_counted (mixture_in self.entry.source) self.entry.q.now made.entry.at.t.0 p.0).begun }
+    ) -> Result<(), E>
+        ensures answers { TableBy E.said (mixture_in self.entry.source) at made.entry.table.now → flash_pressures (mixture_in self.entry.source) at.t.0 p.0 ≡ ok made.entry.ps.now → Answers (bytes_for self.entry (task7 (mixture_in self.entry.source) self.entry.q.now at.t.0 p.0)) (number_by E.said result) out.old out.new }
+        ensures counted { TableBy E.said (mixture_in self.entry.source) at made.entry.table.now → flash_pressures (mixture_in self.entry.source) at.t.0 p.0 ≡ ok made.entry.ps.now → count_word begun.new ≡ count_word (task7_counted (mixture_in self.entry.source) self.entry.q.now at.t.0 p.0).begun }
         ensures long { length out.new ≡ answer_room }
     {
-        let Made { table, at, ps } = made;
+        let Made { table, ps } = made;
         let q = self.q;
         *begun = 0;
         let f = tp_flash::activity_tp_flash(table, at, q.options, &q.fractions, p, ps, begun)?;
@@ -302,14 +312,19 @@ impl<'a> Asked<'a> {
 
     // Tasks 1, 2, 3, 6 and 7.
     // Kept: a match, the definition by cases.
-    fn task_at(self, made: Made, out: &mut [u8; ANSWER_ROOM]) -> Result<(), Refusal>
-        ensures answers { TableOf (mixture_in self.entry.source) made.entry.at made.entry.table.now → pressures_for (mixture_in self.entry.source) self.entry.q.now.task self.entry.q.now.pressure made.entry.at.t.0 ≡ ok made.entry.ps.now → Answers (bytes_for self.entry (task_at (mixture_in self.entry.source) self.entry.q.now made.entry.at.t.0)) (number_in result) out.old out.new }
+    fn task_at<E: Reason>(
+        self,
+        made: Made,
+        at: Tabled<E>,
+        out: &mut [u8; ANSWER_ROOM],
+    ) -> Result<(), E>
+        ensures answers { TableBy E.said (mixture_in self.entry.source) at made.entry.table.now → pressures_for (mixture_in self.entry.source) self.entry.q.now.task self.entry.q.now.pressure at.t.0 ≡ ok made.entry.ps.now → Answers (bytes_for self.entry (task_at (mixture_in self.entry.source) self.entry.q.now at.t.0)) (number_by E.said result) out.old out.new }
         ensures long { length out.new ≡ answer_room }
     {
-        let Made { table, at, ps } = made;
+        let Made { table, ps } = made;
         let q = self.q;
         match task_or_flash(q.task) {
-            Task::Activity => self.activity(made, out),
+            Task::Activity => self.activity(made, at, out),
             Task::BubblePressure => {
                 self.saturated(activity_bubble_pressure(table, at, &q.fractions, ps), out)
             }
@@ -317,11 +332,11 @@ impl<'a> Asked<'a> {
                 let found = activity_dew_pressure(table, at, &q.fractions, ps, q.options);
                 self.saturated(found, out)
             }
-            Task::Stability => self.stability(made, out),
+            Task::Stability => self.stability(made, at, out),
             _ => {
                 let p = Pressure::new(q.pressure)?;
                 let mut begun = 0;
-                self.flash(made, p, &mut begun, out)
+                self.flash(made, at, p, &mut begun, out)
             }
         }
     }
@@ -339,10 +354,9 @@ impl<'a> Asked<'a> {
             .ready(q.task, q.temperature, q.pressure, &mut table, &mut ps)?;
         let made = Made {
             table: &table,
-            at,
             ps: &ps,
         };
-        self.task_at(made, out)
+        self.task_at(made, at, out)
     }
 
     // Tasks 4 and 5.
@@ -424,25 +438,25 @@ pub fn answer_asked(book: &[u8], n: usize, q: Question, out: &mut [u8]) -> Resul
 }
 
 // The answer to a question that was read, of a task at a temperature, from what was made ready for it: 10, then the task's own.
-pub fn answer_ready(
+pub fn answer_ready<E: Reason>(
     book: &[u8],
     n: usize,
-    made: Result<Tabled, Refusal>,
+    made: Result<Tabled<E>, E>,
     table: &[f64; 512],
     ps: &[f64; 8],
     q: Question,
     out: &mut [u8],
-) -> Result<(), Refusal>
-    ensures answers { needs_temperature q.task ≡ true → Readied (mixture_of book.now (places n)) q.task q.temperature q.pressure made table.now ps.now → Answers (roomy (length out.old) (answer_to book.now (places n) q)) (number_in result) out.old out.new }
+) -> Result<(), E>
+    ensures answers { needs_temperature q.task ≡ true → ReadiedBy E.said (mixture_of book.now (places n)) q.task q.temperature q.pressure made table.now ps.now → Answers (roomy (length out.old) (answer_to book.now (places n) q)) (number_by E.said result) out.old out.new }
     ensures long { length out.new ≡ length out.old }
 {
     let Some(room) = out.first_chunk_mut::<ANSWER_ROOM>() else {
-        return Err(Refusal::AnswerShort);
+        return Err(E::from(Refusal::AnswerShort));
     };
     let at = made?;
     let offered = b"";
     let asked = Asked::of(Source { book, offered, n }, &q);
-    asked.task_at(Made { table, at, ps }, room)
+    asked.task_at(Made { table, ps }, at, room)
 }
 
 // The answer to a flash that was read, from what was made ready for it at its T and p, in a slice with the room for an answer (10).
@@ -467,7 +481,7 @@ pub fn flash_ready(
     let p = Pressure::new(q.pressure)?;
     let offered = b"";
     let asked = Asked::of(Source { book, offered, n }, q);
-    asked.flash(Made { table, at, ps }, p, begun, room)
+    asked.flash(Made { table, ps }, at, p, begun, room)
 }
 
 // The answer to a question, for a book that was opened: 10, then 11 to 21, then the task's own.

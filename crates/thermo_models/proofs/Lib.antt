@@ -6,3 +6,4 @@ pub mod Pairs
 pub mod Unread
 pub mod Offered
 mod Whole
+pub mod Settled

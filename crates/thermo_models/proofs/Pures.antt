@@ -14,7 +14,6 @@ use Rattle.floats.proofs.Folds.{all_cong}
 use Rattle.floats.specs.Arithmetic.{0f}
 use Rattle.floats.specs.Small.{is_finite}
 use Rattle.floats.proofs.Outcomes.{need_yes}
-use Rattle.records.specs.declared.Ancillary.{Ancillary}
 use Rattle.numerics.specs.Numerics.{exp_of}
 use Rattle.thermo_types.specs.Quantities.{lowest_kelvin, highest_kelvin}
 use Rattle.records.specs.Records.{ancillary_of, range_of}

@@ -13,17 +13,17 @@ ghost use Rattle.records.specs.Offered.{offered_place, with_pair};
 ghost use Rattle.records.specs.Parameters.{parameters_of};
 ghost use Rattle.records.specs.Sources.{Reads};
 ghost use Rattle.liquid.specs.Vapor.{vapor_of};
-ghost use Rattle.excess.specs.Answers.{Gives};
-ghost use Rattle.outcome.specs.Refused.{outcome_of};
+ghost use Rattle.excess.specs.Answers.{GivesBy};
+ghost use Rattle.outcome.specs.Refused.{outcome_of, outcome_by};
 ghost use Rattle.thermo_models.specs.Model.{pressure_in_domain};
 ghost use Rattle.thermo_models.specs.Domain.{vapor_record, solvent_covers, temperature_in_domain, pures_to, pure_liquids_of};
-ghost use Rattle.thermo_models.specs.Activity.{excess_on, activity_on, Stands};
+ghost use Rattle.thermo_models.specs.Activity.{excess_by_reason, activity_by_reason, settled_of, Stands};
 ghost use Rattle.thermo_models.specs.Validity.{noted, visited, row_seen, all_seen, status_of, validity_of};
 
 use book::Model;
 use excess::Energies;
 use floats::Count;
-use outcome::Refusal;
+use outcome::{Reason, Refusal};
 use records::{Interval, NrtlPairs, WholePairs, WilsonPairs};
 use thermo_types::{HIGHEST_KELVIN, LOWEST_KELVIN, Temperature};
 
@@ -164,11 +164,12 @@ pub struct ActivityCoefficients {
     pub slopes: [f64; 8],
 }
 
-// What a table stands for: the model, whether its parameters passed, n solvents, T.
+// What a table stands for: the model, whether its parameters passed, n solvents, T. `tables` says a refusal of its α; whoever has
+// them from elsewhere may say a reason of his own, which the solvers hand on.
 #[derive(Clone, Copy)]
-pub struct Tabled {
+pub struct Tabled<E = Refusal> {
     pub model: Model,
-    pub alphas: Result<(), Refusal>,
+    pub alphas: Result<(), E>,
     pub n: usize,
     pub t: Temperature,
 }
@@ -264,34 +265,60 @@ pub fn book_tables(
 // ln γ, slopes and energies of x, from a table and what it stands for.
 // Kept: a table and what it stands for are two parameters of each public call, since `tables` fills the one and gives the other.
 // ln γ and slopes go into the caller's arrays, as in the models: by value they take 26 ns more here, half of an activity of two.
-#[tactic(auto, unfolding(crate::specs::Activity::excess_on, crate::specs::Activity::model_on))]
-pub fn excess(
+#[tactic(auto, unfolding(crate::specs::Activity::excess_by_reason, crate::specs::Activity::model_on))]
+pub fn excess<E: Reason>(
     table: &[f64; 512],
-    s: Tabled,
+    s: Tabled<E>,
     x: &[f64; 8],
     lg: &mut [f64; 8],
     sl: &mut [f64; 8],
-) -> Result<Energies, Refusal>
-    ensures { Gives (excess_on table.now s x.now) result lg.new sl.new }
+) -> Result<Energies, E>
+    ensures { GivesBy E.said (excess_by_reason E.said table.now s x.now) result lg.new sl.new }
 {
     match s.model {
         Model::Nrtl => nrtl::excess(table, s.alphas, s.n, s.t, x, lg, sl),
-        Model::Wilson => wilson::excess(table, s.n, s.t, x, lg, sl),
+        Model::Wilson => Ok(wilson::excess(table, s.n, s.t, x, lg, sl)?),
     }
 }
 
 // ln γ and slopes alone.
-pub fn activity(
+pub fn activity<E: Reason>(
     table: &[f64; 512],
-    s: Tabled,
+    s: Tabled<E>,
     x: &[f64; 8],
-) -> Result<ActivityCoefficients, Refusal>
-    ensures { outcome_of result ≡ activity_on table.now s x.now }
+) -> Result<ActivityCoefficients, E>
+    ensures { outcome_by E.said result ≡ activity_by_reason E.said table.now s x.now }
 {
     let mut ln_gamma = [0.0; 8];
     let mut slopes = [0.0; 8];
     excess(table, s, x, &mut ln_gamma, &mut slopes)?;
     Ok(ActivityCoefficients { ln_gamma, slopes })
+}
+
+impl<E: Reason> Tabled<E> {
+    // What a solver that begins at x goes on with, whose own refusals are of the 39: the same with α that passed, or that the model
+    // has none of; else what `excess` refuses x with, be it a reason of the caller's.
+    #[tactic(auto, unfolding(crate::specs::Activity::settled_by, crate::specs::Activity::settled_of))]
+    pub fn settled(self, x: &[f64; 8]) -> Result<Tabled, E>
+        ensures { outcome_by E.said result ≡ settled_of E.said self x.now }
+    {
+        let Tabled {
+            model,
+            alphas,
+            n,
+            t,
+        } = self;
+        if let (Model::Nrtl, Err(reason)) = (model, alphas) {
+            excess::with_state(t, x, n)?;
+            return Err(reason);
+        }
+        Ok(Tabled {
+            model,
+            alphas: Ok(()),
+            n,
+            t,
+        })
+    }
 }
 
 // ---- validity

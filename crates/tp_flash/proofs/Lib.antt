@@ -2,3 +2,4 @@
 pub mod Counts
 pub mod Forgets
 pub mod Laws
+mod Settled

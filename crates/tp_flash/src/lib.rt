@@ -5,16 +5,16 @@
 ghost use Rattle.std.specs.Prelude.{◌≡◌, IfOk};
 ghost use Rattle.floats.specs.Vector.{at, vec, places};
 ghost use Rattle.floats.specs.Outcome.{ok, bind};
-ghost use Rattle.outcome.specs.Refused.{outcome_of};
+ghost use Rattle.outcome.specs.Refused.{outcome_of, outcome_by};
 ghost use Rattle.counted.specs.Counted.{Counts, evaluated};
 ghost use Rattle.numerics.specs.Numerics.{ln_of};
-ghost use Rattle.thermo_models.specs.Activity.{activity_on};
+ghost use Rattle.thermo_models.specs.Activity.{activity_on, activity_by_reason};
 ghost use Rattle.tp_flash.specs.Split.{k_values, phase_of, split_gap, balance_of, fraction_in, turn_at};
 ghost use Rattle.tp_flash.specs.Tp.{inside, near_edge, single_phase, as_vapor};
 ghost use Rattle.tp_flash.specs.Counted.{split_turn_counted, split_counted, stable_counted, dew_of_counted, liquid_counted, both_counted, boundary_counted, from_split_counted, split_feed_counted, between_counted, saturated_counted, phases_counted};
 
 use liquid_stability::LiquidStability;
-use outcome::Refusal;
+use outcome::{Reason, Refusal};
 use rachford_rice::RachfordRiceOutcome;
 use std::hint::select_unpredictable;
 use thermo_models::{ActivityCoefficients, Tabled};
@@ -496,17 +496,24 @@ pub fn flash_feed<'a>(
 
 // The flash of the feed z at p, from the tables and the vapor pressures of a temperature: bubble and dew both, then the phases; what
 // bubble, dew, split and trials refuse (15 to 18, 24, 25, 27 to 30, 34). `begun` counts the evaluations on.
-pub fn activity_tp_flash(
+pub fn activity_tp_flash<E: Reason>(
     table: &[f64; 512],
-    at: Tabled,
+    at: Tabled<E>,
     o: ActivityOptions,
     z: &[f64; 8],
     p: Pressure,
     ps: &[f64; 8],
     begun: &mut u64,
-) -> Result<ActivityTpFlash, Refusal>
-    ensures { Counts begun.old (outcome_of result) begun.new (phases_counted (activity_on table.now at) (places at.n) o z.now p.0 ps.now) }
+) -> Result<ActivityTpFlash, E>
+    ensures { Counts begun.old (outcome_by E.said result) begun.new (phases_counted (activity_by_reason E.said table.now at) (places at.n) o z.now p.0 ps.now) }
 {
-    let feed = flash_feed(table, at, o, z, ps, begun)?;
-    feed.at(p, begun)
+    let settled = match at.settled(z) {
+        Ok(settled) => settled,
+        Err(reason) => {
+            counted::begin(begun);
+            return Err(reason);
+        }
+    };
+    let feed = flash_feed(table, settled, o, z, ps, begun)?;
+    Ok(feed.at(p, begun)?)
 }

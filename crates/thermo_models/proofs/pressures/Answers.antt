@@ -1,4 +1,3 @@
-use Prim.Native.Nat.{◌-◌}
 use Rattle.thermo_models.proofs.Pures.{pressures-turn}
 use Rattle.thermo_models.proofs.pressures.Goals as goal
 

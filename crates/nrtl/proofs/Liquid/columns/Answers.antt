@@ -1,7 +1,6 @@
 use native.Mathlib.Omega.{arith}
-use Rattle.floats.specs.Fold.{fold_to}
 use Rattle.jet.proofs.Sums.{sum_jet_turn}
-use Rattle.excess.proofs.Steps.{side-same, turning-next}
+use Rattle.excess.proofs.Steps.{turning-next}
 use Rattle.nrtl.specs.Columns.{col_s}
 use Rattle.nrtl.proofs.Liquid.columns.Goals as goal
 

@@ -1,6 +1,4 @@
-use mathlib.Core.Path.{refl}
 use native.Mathlib.Omega.{arith}
-use Rattle.floats.specs.Vector.{fill}
 use Rattle.excess.proofs.Steps.{gammas_more, gammas_done}
 use Rattle.nrtl.proofs.Summed.fill_lns.Goals as goal
 

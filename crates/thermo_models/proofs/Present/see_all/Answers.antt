@@ -1,7 +1,4 @@
-use native.Mathlib.Omega.{arith}
-use Rattle.floats.proofs.Folds.{fold_turn, fold_done}
 use Rattle.floats.specs.Fold.{fold_to}
-use Rattle.thermo_models.specs.Validity.{all_seen}
 use Rattle.thermo_models.proofs.Pairs.{none_seen}
 use Rattle.thermo_models.proofs.Present.see_all.Goals as goal
 

@@ -1,5 +1,5 @@
 use native.Mathlib.Omega.{arith}
-use Rattle.thermo_models.proofs.Pairs.{row-start, row-turn, row_done}
+use Rattle.thermo_models.proofs.Pairs.{row-start, row-turn}
 use Rattle.thermo_models.proofs.Present.see_row.Goals as goal
 
 pub loop-j-init : goal.loop-j-init

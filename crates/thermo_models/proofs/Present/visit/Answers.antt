@@ -2,7 +2,6 @@
 use native.Mathlib.Omega.{arith}
 use Rattle.records.proofs.Offered.{copy_interval}
 use Rattle.thermo_models.proofs.Pairs.{visited_yes}
-use Rattle.thermo_models.specs.Validity.{visited}
 use Rattle.thermo_models.proofs.Present.visit.Goals as goal
 
 pub returns-then-self-i : goal.returns-then-self-i
