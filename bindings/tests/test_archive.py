@@ -37,6 +37,15 @@ class Archive(unittest.TestCase):
         self.assertNotRegex(headers, r"\.eh_frame|\.debug_")
 
 
+class Comparison(unittest.TestCase):
+    def test_nothing_undefined_but_memset(self):
+        """The archive of the comparison and of the benchmarks, where `./compare` has put one beside the users'."""
+        archive = ARCHIVE.with_name("libexports.a")
+        if not archive.exists():
+            raise unittest.SkipTest("./compare has not written libexports.a")
+        self.assertEqual(symbols("--undefined-only", archive), ["memset"])
+
+
 class Library(unittest.TestCase):
     def test_names(self):
         self.assertEqual(symbols("--dynamic", "--defined-only", LIBRARY), prototypes())
