@@ -1,4 +1,4 @@
-//! Demand 3 run on sheets: absent solvents struck from book and question leave an accepted answer as it was (docs/FORMAT.md, "The
+//! Striking run on sheets: absent solvents struck from book and question leave an accepted answer as it was (docs/FORMAT.md, "The
 //! shorter sheet"). The premise of tasks 4 and 5 holds of every accepted sheet: `excess` refuses a slope of ln γ that is not finite.
 
 use crate::generate::small::{bytes, sealed_by, Ask};

@@ -1,4 +1,4 @@
-//! Runs demand 3 on the core: generated sheets with absent solvents, and the same sheets with those struck. Every sheet asked is
+//! Runs striking on the core: generated sheets with absent solvents, and the same sheets with those struck. Every sheet asked is
 //! compared with the reference's plain call too.
 //!
 //! strike [--count N] [--seed S] [--task K] [--wilson] [--feeds|--preview|--queue|--distance]     N accepted sheets, as many of each task,
